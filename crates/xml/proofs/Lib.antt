@@ -1,2 +1,3 @@
 pub mod Bools
 pub mod Utf8
+pub mod Character
