@@ -105,6 +105,9 @@ utf8-once {c} {c′} {s} {s′} h h′ e =
 pub character-low : (a : ℕ) (s : List ℕ) → a < 0x80 → character (a ∷ s) ≡ some a
 character-low a s h = character-is (a ∷ s) a s (scalar-ascii a h) (rw (utf8-low a h))
 
+pub low-first : {a c : ℕ} {s t : List ℕ} → a < 0x80 → isScalar c ≡ true → a ∷ s ≡ utf8 c ++ t → (a ≡ c) × (s ≡ t)
+low-first {a} {c} {s} {t} h k e = utf8-once (scalar-ascii a h) k (ap (λ (w : List ℕ). w ++ s) (utf8-low a h) ∙ e)
+
 pub character-high : (a : ℕ) (s : List ℕ) (c : ℕ) → 0x80 ≤ a → character (a ∷ s) ≡ some c → 0x80 ≤ c
 character-high a s c l e = go (ltb c 0x80) refl
   where

@@ -1,9 +1,9 @@
 -- UTF-8 written and UTF-8 by the table agree. In order: scalar values by their two ranges; how a code point is written, by its four cases,
--- and what its bytes are; each sequence of the table is a scalar value, written (`formed-scalar`), row by row; each scalar value, written,
--- is a sequence of the table (`scalar-formed`); the first byte says how many bytes there are (`size-utf8`).
+-- and what its bytes are; how many bytes a first byte asks for; each sequence of the table is a scalar value, written (`formed-scalar`), row
+-- by row; each scalar value, written, is a sequence of the table (`scalar-formed`), and has as many bytes as its first byte asks for.
 use mathlib.Core.Path.{_≡_, refl, sym, ap, _∙_}
 use mathlib.Core.Bool.{Bool, true, false, _&&_, false≢true}
-use mathlib.Core.List.{List, [], _∷_}
+use mathlib.Core.List.{List, [], _∷_, _++_}
 use mathlib.Core.Option.{none, some, Option·none-ne-some}
 use mathlib.Core.Logic.{_⊎_, inl, inr}
 use Prim.Native.Nat.{ℕ, zero, suc, _+_, _*_, _/_, _%_, _-_, _≤_, _<_}
@@ -98,6 +98,35 @@ utf8-high c a w l e = go (cases c)
     go (three m h q) = omega (arith, first q)
     go (four m q) = omega (arith, first q)
 
+-- what passes each byte from 0x80 on passes each such character
+pub pass-high : {A : Type 0} (f : List ℕ → A) → ((b : ℕ) (s : List ℕ) → 0x80 ≤ b → f (b ∷ s) ≡ f s)
+    → (c : ℕ) (s : List ℕ) → 0x80 ≤ c → f (utf8 c ++ s) ≡ f s
+pass-high f pass c s l = go (cases c)
+  where
+    go : Cases c → f (utf8 c ++ s) ≡ f s
+    go (one h q) = absurd (omega arith)
+    go (two m h q) = rw q (pass _ _ (omega arith) ∙ pass _ _ (omega arith))
+    go (three m h q) = rw q (pass _ _ (omega arith) ∙ pass _ _ (omega arith) ∙ pass _ _ (omega arith))
+    go (four m q) = rw q (pass _ _ (omega arith) ∙ pass _ _ (omega arith) ∙ pass _ _ (omega arith) ∙ pass _ _ (omega arith))
+
+-- ---- how many bytes a first byte asks for
+
+pub size-one : (a : ℕ) → a < 0x80 → sizeOf a ≡ 1
+unfolding sizeOf
+size-one a h = rw (lt-ltb a 0x80 h)
+
+pub size-two : (a : ℕ) → 0x80 ≤ a → a < 0xE0 → sizeOf a ≡ 2
+unfolding sizeOf
+size-two a l h = rw (le-ltb a 0x80 l, lt-ltb a 0xE0 h)
+
+pub size-three : (a : ℕ) → 0xE0 ≤ a → a < 0xF0 → sizeOf a ≡ 3
+unfolding sizeOf
+size-three a l h = rw (le-ltb a 0x80 (omega arith), le-ltb a 0xE0 l, lt-ltb a 0xF0 h)
+
+pub size-four : (a : ℕ) → 0xF0 ≤ a → sizeOf a ≡ 4
+unfolding sizeOf
+size-four a l = rw (le-ltb a 0x80 (omega arith), le-ltb a 0xE0 (omega arith), le-ltb a 0xF0 l)
+
 -- ---- the bytes of the table
 
 later-cons : (w : List ℕ) (n : ℕ) → later w ≡ true → length w ≡ suc n
@@ -166,18 +195,6 @@ some-row (r ∷ rs) a w {A} e (p ▹ ps) = go (or-either (inside (r .first) a &&
     go : (inside (r .first) a && follows (r .second) w ≡ true) ⊎ (byRow rs a w ≡ true) → (byRow rs a w ≡ true → A) → A
     go (inl q) k = p (and-left (inside (r .first) a) _ q) (and-right (inside (r .first) a) _ q)
     go (inr q) k = k q
-
-size-two : (a : ℕ) → 0x80 ≤ a → a < 0xE0 → sizeOf a ≡ 2
-unfolding sizeOf
-size-two a l h = rw (le-ltb a 0x80 l, lt-ltb a 0xE0 h)
-
-size-three : (a : ℕ) → 0xE0 ≤ a → a < 0xF0 → sizeOf a ≡ 3
-unfolding sizeOf
-size-three a l h = rw (le-ltb a 0x80 (omega arith), le-ltb a 0xE0 l, lt-ltb a 0xF0 h)
-
-size-four : (a : ℕ) → 0xF0 ≤ a → sizeOf a ≡ 4
-unfolding sizeOf
-size-four a l = rw (le-ltb a 0x80 (omega arith), le-ltb a 0xE0 (omega arith), le-ltb a 0xF0 l)
 
 -- each row makes scalar values
 module _ (a : ℕ) (w : List ℕ) (size : suc (length w) ≡ sizeOf a) where
@@ -291,8 +308,8 @@ module _ (k : ℕ) (f r : Range) (row : getElem? rows k ≡ some (f then some r)
   formed-four c d n t u = rw n (in-row rows k a (b ∷ c ∷ d ∷ []) _ row in-first (rw (in-second, tail-inside c t, tail-inside d u)))
 
 one-scalar : (c : ℕ) → c < 0x80 → wellFormed (c ∷ []) ≡ true
-unfolding wellFormed rows sizeOf
-one-scalar c h = rw (lt-ltb c 0x80 h) (in-row rows 0 c [] _ refl (bounds-inside (0 – 0x7F) c (omega arith) (omega arith)) refl)
+unfolding wellFormed rows
+one-scalar c h = rw (size-one c h) (in-row rows 0 c [] _ refl (bounds-inside (0 – 0x7F) c (omega arith) (omega arith)) refl)
 
 two-scalar : (c : ℕ) → 0x80 ≤ c → c < 0x800 → wellFormed ((0xC0 + c / 0x40) ∷ (0x80 + c % 0x40) ∷ []) ≡ true
 unfolding rows
@@ -335,7 +352,7 @@ scalar-formed c s = go (cases c)
     go (three l h q) = rw q (three-scalar c _ _ _ refl refl refl l h s)
     go (four l q) = rw q (four-scalar c _ _ _ _ refl refl (omega arith) (omega arith) l (scalar-below c s))
 
--- ---- sizes
+-- ---- the first byte of a scalar value asks for its bytes
 
 pub size-utf8 : (c a : ℕ) (w : List ℕ) → isScalar c ≡ true → utf8 c ≡ a ∷ w → sizeOf a ≡ length (utf8 c)
 unfolding wellFormed
