@@ -1,6 +1,6 @@
 -- UTF-8 written and UTF-8 by the table agree. In order: scalar values by their two ranges; how a code point is written, by its four cases,
--- and what its bytes are; how many bytes a first byte asks for; each sequence of the table is a scalar value, written (`formed-scalar`), row
--- by row; each scalar value, written, is a sequence of the table (`scalar-formed`), and has as many bytes as its first byte asks for.
+-- and what its bytes are; how many bytes a first byte asks for; each sequence of the table is a scalar value, written (`formed-scalar`),
+-- row by row; each scalar value, written, is a sequence of the table (`scalar-formed`), and has as many bytes as its first byte asks for.
 use mathlib.Core.Path.{_≡_, refl, sym, ap, _∙_}
 use mathlib.Core.Bool.{Bool, true, false, _&&_, false≢true}
 use mathlib.Core.List.{List, [], _∷_, _++_}
