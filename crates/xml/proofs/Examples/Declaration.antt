@@ -50,7 +50,8 @@ pub [32]-SDDecl :
     (texts (" standalone='yes'" ∷ " standalone=\"no\"" ∷ " standalone = 'no'" ∷ "\t\nstandalone\n=\r\"yes\"" ∷ []))
     (texts
     ("" ∷ "standalone='yes'" ∷ " standalone='YES'" ∷ " standalone='No'" ∷ " standalone='yes\"" ∷ " standalone=\"no'" ∷ " standalone=yes"
-    ∷ " standalone=''" ∷ " standalone='true'" ∷ " standalone='yes '" ∷ " standalone'yes'" ∷ " Standalone='yes'" ∷ " standalone='yes' " ∷ []))
+    ∷ " standalone=''" ∷ " standalone='true'" ∷ " standalone='yes '" ∷ " standalone'yes'" ∷ " Standalone='yes'"
+    ∷ " standalone='yes' " ∷ []))
     ≡ true
 unfolding judged
 [32]-SDDecl = refl
