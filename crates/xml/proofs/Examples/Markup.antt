@@ -14,7 +14,7 @@ pub [14]-CharData :
 unfolding judged
 [14]-CharData = refl
 
--- in the fifth `->` belongs to the text
+-- `<!--->` does not end what it begins: `->` belongs to the text
 pub [15]-Comment :
     judged Comment
     (texts
