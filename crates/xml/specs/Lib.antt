@@ -5,3 +5,4 @@ pub mod Productions
 pub mod Language
 pub mod Character
 pub mod Computes
+pub mod Judged
