@@ -68,7 +68,7 @@ unfolding judged
 
 pub [81]-EncName :
     judged EncName
-    (texts ("A" ∷ "Z" ∷ "a" ∷ "z" ∷ "UTF-8" ∷ "x.y_z-1" ∷ "a0" ∷ "a9" ∷ "aA" ∷ "aZ" ∷ "az" ∷ "a--" ∷ []))
+    (texts ("A" ∷ "Z" ∷ "a" ∷ "z" ∷ "UTF-8" ∷ "x.y_z-1" ∷ "a0" ∷ "a9" ∷ "aA" ∷ "aZ" ∷ "aa" ∷ "az" ∷ "a--" ∷ []))
     (texts
     ("" ∷ "8" ∷ "8859-1" ∷ "-a" ∷ ".a" ∷ "_a" ∷ "@" ∷ "[" ∷ "`" ∷ "{" ∷ "a b" ∷ "a/" ∷ "a:" ∷ "a@" ∷ "a[" ∷ "a`" ∷ "a{" ∷ "a," ∷ "a+"
     ∷ "é" ∷ "aé" ∷ []))
