@@ -51,7 +51,7 @@ starts-low p a s h = rw (character-low a s h)
 
 -- ---- how a run goes on
 
-wide-long : (o : Option ℕ) → 0 < wide o
+pub wide-long : (o : Option ℕ) → 0 < wide o
 wide-long none = omega arith
 wide-long (some c) = utf8-long c
 

@@ -1,0 +1,216 @@
+-- The whole document's characters, as the code goes through them: plain bytes in blocks, then characters that are not ASCII, in turn. In
+-- order: what plain bytes are; runs within runs; `after_high`; `check`.
+use mathlib.Core.Path.{_≡_, refl, sym, ap, _∙_}
+use mathlib.Core.Bool.{Bool, true, false, cond, not, _&&_, _||_, false≢true}
+use mathlib.Core.List.{List, [], _∷_}
+use mathlib.Core.Option.{Option, none, some}
+use Prim.Native.Nat.{ℕ, zero, suc, _+_, _-_, _≤_, _<_}
+use native.Mathlib.Omega.{arith}
+use borrow.Author.Needs.{needs}
+use borrow.Author.Tests.{leb-true, leb-false, ltb-true, ltb-false, lt-leb, le-leb, lt-ltb, not-true, not-false}
+use lib.Dec.{eqb, leb, ltb}
+use lib.ListN.{length, getD, drop, length-drop}
+use Rattle.xml.specs.Notation.{Reads, char}
+use Rattle.xml.specs.Character.{character, holds, starts, wide, run}
+use Rattle.xml.specs.Productions.{isChar}
+use Rattle.xml.proofs.Bools.{and-right, true-false}
+use Rattle.xml.proofs.Character.{character-high}
+use Rattle.xml.proofs.Run.{starts-low, reads-starts, reads-rest, run-low, run-step, run-stop, run-stops, run-holds, run-length}
+use Rattle.chars.specs.Place.{Stands}
+use Rattle.chars.specs.Block.{until, isOther}
+use Rattle.chars.specs.Check.{checkedBy, checkOf, isHigh}
+use Rattle.chars.specs.Sequence.{sequenceAt}
+use Rattle.chars.specs.declared.sequence.Sequence.{Sequence}
+use Rattle.chars.specs.declared.sequence.Sequence.the-variants.{Point, Bad}
+use Rattle.chars.specs.declared.check.Checked.{Checked}
+use Rattle.chars.specs.declared.check.Checked.the-variants.{All, BadAt}
+use Rattle.chars.proofs.Place.{drop-step, drop-end}
+use Rattle.chars.proofs.Rows.{char-control, char-basic}
+use Rattle.chars.proofs.Runs.{point-starts, bad-starts, point-wide, Running, run-start, run-stands, run-whole, run-less, run-on}
+
+-- ---- plain bytes
+
+module _ (b : ℕ) where
+  abbrev others : Bool → Bool → Bool → Bool → Bool → Bool
+  others h c x y z = h || c && not x && not y && not z
+
+  pub other-plain : isOther b ≡ false → (b < 0x80) × (isChar b ≡ true)
+  unfolding isOther
+  other-plain e = go (leb 0x80 b) (ltb b 0x20) (eqb b 0x9) (eqb b 0xA) (eqb b 0xD) refl refl e (λ h. sym (char-control {c = b} h))
+    where
+      go : (h c x y z : Bool) → leb 0x80 b ≡ h → ltb b 0x20 ≡ c → others h c x y z ≡ false
+          → (b < 0x20 → isChar b ≡ ((x || y) || z)) → (b < 0x80) × (isChar b ≡ true)
+      go true c x y z p q e k = absurd (true-false refl e)
+      go false false x y z p q e k =
+          let l = leb-false 0x80 b p in
+          (l, sym (char-basic {c = b} (ltb-false b 0x20 q) (omega arith)))
+      go false true true y z p q e k = (leb-false 0x80 b p, k (ltb-true b 0x20 q))
+      go false true false true z p q e k = (leb-false 0x80 b p, k (ltb-true b 0x20 q))
+      go false true false false true p q e k = (leb-false 0x80 b p, k (ltb-true b 0x20 q))
+      go false true false false false p q e k = absurd (true-false refl e)
+
+  pub other-low : isOther b ≡ true → b < 0x80 → isChar b ≡ false
+  unfolding isOther
+  other-low e l =
+      go (leb 0x80 b) (ltb b 0x20) (eqb b 0x9) (eqb b 0xA) (eqb b 0xD) (lt-leb 0x80 b l) refl e (λ h. sym (char-control {c = b} h))
+    where
+      go : (h c x y z : Bool) → h ≡ false → ltb b 0x20 ≡ c → others h c x y z ≡ true
+          → (b < 0x20 → isChar b ≡ ((x || y) || z)) → isChar b ≡ false
+      go true c x y z p q e k = absurd (true-false refl p)
+      go false false x y z p q e k = absurd (false≢true e)
+      go false true true y z p q e k = absurd (false≢true e)
+      go false true false true z p q e k = absurd (false≢true e)
+      go false true false false true p q e k = absurd (false≢true e)
+      go false true false false false p q e k = k (ltb-true b 0x20 q)
+
+plain-run : (s : List ℕ) → run isChar 0 (until isOther s) ≡ run isChar 0 s
+unfolding until
+plain-run [] = refl
+plain-run (b ∷ s) = go (isOther b) refl (plain-run s)
+  where
+    go : (x : Bool) → isOther b ≡ x → run isChar 0 (until isOther s) ≡ run isChar 0 s
+        → run isChar 0 (cond x (b ∷ s) (until isOther s)) ≡ run isChar 0 (b ∷ s)
+    go true e rec = refl
+    go false e rec = let (l, c) = other-plain b e in rec ∙ sym (run-low isChar b s l ∙ rw c)
+
+until-length : (p : ℕ → Bool) (s : List ℕ) → length (until p s) ≤ length s
+unfolding until
+until-length p [] = omega arith
+until-length p (b ∷ s) = go (p b) (until-length p s)
+  where
+    go : (x : Bool) → length (until p s) ≤ length s → length (cond x (b ∷ s) (until p s)) ≤ suc (length s)
+    go true h = omega arith
+    go false h = omega arith
+
+until-stops : (p : ℕ → Bool) (s : List ℕ) {b : ℕ} {t : List ℕ} → until p s ≡ b ∷ t → p b ≡ true
+unfolding until
+until-stops p [] {b} {t} e = absurd (let z : 0 ≡ suc (length t) = ap length e in omega arith)
+until-stops p (a ∷ s) {b} {t} e = go (p a) refl (until-stops p s) e
+  where
+    go : (x : Bool) → p a ≡ x → (until p s ≡ b ∷ t → p b ≡ true) → cond x (a ∷ s) (until p s) ≡ b ∷ t → p b ≡ true
+    go true k rec e = let z : a ≡ b = cc in rw (← z) k
+    go false k rec e = rec e
+
+-- ---- a run within a run
+
+run-within : (p q : ℕ → Bool) → ((c : ℕ) → p c ≡ true → q c ≡ true) → (s : List ℕ) → run q 0 (run p 0 s) ≡ run q 0 s
+run-within p q sub =
+    run-holds p (λ s t. run q 0 t ≡ run q 0 s) (λ s n. refl)
+    (λ s m t (c, k, h, e) z.
+    let r : Reads (char q) s m = (c, k, sub c h, e) in
+    z ∙ sym (run-step q s (reads-starts q s m r) ∙ ap (run q 0) (reads-rest q s m r)))
+
+high-char : (c : ℕ) → isHigh c ≡ true → isChar c ≡ true
+unfolding isHigh
+high-char c h = and-right (leb 0x80 c) _ h
+
+-- ---- `after_high`
+
+module _ (d : List ℕ) (i : ℕ) (h : i < length d) where
+  low-starts : getD d i 0 < 0x80 → starts isHigh (drop i d) ≡ false
+  unfolding isHigh
+  low-starts l = rw (drop-step d i h) (starts-low isHigh _ _ l ∙ rw (lt-leb 0x80 (getD d i 0) l))
+
+  -- from 0x80 on the two classes are one
+  high-starts : 0x80 ≤ getD d i 0 → starts isChar (drop i d) ≡ starts isHigh (drop i d)
+  unfolding starts isHigh
+  high-starts l = rw (drop-step d i h) (go (character (getD d i 0 ∷ drop (i + 1) d)) refl)
+    where
+      go : (o : Option ℕ) → character (getD d i 0 ∷ drop (i + 1) d) ≡ o → holds isChar o ≡ holds isHigh o
+      go none e = refl
+      go (some c) e = sym (rw (le-leb 0x80 c (character-high _ (drop (i + 1) d) c l e)))
+
+module _ {d : List ℕ} {at i : ℕ} (v : Running isHigh d at i) (h : i < length d) where
+  pub high-ascii : getD d i 0 < 0x80 → Stands d i (run isHigh 0 (drop at d))
+  high-ascii l = run-stands v (low-starts d i h l) (omega arith)
+
+  module _ {r : Sequence} (q : r ≡ sequenceAt d i) where
+    pub high-bad : r ≡ Bad → Stands d i (run isHigh 0 (drop at d))
+    high-bad b = run-stands v (bad-starts d i q isHigh b) (omega arith)
+
+    module _ {c e : ℕ} (f : r ≡ Point c e) {x : Bool} (g : x ≡ isChar c) (l : 0x80 ≤ getD d i 0) where
+      high-is : {y : Bool} → x ≡ y → starts isHigh (drop i d) ≡ y
+      high-is z = sym (high-starts d i h l) ∙ point-starts d i q isChar f ∙ sym g ∙ z
+
+      pub high-none : not x ≡ true → Stands d i (run isHigh 0 (drop at d))
+      high-none n = run-stands v (high-is (not-true x n)) (omega arith)
+
+      pub high-less : not x ≡ false → length d - e < length d - i
+      high-less n = run-less v (high-is (not-false x n)) (point-wide d i q f) h
+
+      pub high-on : not x ≡ false → Running isHigh d at e
+      high-on n = run-on v (high-is (not-false x n)) (point-wide d i q f) h
+
+pub high-over : {d : List ℕ} {at i : ℕ} → Running isHigh d at i → at ≤ length d → length d ≤ i → Stands d i (run isHigh 0 (drop at d))
+high-over v l h = let b = v .bound in run-whole v h (omega arith)
+
+pub ruleset highing = (run-start, high-ascii, high-bad, high-none, high-less, high-on, high-over, needs)
+
+-- ---- `check`
+
+pub record Checking (d : List ℕ) (i : ℕ) : Type 0 where
+  pub in-d : i ≤ length d
+  pub same : run isChar 0 (drop i d) ≡ run isChar 0 d
+
+pub check-start : {d : List ℕ} → Checking d 0
+check-start = record { in-d = omega arith; same = refl }
+
+module _ {d : List ℕ} {i j : ℕ} (v : Checking d i) (s : Stands d j (until isOther (drop i d))) where
+  plain-on : Checking d j
+  plain-on = record { in-d = s .inside; same = ap (run isChar 0) (s .rest) ∙ plain-run (drop i d) ∙ v .same }
+
+  plain-after : i ≤ j
+  plain-after =
+      let a : i ≤ length d = v .in-d in
+      let b : j ≤ length d = s .inside in
+      let n : length (drop j d) ≡ length (until isOther (drop i d)) = ap length (s .rest) in
+      omega (arith, until-length isOther (drop i d), length-drop i d, length-drop j d)
+
+  pub check-all : length d ≤ j → All ≡ checkOf d
+  unfolding checkOf run
+  check-all h = sym (rw (← plain-on .same, drop-end d j h))
+
+  module _ {e : ℕ} (t : Stands d e (run isHigh 0 (drop j d))) where
+    high-after : j ≤ e
+    high-after =
+        let a : j ≤ length d = s .inside in
+        let b : e ≤ length d = t .inside in
+        let n : length (drop e d) ≡ length (run isHigh 0 (drop j d)) = ap length (t .rest) in
+        omega (arith, run-length isHigh (drop j d), length-drop j d, length-drop e d)
+
+    pub check-on : Checking d e
+    check-on =
+        record {
+          in-d = t .inside;
+          same = ap (run isChar 0) (t .rest) ∙ run-within isHigh isChar high-char (drop j d) ∙ plain-on .same;
+        }
+
+    pub check-less : (e ≡ j → ⊥) → length d - e < length d - i
+    check-less n = omega (arith, plain-after, high-after, t .inside, n)
+
+    -- neither a plain byte nor another character stands at j
+    module _ (h : j < length d) (z : e ≡ j) where
+      nothing-starts : starts isChar (drop j d) ≡ false
+      nothing-starts = go (ltb (getD d j 0) 0x80) refl
+        where
+          other : isOther (getD d j 0) ≡ true
+          other = until-stops isOther (drop i d) (sym (s .rest) ∙ drop-step d j h)
+
+          go : (x : Bool) → ltb (getD d j 0) 0x80 ≡ x → starts isChar (drop j d) ≡ false
+          go true k =
+              let l = ltb-true _ 0x80 k in
+              rw (drop-step d j h) (starts-low isChar _ _ l ∙ other-low (getD d j 0) other l)
+          go false k =
+              high-starts d j h (ltb-false _ 0x80 k)
+              ∙ ap (λ (k : ℕ). starts isHigh (drop k d)) (sym z)
+              ∙ ap (starts isHigh) (t .rest)
+              ∙ run-stops isHigh (drop j d)
+
+      pub check-bad : BadAt e ≡ checkOf d
+      unfolding checkOf
+      check-bad =
+          let r : run isChar 0 d ≡ drop j d = sym (plain-on .same) ∙ run-stop isChar (drop j d) nothing-starts in
+          let n : e ≡ length d - length (getD d j 0 ∷ drop (j + 1) d) = omega (arith, length-drop (j + 1) d) in
+          sym (rw (r, drop-step d j h, ← n))
+
+pub ruleset checking = (check-start, check-all, check-on, check-less, check-bad, needs)

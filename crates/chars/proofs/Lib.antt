@@ -1,0 +1,11 @@
+pub mod Place
+pub mod Mask
+pub mod Until
+pub mod Ranges
+pub mod Rows
+pub mod Classes
+pub mod Spaces
+pub mod Formed
+pub mod Runs
+pub mod Names
+pub mod Checks

@@ -1,0 +1,87 @@
+use mathlib.Core.Path.{_≡_, refl, ap, _∙_}
+use mathlib.Core.Bool.{Bool}
+use Prim.Native.Nat.{ℕ, _+_, _-_, _≤_}
+use native.Mathlib.Omega.{arith}
+use borrow.Author.Needs.{needs}
+use lib.ListN.{getD}
+use Rattle.chars.specs.Block.{maskOf, isOther}
+use Rattle.chars.proofs.Mask.{mask-turn}
+use Rattle.chars.proofs.block.mask16.Statement.{statement}
+use Rattle.chars.proofs.block.mask16.Tie as tie
+use Rattle.chars.proofs.block.mask16.Reads as reads
+use Rattle.chars.proofs.block.mask16.Lts as lts
+
+abbrev Inv-loop : tie.InvT-loop
+Inv-loop s i m₀ j₀ m j = (j ≤ 16) × (m ≡ maskOf (λ (k : ℕ). isOther (getD s (i + k) 0)) j)
+
+abbrev μ-loop : tie.MeasureT-loop
+μ-loop s i m₀ j₀ m j = 16 - j
+
+-- src/block.rt:18:5
+loop-holds : tie.Need-loop-holds Inv-loop μ-loop
+unfolding maskOf
+loop-holds c = (omega arith, refl)
+
+-- src/block.rt:19:19
+add-b : tie.Need-add-b Inv-loop μ-loop
+add-b c = search needs
+
+-- src/block.rt:19:17
+shared-slice-read-b : tie.Need-shared-slice-read-b Inv-loop μ-loop
+shared-slice-read-b c = search needs
+
+-- src/block.rt:21:19
+cast-m : tie.Need-cast-m Inv-loop μ-loop
+cast-m c = search needs
+
+-- src/block.rt:21:37
+cast-m-2 : tie.Need-cast-m-2 Inv-loop μ-loop
+cast-m-2 c = search needs
+
+-- src/block.rt:21:37
+add-m : tie.Need-add-m Inv-loop μ-loop
+add-m c = search needs
+
+-- src/block.rt:21:18
+shl-m : tie.Need-shl-m Inv-loop μ-loop
+shl-m c = search needs
+
+-- src/block.rt:22:9
+add-j : tie.Need-add-j Inv-loop μ-loop
+add-j c = search needs
+
+-- src/block.rt:18:5
+loop-less : tie.Need-loop-less Inv-loop μ-loop
+loop-less c = search needs
+
+-- src/block.rt:18:5
+loop-again : tie.Need-loop-again Inv-loop μ-loop
+unfolding isOther
+loop-again c =
+    let p : ℕ → Bool = λ k. isOther (getD (c .before .before .before .args .s .now) (c .before .before .before .args .i + k) 0) in
+    (omega arith, rw (c .before .before .loop .inv .1) (mask-turn p (c .before .before .loop .j) (omega arith)))
+
+-- src/block.rt:12:1
+returns : tie.Need-returns Inv-loop μ-loop
+returns c =
+    let p : ℕ → Bool = λ k. isOther (getD (c .before .before .args .s .now) (c .before .before .args .i + k) 0) in
+    let e : c .before .loop .j ≡ 16 = omega arith in
+    c .before .loop .inv .1 ∙ ap (maskOf p) e
+
+pub mask16-spec : {M : Type 1} → statement M
+mask16-spec =
+    tie.close
+    (tie.spec
+    Inv-loop
+    μ-loop
+    loop-holds
+    add-b
+    shared-slice-read-b
+    cast-m
+    cast-m-2
+    add-m
+    shl-m
+    add-j
+    loop-less
+    loop-again
+    returns)

@@ -1,0 +1,7 @@
+pub mod Place
+pub mod Sequence
+pub mod Class
+pub mod Block
+pub mod Check
+pub mod Space
+pub mod Name

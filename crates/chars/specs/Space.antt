@@ -1,0 +1,10 @@
+-- White space, production [3]: where a run of it ends.
+use mathlib.Core.List.{List}
+use Prim.Native.Nat.{ℕ}
+use lib.ListN.{drop}
+use Rattle.xml.specs.Character.{run}
+use Rattle.xml.specs.Productions.{isSpace}
+use Rattle.chars.specs.Place.{endsAt}
+
+unfoldable pub spaceEnd : List ℕ → ℕ → ℕ
+spaceEnd d at = endsAt d at (run isSpace 0 (drop at d))

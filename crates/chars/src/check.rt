@@ -1,0 +1,59 @@
+// The whole document's characters.
+ghost use mathlib.Core.Path.{_≡_};
+ghost use Prim.Native.Nat.{_≤_};
+ghost use lib.ListN.{length, drop};
+ghost use Rattle.xml.specs.Character.{run};
+ghost use Rattle.chars.specs.Place.{Stands};
+ghost use Rattle.chars.specs.Check.{checkOf, isHigh};
+use crate::block::after_plain;
+use crate::sequence::Sequence;
+use crate::sequence::is_char;
+use crate::sequence::sequence_at;
+
+// Every byte belongs to a character that XML allows; or the first sequence that does not begins at a place.
+pub enum Checked {
+    All,
+    BadAt(usize),
+}
+
+// Where the characters from at on end that are not ASCII: at itself where there is none.
+fn after_high(s: &[u8], at: usize) -> usize
+    requires { ⌜ at ≤ length (now s) ⌝ }
+    ensures { λ r. ⌜ Stands (now (s .entry)) r (run isHigh 0 (drop at (now (s .entry)))) ⌝ }
+{
+    let mut i = at;
+    while i < s.len() {
+        if s[i] < 0x80 {
+            return i;
+        }
+        match sequence_at(s, i) {
+            Sequence::Point(c, e) => {
+                if !is_char(c) {
+                    return i;
+                }
+                i = e;
+            }
+            Sequence::Bad => {
+                return i;
+            }
+        }
+    }
+    i
+}
+
+// [2] Char, from the first byte to the last.
+pub fn check(s: &[u8]) -> Checked
+    ensures { λ r. ⌜ r ≡ checkOf (now (s .entry)) ⌝ }
+{
+    let mut i: usize = 0;
+    loop {
+        let j = after_plain(s, i);
+        if s.len() <= j {
+            return Checked::All;
+        }
+        i = after_high(s, j);
+        if i == j {
+            return Checked::BadAt(i);
+        }
+    }
+}
