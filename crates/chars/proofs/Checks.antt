@@ -25,43 +25,10 @@ use Rattle.chars.specs.declared.sequence.Sequence.the-variants.{Point, B
 use Rattle.chars.specs.declared.check.Checked.{Checked}
 use Rattle.chars.specs.declared.check.Checked.the-variants.{All, BadAt}
 use Rattle.chars.proofs.Place.{drop-step, drop-end}
-use Rattle.chars.proofs.Rows.{char-control, char-basic}
+use Rattle.chars.proofs.Plain.{other-plain, other-low}
 use Rattle.chars.proofs.Runs.{point-starts, bad-starts, point-wide, Running, run-start, run-stands, run-whole, run-less, run-on}
 
 -- ---- plain bytes
-
-module _ (b : ℕ) where
-  abbrev others : Bool → Bool → Bool → Bool → Bool → Bool
-  others h c x y z = h || c && not x && not y && not z
-
-  pub other-plain : isOther b ≡ false → (b < 0x80) × (isChar b ≡ true)
-  unfolding isOther
-  other-plain e = go (leb 0x80 b) (ltb b 0x20) (eqb b 0x9) (eqb b 0xA) (eqb b 0xD) refl refl e (λ h. sym (char-control {c = b} h))
-    where
-      go : (h c x y z : Bool) → leb 0x80 b ≡ h → ltb b 0x20 ≡ c → others h c x y z ≡ false
-          → (b < 0x20 → isChar b ≡ ((x || y) || z)) → (b < 0x80) × (isChar b ≡ true)
-      go true c x y z p q e k = absurd (true-false refl e)
-      go false false x y z p q e k =
-          let l = leb-false 0x80 b p in
-          (l, sym (char-basic {c = b} (ltb-false b 0x20 q) (omega arith)))
-      go false true true y z p q e k = (leb-false 0x80 b p, k (ltb-true b 0x20 q))
-      go false true false true z p q e k = (leb-false 0x80 b p, k (ltb-true b 0x20 q))
-      go false true false false true p q e k = (leb-false 0x80 b p, k (ltb-true b 0x20 q))
-      go false true false false false p q e k = absurd (true-false refl e)
-
-  pub other-low : isOther b ≡ true → b < 0x80 → isChar b ≡ false
-  unfolding isOther
-  other-low e l =
-      go (leb 0x80 b) (ltb b 0x20) (eqb b 0x9) (eqb b 0xA) (eqb b 0xD) (lt-leb 0x80 b l) refl e (λ h. sym (char-control {c = b} h))
-    where
-      go : (h c x y z : Bool) → h ≡ false → ltb b 0x20 ≡ c → others h c x y z ≡ true
-          → (b < 0x20 → isChar b ≡ ((x || y) || z)) → isChar b ≡ false
-      go true c x y z p q e k = absurd (true-false refl p)
-      go false false x y z p q e k = absurd (false≢true e)
-      go false true true y z p q e k = absurd (false≢true e)
-      go false true false true z p q e k = absurd (false≢true e)
-      go false true false false true p q e k = absurd (false≢true e)
-      go false true false false false p q e k = k (ltb-true b 0x20 q)
 
 plain-run : (s : List ℕ) → run isChar 0 (until isOther s) ≡ run isChar 0 s
 unfolding until

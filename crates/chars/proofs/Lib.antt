@@ -1,6 +1,7 @@
 pub mod Place
 pub mod Mask
 pub mod Until
+pub mod Plain
 pub mod Ranges
 pub mod Rows
 pub mod Classes
@@ -9,3 +10,4 @@ pub mod Formed
 pub mod Runs
 pub mod Names
 pub mod Checks
+pub mod Meaning

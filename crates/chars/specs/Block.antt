@@ -1,16 +1,29 @@
--- Bytes passed in blocks: what is left from the first byte of a class on, the mask of a block, and the first place that it tells.
+-- Bytes passed in blocks: what is left from the first byte of a class on; whether a class has one of n places, the mask of the places, and
+-- the first of them; and what a plain byte is not.
 use mathlib.Core.Path.{_≡_}
 use mathlib.Core.Bool.{Bool, true, false, cond, not, _&&_, _||_}
 use mathlib.Core.List.{List, [], _∷_}
 use Prim.Native.Nat.{ℕ, zero, suc, _+_, _*_, _^_, _≤_, _<_}
 use mir.Val.{boolByte}
-use lib.Dec.{eqb, ltb, leb}
-use lib.ListN.{getD}
+use lib.Dec.{ltb}
+use lib.ListN.{length, drop}
+use Rattle.xml.specs.Productions.{isChar}
 
 -- s from its first byte of the class p on
 unfoldable pub until : (ℕ → Bool) → List ℕ → List ℕ
 until p [] = []
 until p (b ∷ s) = cond (p b) (b ∷ s) (until p s)
+
+-- no byte of the class p stands in d from `from` up to i
+pub record Skips (p : ℕ → Bool) (d : List ℕ) (from i : ℕ) : Type 0 where
+  pub ahead : from ≤ i
+  pub inside : i ≤ length d
+  pub same : until p (drop i d) ≡ until p (drop from d)
+
+-- the test holds at one of the places below n
+unfoldable pub someOf : (ℕ → Bool) → ℕ → Bool
+someOf p zero = false
+someOf p (suc n) = someOf p n || p n
 
 -- bit k + 1 is set where the test holds at k, for k below n
 unfoldable pub maskOf : (ℕ → Bool) → ℕ → ℕ
@@ -23,6 +36,6 @@ pub record First (p : ℕ → Bool) (n t : ℕ) : Type 0 where
   pub passed : (k : ℕ) → k < t → p k ≡ false
   pub found : t < n → p t ≡ true
 
--- a byte that is not an ASCII character of [2] Char
+-- a byte that is no ASCII character of [2] Char
 unfoldable pub isOther : ℕ → Bool
-isOther b = leb 0x80 b || ltb b 0x20 && not (eqb b 0x9) && not (eqb b 0xA) && not (eqb b 0xD)
+isOther b = not (ltb b 0x80 && isChar b)

@@ -5,3 +5,4 @@ pub mod Block
 pub mod Check
 pub mod Space
 pub mod Name
+pub mod Meaning
