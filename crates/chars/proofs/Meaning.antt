@@ -150,11 +150,12 @@ name-says d at = go (starts isNameStart (drop at d)) refl
         let m = drop (wide (character s)) s in
         let x : Reads NameStartChar s m = starts-reads isNameStart s y in
         let r : run isName 0 s ≡ run isName 0 m =
-            run-step isName s (reads-starts isName s m (x .0, x .1, start-name (x .0) (x .2), x .3)) in
-        rw (ends-left isName d at)
-        ((m, x, rw r (run-reads isName m)),
-        ends-inside d at (run isName 0 s) (some-left isNameStart d at y),
-        λ t z. starts-not isName (run isName 0 s) (run-stops isName s) t z)
+        run-step isName s (reads-starts isName s m (x .0, x .1, start-name (x .0) (x .2), x .3)) in
+        rw (ends-left isName d at) (
+          (m, x, rw r (run-reads isName m)),
+          ends-inside d at (run isName 0 s) (some-left isNameStart d at y),
+          λ t z. starts-not isName (run isName 0 s) (run-stops isName s) t z,
+        )
 
 pub name-only : (d : List ℕ) (at : ℕ) (r : Reading) → NameSays d at r → r ≡ nameAt d at
 unfolding nameAt nameOf

@@ -6,14 +6,11 @@ use lib.ListN.{length}
 use borrow.Author.Needs.{needs}
 use Rattle.chars.specs.Check.{checkOf}
 use Rattle.chars.specs.Name.{nameAt}
-use Rattle.chars.specs.Sequence.{sequenceAt}
 use Rattle.chars.specs.declared.check.Checked.{Checked}
 use Rattle.chars.specs.declared.check.Checked.the-variants.{All, BadAt}
 use Rattle.chars.specs.declared.name.Reading.{Reading}
 use Rattle.chars.specs.declared.name.Reading.the-variants.{Ends, Fault}
-use Rattle.chars.specs.declared.sequence.Sequence.{Sequence}
-use Rattle.chars.specs.declared.sequence.Sequence.the-variants.{Point, Bad}
-use Rattle.exported.specs.Numbers.{soundOf, checkEnd, codeOf, pointOf, stopOf, nameStop}
+use Rattle.exported.specs.Numbers.{soundOf, checkEnd, stopOf, nameStop}
 
 module _ (d : List ℕ) {r : Checked} (q : r ≡ checkOf d) where
   pub check-all : r ≡ All → length d ≡ checkEnd d
@@ -24,15 +21,6 @@ module _ (d : List ℕ) {r : Checked} (q : r ≡ checkOf d) where
   unfolding checkEnd
   check-bad h = ap (soundOf (length d)) (sym h ∙ q)
 
-module _ (d : List ℕ) (at : ℕ) {r : Sequence} (q : r ≡ sequenceAt d at) where
-  pub point-code : {c e : ℕ} → r ≡ Point c e → c ≡ pointOf d at
-  unfolding pointOf
-  point-code h = ap codeOf (sym h ∙ q)
-
-  pub point-bad : r ≡ Bad → 0x110000 ≡ pointOf d at
-  unfolding pointOf
-  point-bad h = ap codeOf (sym h ∙ q)
-
 module _ (d : List ℕ) (at : ℕ) {r : Reading} (q : r ≡ nameAt d at) where
   pub name-ends : {e : ℕ} → r ≡ Ends e → e ≡ nameStop d at
   unfolding nameStop
@@ -42,4 +30,4 @@ module _ (d : List ℕ) (at : ℕ) {r : Reading} (q : r ≡ nameAt d at) where
   unfolding nameStop
   name-fault h = ap (stopOf at) (sym h ∙ q)
 
-pub ruleset numbering = (check-all, check-bad, point-code, point-bad, name-ends, name-fault, needs)
+pub ruleset numbering = (check-all, check-bad, name-ends, name-fault, needs)

@@ -4,13 +4,10 @@ use Prim.Native.Nat.{ℕ}
 use lib.ListN.{length}
 use Rattle.chars.specs.Check.{checkOf}
 use Rattle.chars.specs.Name.{nameAt}
-use Rattle.chars.specs.Sequence.{sequenceAt}
 use Rattle.chars.specs.declared.check.Checked.{Checked}
 use Rattle.chars.specs.declared.check.Checked.the-variants.{All, BadAt}
 use Rattle.chars.specs.declared.name.Reading.{Reading}
 use Rattle.chars.specs.declared.name.Reading.the-variants.{Ends, Fault}
-use Rattle.chars.specs.declared.sequence.Sequence.{Sequence}
-use Rattle.chars.specs.declared.sequence.Sequence.the-variants.{Point, Bad}
 
 -- of n bytes, how many are sound
 abbrev pub soundOf : ℕ → Checked → ℕ
@@ -19,13 +16,6 @@ soundOf n (BadAt o) = o
 
 unfoldable pub checkEnd : List ℕ → ℕ
 checkEnd d = soundOf (length d) (checkOf d)
-
-abbrev pub codeOf : Sequence → ℕ
-codeOf (Point c e) = c
-codeOf Bad = 0x110000
-
-unfoldable pub pointOf : List ℕ → ℕ → ℕ
-pointOf d at = codeOf (sequenceAt d at)
 
 abbrev pub stopOf : ℕ → Reading → ℕ
 stopOf at (Ends e) = e

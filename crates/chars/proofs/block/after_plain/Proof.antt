@@ -2,7 +2,6 @@ use borrow.Author.Needs.{needs}
 use Rattle.chars.proofs.Until.{seeking}
 use Rattle.chars.proofs.Until.{seek-found, seek-block, seek-on}
 use Rattle.chars.specs.Block.{isOther, Skips}
-
 use Prim.Native.Nat.{_-_}
 use lib.ListN.{length}
 use Rattle.chars.proofs.block.after_plain.Statement.{statement}
