@@ -1,28 +1,27 @@
 -- The whole document's characters, as the code goes through them: plain bytes in blocks, then characters that are not ASCII, in turn. In
 -- order: what plain bytes are; runs within runs; `after_high`; `check`.
 use mathlib.Core.Path.{_≡_, refl, sym, ap, _∙_}
-use mathlib.Core.Bool.{Bool, true, false, cond, not, _&&_, _||_, false≢true}
+use mathlib.Core.Bool.{Bool, true, false, cond, not}
 use mathlib.Core.List.{List, [], _∷_}
 use mathlib.Core.Option.{Option, none, some}
-use Prim.Native.Nat.{ℕ, zero, suc, _+_, _-_, _≤_, _<_}
+use Prim.Native.Nat.{ℕ, suc, _+_, _-_, _≤_, _<_}
 use native.Mathlib.Omega.{arith}
 use borrow.Author.Needs.{needs}
-use borrow.Author.Tests.{leb-true, leb-false, ltb-true, ltb-false, lt-leb, le-leb, lt-ltb, not-true, not-false}
-use lib.Dec.{eqb, leb, ltb}
+use borrow.Author.Tests.{ltb-true, ltb-false, lt-leb, le-leb, not-true, not-false}
+use lib.Dec.{leb, ltb}
 use lib.ListN.{length, getD, drop, length-drop}
 use Rattle.xml.specs.Notation.{Reads, char}
-use Rattle.xml.specs.Character.{character, holds, starts, wide, run}
+use Rattle.xml.specs.Character.{character, holds, starts, run}
 use Rattle.xml.specs.Productions.{isChar}
-use Rattle.xml.proofs.Bools.{and-right, true-false}
+use Rattle.xml.proofs.Bools.{and-right}
 use Rattle.xml.proofs.Character.{character-high}
 use Rattle.xml.proofs.Run.{starts-low, reads-starts, reads-rest, run-low, run-step, run-stop, run-stops, run-holds, run-length}
 use Rattle.chars.specs.Place.{Stands}
 use Rattle.chars.specs.Block.{until, isOther}
-use Rattle.chars.specs.Check.{checkedBy, checkOf, isHigh}
+use Rattle.chars.specs.Check.{checkOf, isHigh}
 use Rattle.chars.specs.Sequence.{sequenceAt}
 use Rattle.chars.specs.declared.sequence.Sequence.{Sequence}
 use Rattle.chars.specs.declared.sequence.Sequence.the-variants.{Point, Bad}
-use Rattle.chars.specs.declared.check.Checked.{Checked}
 use Rattle.chars.specs.declared.check.Checked.the-variants.{All, BadAt}
 use Rattle.chars.proofs.Place.{drop-step, drop-end}
 use Rattle.chars.proofs.Plain.{other-plain, other-low}

@@ -4,23 +4,22 @@ use mathlib.Core.Path.{_≡_, refl, sym, ap, _∙_}
 use mathlib.Core.Bool.{Bool, true, false, cond, not, _&&_, _||_, false≢true, and-false, and-true, and-assoc, or-false}
 use mathlib.Core.List.{List, [], _∷_}
 use mathlib.Core.Option.{Option, none, some}
-use Prim.Native.Nat.{ℕ, zero, suc, _+_, _-_, _≤_, _<_}
+use Prim.Native.Nat.{ℕ, suc, _+_, _≤_, _<_}
 use native.Mathlib.Omega.{arith}
 use borrow.Author.Needs.{needs}
-use borrow.Author.Tests.{le-leb, lt-leb, lt-ltb, le-ltb, leb-true, ltb-true, ltb-false, ne-eqb}
+use borrow.Author.Tests.{le-leb, lt-leb, le-ltb, leb-true, ltb-true, ltb-false, ne-eqb}
 use lib.Dec.{eqb, leb, ltb}
 use lib.ListN.{length, getD, take, drop}
 use lib.Seq.{getD-drop}
 use Rattle.xml.specs.Range.{Range, _–_, inside}
 use Rattle.xml.specs.Utf8.{utf8, Row, rows, sizeOf, later, follows, byRow, wellFormed}
-use Rattle.xml.specs.Character.{character, guess, valueOf}
+use Rattle.xml.specs.Character.{guess, valueOf}
 use Rattle.xml.proofs.Bools.{and-left, and-right, inside-bounds}
 use Rattle.xml.proofs.Utf8.{size-one, size-two, size-three, size-four}
 use Rattle.xml.proofs.Character.{formed-character, unformed-character, character-size, character-nil}
-use Rattle.chars.specs.declared.sequence.Sequence.{Sequence}
 use Rattle.chars.specs.declared.sequence.Sequence.the-variants.{Point, Bad}
 use Rattle.chars.proofs.Place.{drop-step, drop-end}
-use Rattle.chars.specs.Sequence.{seconds, cells, cellsIn, cellsOf, formedBy, formed, pointAt, sequenceAt}
+use Rattle.chars.specs.Sequence.{seconds, cellsIn, cellsOf, formedBy, formed, sequenceAt}
 
 -- ---- rows of a second byte, in rising order
 

@@ -3,28 +3,27 @@
 use mathlib.Core.Path.{_≡_, refl, sym, ap, _∙_}
 use mathlib.Core.Bool.{Bool, true, false, cond}
 use mathlib.Core.List.{List, [], _∷_, _++_}
-use mathlib.Core.Option.{Option, none, some, Option·some-injective}
-use mathlib.Core.Logic.{_⊎_, inl, inr}
-use Prim.Native.Nat.{ℕ, suc, _+_, _-_, _≤_, _<_}
+use mathlib.Core.Option.{Option, none, some}
+use Prim.Native.Nat.{ℕ, _+_, _-_, _≤_, _<_}
 use native.Mathlib.Omega.{arith}
 use lib.Dec.{leb}
 use borrow.Author.Tests.{leb-true, leb-false}
 use lib.ListN.{length, getD, drop, length-drop, length-append}
 use lib.Seq.{drop-drop}
-use Rattle.xml.specs.Utf8.{utf8, isScalar}
+use Rattle.xml.specs.Utf8.{utf8}
 use Rattle.xml.specs.Notation.{Reads, Star, done, more, char, _∗}
 use Rattle.xml.specs.Productions.{Char, isChar, isSpace, isNameStart, isName, NameStartChar, NameChar, Name}
 use Rattle.xml.specs.Character.{character, starts, wide, run}
 use Rattle.xml.proofs.Bools.{true-false}
 use Rattle.xml.proofs.Utf8.{utf8-long}
-use Rattle.xml.proofs.Character.{character-is, character-none, character-scalar, character-split, utf8-once}
+use Rattle.xml.proofs.Character.{character-none, character-scalar, character-split, utf8-once}
 use Rattle.xml.proofs.Run.{starts-reads, reads-starts, starts-not, starts-nil, run-reads, run-stops, run-only, run-step, run-drop, run-length}
 use Rattle.chars.specs.Place.{endsAt}
 use Rattle.chars.specs.Sequence.{pointAt, sequenceAt}
 use Rattle.chars.specs.Check.{checkedBy, checkOf}
 use Rattle.chars.specs.Name.{nameOf, readingAt, nameAt}
 use Rattle.chars.specs.Space.{spaceEnd}
-use Rattle.chars.specs.Meaning.{SequenceSays, CheckSays, numberOf, secondOf, NameSays, SpaceSays}
+use Rattle.chars.specs.Meaning.{SequenceSays, CheckSays, numberOf, NameSays, SpaceSays}
 use Rattle.chars.specs.declared.sequence.Sequence.{Sequence}
 use Rattle.chars.specs.declared.sequence.Sequence.the-variants.{Point, Bad}
 use Rattle.chars.specs.declared.check.Checked.{Checked}

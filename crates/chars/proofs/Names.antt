@@ -1,26 +1,23 @@
 -- Names by their characters' classes: one step of a name, the first character, and the answer.
 use mathlib.Core.Path.{_≡_, refl, sym, ap, _∙_}
 use mathlib.Core.Bool.{Bool, true, false, cond}
-use mathlib.Core.List.{List, [], _∷_}
-use mathlib.Core.Option.{Option, none, some}
+use mathlib.Core.List.{List}
 use Prim.Native.Nat.{ℕ, _+_, _-_, _≤_, _<_}
 use native.Mathlib.Omega.{arith}
 use borrow.Author.Needs.{needs}
 use borrow.Author.Tests.{eqb-true, eqb-false}
 use lib.Dec.{eqb}
 use lib.ListN.{length, getD, drop}
-use Rattle.xml.specs.Utf8.{utf8}
-use Rattle.xml.specs.Character.{character, starts, wide, run}
+use Rattle.xml.specs.Character.{character, starts, wide}
 use Rattle.xml.specs.Productions.{isNameStart, isName}
-use Rattle.xml.proofs.Utf8.{utf8-low, utf8-long}
+use Rattle.xml.proofs.Utf8.{utf8-low}
 use Rattle.xml.proofs.Character.{character-low}
 use Rattle.xml.proofs.Run.{starts-low, wide-long}
 use Rattle.chars.specs.Class.{classOf}
-use Rattle.chars.specs.Name.{nameOf, readingAt, nameAt, nameEnd, nameStep}
+use Rattle.chars.specs.Name.{nameOf, nameAt, nameEnd, nameStep}
 use Rattle.chars.specs.Sequence.{sequenceAt}
 use Rattle.chars.specs.declared.sequence.Sequence.{Sequence}
 use Rattle.chars.specs.declared.sequence.Sequence.the-variants.{Point, Bad}
-use Rattle.chars.specs.declared.name.Reading.{Reading}
 use Rattle.chars.specs.declared.name.Reading.the-variants.{Ends, Fault}
 use Rattle.chars.proofs.Place.{drop-step}
 use Rattle.chars.proofs.Classes.{class-none, class-name, class-start, class-other}

@@ -1,13 +1,13 @@
 -- Plain bytes: the code's test of a byte, and what it says.
-use mathlib.Core.Path.{_≡_, refl, sym, _∙_}
+use mathlib.Core.Path.{_≡_, refl}
 use mathlib.Core.Bool.{Bool, true, false, not, _&&_, _||_}
-use Prim.Native.Nat.{ℕ, _≤_, _<_}
+use Prim.Native.Nat.{ℕ, _<_}
 use native.Mathlib.Omega.{arith}
 use borrow.Author.Needs.{needs}
-use borrow.Author.Tests.{ltb-true, ltb-false, lt-ltb, le-ltb, le-leb, lt-leb, ne-eqb, not-true, not-false}
+use borrow.Author.Tests.{ltb-true, ltb-false, lt-ltb, le-leb, lt-leb, ne-eqb, not-true, not-false}
 use lib.Dec.{eqb, leb, ltb}
 use Rattle.xml.specs.Productions.{isChar}
-use Rattle.xml.proofs.Bools.{and-left, and-right, true-false}
+use Rattle.xml.proofs.Bools.{and-left, and-right}
 use Rattle.chars.specs.Block.{isOther}
 use Rattle.chars.proofs.Rows.{char-control, char-basic}
 

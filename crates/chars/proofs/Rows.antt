@@ -15,7 +15,7 @@ use Rattle.xml.specs.Utf8.{Row, rows, sizeOf}
 use Rattle.xml.specs.Character.{valueOf}
 use Rattle.xml.specs.Productions.{isChar}
 use Rattle.xml.specs.Range.{inside, _–_}
-use Rattle.chars.specs.Sequence.{cells, cellRows, cellsIn, cellsOf, formedBy, formed}
+use Rattle.chars.specs.Sequence.{cellRows, cellsIn, cellsOf, formedBy, formed}
 
 -- ---- `byte_after`
 

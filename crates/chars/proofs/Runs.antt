@@ -1,8 +1,8 @@
 -- Loops over runs of characters of a class: what is left is run through. In order: what one found sequence says; the loop's invariant, how it
 -- goes on and where it ends; classes of ASCII characters, which a byte tells.
 use mathlib.Core.Path.{_≡_, refl, sym, ap, _∙_}
-use mathlib.Core.Bool.{Bool, true, false, cond}
-use mathlib.Core.List.{List, [], _∷_, _++_}
+use mathlib.Core.Bool.{Bool, true, false}
+use mathlib.Core.List.{List, [], _∷_}
 use mathlib.Core.Option.{Option, none, some}
 use Prim.Native.Nat.{ℕ, _+_, _-_, _≤_, _<_}
 use native.Mathlib.Omega.{arith}
@@ -15,7 +15,7 @@ use Rattle.xml.specs.Character.{character, holds, starts, wide, run}
 use Rattle.xml.proofs.Bools.{true-false}
 use Rattle.xml.proofs.Utf8.{utf8-low, utf8-long}
 use Rattle.xml.proofs.Character.{character-low, character-high, character-split}
-use Rattle.xml.proofs.Run.{starts-found, starts-low, starts-nil, run-step, run-stop}
+use Rattle.xml.proofs.Run.{starts-found, starts-low, run-step, run-stop}
 use Rattle.chars.specs.Place.{endsAt, Stands}
 use Rattle.chars.specs.Sequence.{pointAt, sequenceAt}
 use Rattle.chars.specs.declared.sequence.Sequence.{Sequence}

@@ -1,6 +1,6 @@
 -- One sequence at a place: its code point and the place after it. Then the nine rows as the code keeps them, four cells a row, and the test
 -- of four bytes by them; proofs/Sequence.antt shows that this test finds the character.
-use mathlib.Core.Bool.{Bool, true, false, cond, not, _&&_, _||_}
+use mathlib.Core.Bool.{Bool, cond, not, _&&_, _||_}
 use mathlib.Core.List.{List, [], _∷_}
 use mathlib.Core.Option.{Option, none, some}
 use Prim.Native.Nat.{ℕ, _+_}

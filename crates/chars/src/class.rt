@@ -3,7 +3,6 @@
 //
 // The table is lent to whatever reads names in a loop: a constant that is indexed is made anew at each call, and a lent table is not.
 ghost use mathlib.Core.Path.{_≡_};
-ghost use lib.ListN.{length};
 ghost use Rattle.chars.specs.Class.{classOf, classTable, pairs};
 
 pub type Classes = [u8; 768];

@@ -2,11 +2,11 @@
 -- test and as a place; where an element of what `each`, `keep`, `strip`, `after` and `repeat` give comes from, and that it is there; the
 -- two directions, which need each other at `∖`; `derives` against the rule's language; what a judged table says of that language.
 use mathlib.Core.Path.{_≡_, refl, sym, ap, _∙_}
-use mathlib.Core.Bool.{Bool, true, false, cond, not, _&&_, _||_, or-true, false≢true, true≢false}
+use mathlib.Core.Bool.{Bool, true, false, cond, not, _||_, or-true, false≢true, true≢false}
 use mathlib.Core.List.{List, [], _∷_, _++_, append-nil, Memᴰ·append-left, Memᴰ·append-right}
 use mathlib.Core.List.{List·Memᴰ as In, List·Memᴰ·head as here, List·Memᴰ·tail as there, List·Memᴰ·append-cases as append-cases}
 use mathlib.Core.List.{List·Memᴰ·not-nil as not-nil, List·Memᴰ·cases-cons as cases-cons, List·Memᴰ·eq-of-singleton as singleton}
-use mathlib.Core.Logic.{_⊎_, inl, inr}
+use mathlib.Core.Logic.{inl, inr}
 use mathlib.Core.Option.{Option, none, some}
 use Prim.Native.Nat.{ℕ, zero, suc, _-_, _≤_, _<_}
 use native.Mathlib.Omega.{arith}
@@ -21,19 +21,16 @@ use Rattle.xml.specs.Language.{Language}
 use Rattle.xml.specs.Character.{character}
 use Rattle.xml.specs.Computes.{strip, after, each, keep, member, repeat, rests, derives}
 use Rattle.xml.specs.Judged.{every, judged}
+use Rattle.xml.proofs.Bools.{and-left, and-right}
+use Rattle.xml.proofs.Character.{character-utf8, character-some}
 use Rattle.xml.proofs.Language.{reads-language, language-reads, reads-suffix}
-
-and-both : (a b : Bool) → (a && b) ≡ true → (a ≡ true) × (b ≡ true)
-and-both true b h = (refl, h)
-and-both false b h = absurd (false≢true h)
 
 same-equal : (s t : List ℕ) → same s t ≡ true → s ≡ t
 same-equal [] [] h = refl
 same-equal [] (y ∷ t) h = absurd (false≢true h)
 same-equal (x ∷ s) [] h = absurd (false≢true h)
 same-equal (x ∷ s) (y ∷ t) h =
-    let (p, q) = and-both (eqb x y) (same s t) h in
-    rw (eqb-true x y p, same-equal s t q)
+    rw (eqb-true x y (and-left (eqb x y) _ h), same-equal s t (and-right (eqb x y) _ h))
 
 equal-same : (s : List ℕ) → same s s ≡ true
 equal-same [] = refl
@@ -146,78 +143,76 @@ text-taken w t e = rw e (take-at w t (length (w ++ t) - length t) (rw length-app
 
 every-in : {w : List ℕ} {ws : List (List ℕ)} (p : List ℕ → Bool) → every p ws ≡ true → In w ws → p w ≡ true
 unfolding every
-every-in p h (here {x = u} {xs = us} e) = rw e (and-both (p u) (every p us) h .0)
-every-in p h (there {x = u} {xs = us} i) = every-in p (and-both (p u) (every p us) h .1) i
+every-in p h (here {x = u} {xs = us} e) = rw e (and-left (p u) _ h)
+every-in p h (there {x = u} {xs = us} i) = every-in p (and-right (p u) _ h) i
 
-module _ (character-utf8 : (c : ℕ) (t : List ℕ) → isScalar c ≡ true → character (utf8 c ++ t) ≡ some c)
-    (character-some : (s : List ℕ) (c : ℕ) → character s ≡ some c → (isScalar c ≡ true) × (s ≡ utf8 c ++ drop (length (utf8 c)) s)) where
-  in-after : (p : ℕ → Bool) (s t : List ℕ) (o : Option ℕ) → character s ≡ o → In t (after p o s) → Reads (char p) s t
-  unfolding after
-  in-after p s t none e i = absurd (not-nil i)
-  in-after p s t (some c) e i = go (p c) refl i
-    where
-      go : (b : Bool) → p c ≡ b → In t (cond b (drop (length (utf8 c)) s ∷ []) []) → Reads (char p) s t
-      go true h i = let (k, q) = character-some s c e in (c, k, h, (rw (singleton i) q))
-      go false h i = absurd (not-nil i)
+in-after : (p : ℕ → Bool) (s t : List ℕ) (o : Option ℕ) → character s ≡ o → In t (after p o s) → Reads (char p) s t
+unfolding after
+in-after p s t none e i = absurd (not-nil i)
+in-after p s t (some c) e i = go (p c) refl i
+  where
+    go : (b : Bool) → p c ≡ b → In t (cond b (drop (length (utf8 c)) s ∷ []) []) → Reads (char p) s t
+    go true h i = let (k, q) = character-some s c e in (c, k, h, (rw (singleton i) q))
+    go false h i = absurd (not-nil i)
 
-  after-in : (p : ℕ → Bool) (c : ℕ) (t : List ℕ) → isScalar c ≡ true → p c ≡ true → In t (after p (character (utf8 c ++ t)) (utf8 c ++ t))
-  unfolding after
-  after-in p c t k h = rw (character-utf8 c t k, h) (here (sym (drop-append-seam (utf8 c) t)))
+after-in : (p : ℕ → Bool) (c : ℕ) (t : List ℕ) → isScalar c ≡ true → p c ≡ true → In t (after p (character (utf8 c ++ t)) (utf8 c ++ t))
+unfolding after
+after-in p c t k h = rw (character-utf8 c t k, h) (here (sym (drop-append-seam (utf8 c) t)))
 
-  mutual
-    unfolding rests
+mutual
+  unfolding rests
 
-    in-reads : (r : Rule) (s t : List ℕ) → In t (rests r s) → Reads r s t
-    in-reads (lit w) s t i = in-strip w s i
-    in-reads (char p) s t i = in-after p s t (character s) refl i
-    in-reads (a ⨾ b) s t i = let (m, j, k) = in-each (rests b) (rests a s) i in (m, in-reads a s m j, in-reads b m t k)
-    in-reads (a ∖ b) s t i =
-        let (j, h) = in-keep (λ u. not (member u (rests b s))) (rests a s) i in
-        (in-reads a s t j, λ y. true≢false (sym (in-member (reads-in b s t y)) ∙ not-true (member t (rests b s)) h))
-    in-reads (a ∣ b) s t i = elim (append-cases (rests a s) i) [ inl j ↦ inl (in-reads a s t j) | inr j ↦ inr (in-reads b s t j) ]
-    in-reads (a ∗) s t i = repeat-star (rests a) (Reads a) (in-reads a) (length s) s t i
-    in-reads (such a p) s t i =
-        let (j, h) = in-keep (λ u. p (take (length s - length u) s)) (rests a s) i in
-        let x = in-reads a s t j in
-        let (w, e) = reads-suffix a s t x in
-        (w, e, (rw (text-taken w t e) at h), x)
+  in-reads : (r : Rule) (s t : List ℕ) → In t (rests r s) → Reads r s t
+  in-reads (lit w) s t i = in-strip w s i
+  in-reads (char p) s t i = in-after p s t (character s) refl i
+  in-reads (a ⨾ b) s t i = let (m, j, k) = in-each (rests b) (rests a s) i in (m, in-reads a s m j, in-reads b m t k)
+  in-reads (a ∖ b) s t i =
+      let (j, h) = in-keep (λ u. not (member u (rests b s))) (rests a s) i in
+      (in-reads a s t j, λ y. true≢false (sym (in-member (reads-in b s t y)) ∙ not-true (member t (rests b s)) h))
+  in-reads (a ∣ b) s t i = elim (append-cases (rests a s) i) [ inl j ↦ inl (in-reads a s t j) | inr j ↦ inr (in-reads b s t j) ]
+  in-reads (a ∗) s t i = repeat-star (rests a) (Reads a) (in-reads a) (length s) s t i
+  in-reads (such a p) s t i =
+      let (j, h) = in-keep (λ u. p (take (length s - length u) s)) (rests a s) i in
+      let x = in-reads a s t j in
+      let (w, e) = reads-suffix a s t x in
+      (w, e, (rw (text-taken w t e) at h), x)
 
-    reads-in : (r : Rule) (s t : List ℕ) → Reads r s t → In t (rests r s)
-    reads-in (lit w) s t e = rw e (strip-in w t)
-    reads-in (char p) s t (c, k, h, e) = rw e (after-in p c t k h)
-    reads-in (a ⨾ b) s t (m, x, y) = each-in (rests b) (reads-in a s m x) (reads-in b m t y)
-    reads-in (a ∖ b) s t (x, n) =
-        let h = absent t (rests b s) (λ i. n (in-reads b s t i)) in
-        keep-in (λ u. not (member u (rests b s))) (reads-in a s t x) h
-    reads-in (a ∣ b) s t (inl x) = Memᴰ·append-left (rests b s) (reads-in a s t x)
-    reads-in (a ∣ b) s t (inr x) = Memᴰ·append-right (rests a s) (reads-in b s t x)
-    reads-in (a ∗) s t x = star-repeat (rests a) (Reads a) (reads-in a) (reads-suffix a) x (length s) (omega arith)
-    reads-in (such a p) s t (w, e, h, x) = keep-in (λ u. p (take (length s - length u) s)) (reads-in a s t x) (rw (text-taken w t e) h)
+  reads-in : (r : Rule) (s t : List ℕ) → Reads r s t → In t (rests r s)
+  reads-in (lit w) s t e = rw e (strip-in w t)
+  reads-in (char p) s t (c, k, h, e) = rw e (after-in p c t k h)
+  reads-in (a ⨾ b) s t (m, x, y) = each-in (rests b) (reads-in a s m x) (reads-in b m t y)
+  reads-in (a ∖ b) s t (x, n) =
+      let h = absent t (rests b s) (λ i. n (in-reads b s t i)) in
+      keep-in (λ u. not (member u (rests b s))) (reads-in a s t x) h
+  reads-in (a ∣ b) s t (inl x) = Memᴰ·append-left (rests b s) (reads-in a s t x)
+  reads-in (a ∣ b) s t (inr x) = Memᴰ·append-right (rests a s) (reads-in b s t x)
+  reads-in (a ∗) s t x = star-repeat (rests a) (Reads a) (reads-in a) (reads-suffix a) x (length s) (omega arith)
+  reads-in (such a p) s t (w, e, h, x) = keep-in (λ u. p (take (length s - length u) s)) (reads-in a s t x) (rw (text-taken w t e) h)
 
-  pub rests-sound : (r : Rule) (s t : List ℕ) → member t (rests r s) ≡ true → Reads r s t
-  rests-sound r s t h = in-reads r s t (member-in t (rests r s) h)
+pub rests-sound : (r : Rule) (s t : List ℕ) → member t (rests r s) ≡ true → Reads r s t
+rests-sound r s t h = in-reads r s t (member-in t (rests r s) h)
 
-  pub rests-complete : (r : Rule) (s t : List ℕ) → Reads r s t → member t (rests r s) ≡ true
-  rests-complete r s t x = in-member (reads-in r s t x)
+pub rests-complete : (r : Rule) (s t : List ℕ) → Reads r s t → member t (rests r s) ≡ true
+rests-complete r s t x = in-member (reads-in r s t x)
 
-  pub derives-language : (r : Rule) (w : List ℕ) → derives r w ≡ true → Language r w
-  unfolding derives
-  derives-language r w h = let (v, e, l) = reads-language r w [] (rests-sound r w [] h) in rw (e, append-nil) l
+pub derives-language : (r : Rule) (w : List ℕ) → derives r w ≡ true → Language r w
+unfolding derives
+derives-language r w h = let (v, e, l) = reads-language r w [] (rests-sound r w [] h) in rw (e, append-nil) l
 
-  pub language-derives : (r : Rule) (w : List ℕ) → Language r w → derives r w ≡ true
-  unfolding derives
-  language-derives r w l = rests-complete r w [] (rw append-nil at (language-reads r w [] l))
+pub language-derives : (r : Rule) (w : List ℕ) → Language r w → derives r w ≡ true
+unfolding derives
+language-derives r w l = rests-complete r w [] (rw append-nil at (language-reads r w [] l))
 
-  -- a judged table's first texts are of the rule's language, and its second are not
-  module _ (r : Rule) (good bad : List (List ℕ)) (h : judged r good bad ≡ true) where
-    judged-both : (every (derives r) good ≡ true) × (every (λ w. not (derives r w)) bad ≡ true)
-    unfolding judged
-    judged-both = and-both (every (derives r) good) (every (λ w. not (derives r w)) bad) h
+-- a judged table's first texts are of the rule's language, and its second are not
+module _ (r : Rule) (good bad : List (List ℕ)) (h : judged r good bad ≡ true) where
+  judged-both : (every (derives r) good ≡ true) × (every (λ w. not (derives r w)) bad ≡ true)
+  unfolding judged
+  judged-both = (and-left (every (derives r) good) _ h, and-right (every (derives r) good) _ h)
 
-    pub judged-good : {w : List ℕ} → In w good → Language r w
-    judged-good {w} i = derives-language r w (every-in (derives r) (judged-both .0) i)
+  pub judged-good : {w : List ℕ} → In w good → Language r w
+  judged-good {w} i = derives-language r w (every-in (derives r) (judged-both .0) i)
 
-    pub judged-bad : {w : List ℕ} → In w bad → Language r w → ⊥
-    judged-bad {w} i l =
-        let n = not-true (derives r w) (every-in (λ v. not (derives r v)) (judged-both .1) i) in
-        true≢false (sym (language-derives r w l) ∙ n)
+  pub judged-bad : {w : List ℕ} → In w bad → Language r w → ⊥
+  judged-bad {w} i l =
+      let n = not-true (derives r w) (every-in (λ v. not (derives r v)) (judged-both .1) i) in
+      true≢false (sym (language-derives r w l) ∙ n)

@@ -1,6 +1,6 @@
 -- XML's notation computed: all that can be left of s where a rule reads its front, and with it whether a rule derives s. A rule's worked
 -- examples are computed by it; proofs/Computes.antt shows that it gives just what `Reads` says. Nothing else rests on it.
-use mathlib.Core.Bool.{Bool, true, false, cond, not, _&&_, _||_}
+use mathlib.Core.Bool.{Bool, false, cond, not, _||_}
 use mathlib.Core.List.{List, [], _∷_, _++_}
 use mathlib.Core.Option.{Option, none, some}
 use Prim.Native.Nat.{ℕ, zero, suc, _-_}

@@ -2,7 +2,7 @@
 -- proofs/Language.antt shows that `Reads r s t` says just this of the front of s.
 use mathlib.Core.Path.{_≡_}
 use mathlib.Core.Bool.{true}
-use mathlib.Core.List.{List, [], _∷_, _++_}
+use mathlib.Core.List.{List, [], _++_}
 use mathlib.Core.Logic.{_⊎_}
 use Prim.Native.Nat.{ℕ}
 use Rattle.xml.specs.Utf8.{utf8, isScalar}

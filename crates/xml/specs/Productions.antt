@@ -1,14 +1,15 @@
--- The productions of XML 1.0 (Fifth Edition) that items are made of, under their numbers and in the Recommendation's order. Above each
--- stands its line in the Recommendation. A document has no document type, so the constraint "Entity Declared" leaves the five predefined
--- names, and "No < in Attribute Values" holds by [10] itself. Unique attribute names, matching tags and [1] [22] [39] [43] come with the
--- document as a whole.
-use mathlib.Core.Bool.{Bool, true, false, not, cond, _&&_, _||_}
-use mathlib.Core.List.{List, [], _∷_, _++_}
+-- The productions of XML 1.0 (Fifth Edition) that items are made of, each under its number and below its line in the Recommendation. They
+-- stand in the Recommendation's order, but for what a production is made of, which has to stand before it: [66] [68] [67] before [10], [17]
+-- before [16], [19]-[21] before [18], [25] [26] before [24], [81] [80] [32] before [23], [41] before [40].
+-- A document has no document type: so "Entity Declared" leaves the five predefined names, and "No < in Attribute Values" holds by [10]
+-- itself. Unique attribute names, matching tags and [1] [22] [39] [43] belong to the document as a whole and are not here.
+use mathlib.Core.Bool.{Bool, true, false, not, _&&_, _||_}
+use mathlib.Core.List.{List, [], _∷_}
 use Prim.Native.Nat.{ℕ, _+_, _-_, _*_}
 use Prim.Native.String.{String}
 use lib.Dec.{eqb}
 use Rattle.xml.specs.Range.{_–_, _to_, only, sign, inside, within}
-use Rattle.xml.specs.Notation.{Rule, lit, char, _⨾_, _∖_, _∣_, _∗, such, bytes, text, opt, plus, among}
+use Rattle.xml.specs.Notation.{Rule, char, _⨾_, _∖_, _∣_, _∗, such, bytes, text, opt, plus, among}
 
 -- [2] Char ::= #x9 | #xA | #xD | [#x20-#xD7FF] | [#xE000-#xFFFD] | [#x10000-#x10FFFF]
 unfoldable pub isChar : ℕ → Bool

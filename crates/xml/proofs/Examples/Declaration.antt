@@ -2,7 +2,7 @@
 -- those that it does not.
 use mathlib.Core.Path.{_≡_, refl}
 use mathlib.Core.Bool.{true}
-use mathlib.Core.List.{List, [], _∷_}
+use mathlib.Core.List.{[], _∷_}
 use Rattle.xml.specs.Productions.{Eq, VersionNum, VersionInfo, EncName, EncodingDecl, SDDecl, XMLDecl}
 use Rattle.xml.specs.Judged.{judged, texts}
 

@@ -2,7 +2,7 @@
 -- then those that it does not.
 use mathlib.Core.Path.{_≡_, refl}
 use mathlib.Core.Bool.{true}
-use mathlib.Core.List.{List, [], _∷_, _++_}
+use mathlib.Core.List.{[], _∷_, _++_}
 use Rattle.xml.specs.Productions.{CharData, Comment, PITarget, PI, CDStart, CData, CDEnd, CDSect, Misc}
 use Rattle.xml.specs.Judged.{judged, texts}
 

@@ -2,7 +2,7 @@
 -- it does not. Of the numbers some would be 65 if they were counted in 32 or 64 bits.
 use mathlib.Core.Path.{_≡_, refl}
 use mathlib.Core.Bool.{true}
-use mathlib.Core.List.{List, [], _∷_}
+use mathlib.Core.List.{[], _∷_}
 use Rattle.xml.specs.Productions.{CharRef, EntityRef, Reference, AttValue}
 use Rattle.xml.specs.Judged.{judged, texts}
 

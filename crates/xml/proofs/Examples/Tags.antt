@@ -2,7 +2,7 @@
 -- An attribute name twice in a tag breaks a constraint, not the production.
 use mathlib.Core.Path.{_≡_, refl}
 use mathlib.Core.Bool.{true}
-use mathlib.Core.List.{List, [], _∷_}
+use mathlib.Core.List.{[], _∷_}
 use Rattle.xml.specs.Productions.{Attribute, STag, ETag, EmptyElemTag}
 use Rattle.xml.specs.Judged.{judged, texts}
 

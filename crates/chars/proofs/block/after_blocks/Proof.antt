@@ -1,3 +1,5 @@
+-- `after_blocks` meets its contract. The loop's invariant: from `from` up to i all bytes are plain.
+-- The measure is what is left of the slice.
 use Prim.Native.Nat.{_-_}
 use lib.ListN.{length}
 use borrow.Author.Needs.{needs}
@@ -5,9 +7,6 @@ use Rattle.chars.specs.Block.{isOther, Skips}
 use Rattle.chars.proofs.Until.{seeking, seek-past}
 use Rattle.chars.proofs.block.after_blocks.Statement.{statement}
 use Rattle.chars.proofs.block.after_blocks.Tie as tie
-use Rattle.chars.proofs.block.after_blocks.Reads as reads
-use Rattle.chars.proofs.block.after_blocks.Lts as lts
-use Rattle.chars.proofs.block.some_other64.Reads as some-other64-reads
 
 abbrev Inv-loop : tie.InvT-loop
 Inv-loop s from i₀ i = Skips isOther s from i
@@ -15,36 +14,28 @@ Inv-loop s from i₀ i = Skips isOther s from i
 abbrev μ-loop : tie.MeasureT-loop
 μ-loop s from i₀ i = length s - i
 
--- src/block.rt:66:5
 loop-holds : tie.Need-loop-holds Inv-loop μ-loop
 loop-holds c = search seeking
 
--- src/block.rt:66:11
 sub-loop : tie.Need-sub-loop Inv-loop μ-loop
 sub-loop c = search seeking
 
--- src/block.rt:67:12
 some-other64-requires : tie.Need-some-other64-requires Inv-loop μ-loop
 some-other64-requires c κs = search seeking
 
--- src/block.rt:68:13
 returns : tie.Need-returns Inv-loop μ-loop
 returns c = search seeking
 
--- src/block.rt:70:9
 add-i : tie.Need-add-i Inv-loop μ-loop
 add-i c = search seeking
 
--- src/block.rt:66:5
 loop-less : tie.Need-loop-less Inv-loop μ-loop
 loop-less c = search seeking
 
--- src/block.rt:66:5
 loop-again : tie.Need-loop-again Inv-loop μ-loop
 loop-again c =
     seek-past (c .before .before .before .loop .inv) 64 (search needs) (c .before .some-other64 .ensures) (c .if1 .left)
 
--- src/block.rt:61:1
 returns-2 : tie.Need-returns-2 Inv-loop μ-loop
 returns-2 c = search seeking
 

@@ -1,10 +1,9 @@
+-- `is_other` meets its contract: the test of a byte, by the borders 0x20 and 0x80 and three bytes below them, is that of `isOther`.
+-- proofs/Plain.antt has the law.
 use Rattle.chars.proofs.Plain.{plain}
 use Rattle.chars.proofs.block.is_other.Statement.{statement}
 use Rattle.chars.proofs.block.is_other.Tie as tie
-use Rattle.chars.proofs.block.is_other.Reads as reads
-use Rattle.chars.proofs.block.is_other.Lts as lts
 
--- src/block.rt:13:1
 returns : tie.Need-returns
 returns c = search plain
 

@@ -1,16 +1,15 @@
-use mathlib.Core.Path.{_≡_, refl, ap, _∙_}
+-- `mask16` meets its contract. The loop's invariant: m is the mask of the first j bytes of the block.
+-- The measure is what is left of the 16.
 use mathlib.Core.Bool.{Bool}
+use mathlib.Core.Path.{_≡_, refl, ap, _∙_}
 use Prim.Native.Nat.{ℕ, _+_, _-_, _≤_}
 use native.Mathlib.Omega.{arith}
-use borrow.Author.Needs.{needs}
 use lib.ListN.{getD}
+use borrow.Author.Needs.{needs}
 use Rattle.chars.specs.Block.{maskOf, isOther}
 use Rattle.chars.proofs.Mask.{mask-turn}
 use Rattle.chars.proofs.block.mask16.Statement.{statement}
 use Rattle.chars.proofs.block.mask16.Tie as tie
-use Rattle.chars.proofs.block.mask16.Reads as reads
-use Rattle.chars.proofs.block.mask16.Lts as lts
-use Rattle.chars.proofs.block.is_other.Reads as is-other-reads
 
 abbrev Inv-loop : tie.InvT-loop
 Inv-loop s i m₀ j₀ m j = (j ≤ 16) × (m ≡ maskOf (λ (k : ℕ). isOther (getD s (i + k) 0)) j)
@@ -18,55 +17,43 @@ Inv-loop s i m₀ j₀ m j = (j ≤ 16) × (m ≡ maskOf (λ (k : ℕ). isOther 
 abbrev μ-loop : tie.MeasureT-loop
 μ-loop s i m₀ j₀ m j = 16 - j
 
--- src/block.rt:40:5
 loop-holds : tie.Need-loop-holds Inv-loop μ-loop
 unfolding maskOf
 loop-holds c =
     (omega arith, refl)
 
--- src/block.rt:41:32
 add-is-other : tie.Need-add-is-other Inv-loop μ-loop
 add-is-other c = search needs
 
--- src/block.rt:41:30
 shared-slice-read-is-other : tie.Need-shared-slice-read-is-other Inv-loop μ-loop
 shared-slice-read-is-other c = search needs
 
--- src/block.rt:41:13
 is-other-requires : tie.Need-is-other-requires Inv-loop μ-loop
 is-other-requires c κs = search needs
 
--- src/block.rt:42:19
 cast-m : tie.Need-cast-m Inv-loop μ-loop
 cast-m c = search needs
 
--- src/block.rt:42:37
 cast-m-2 : tie.Need-cast-m-2 Inv-loop μ-loop
 cast-m-2 c = search needs
 
--- src/block.rt:42:37
 add-m : tie.Need-add-m Inv-loop μ-loop
 add-m c = search needs
 
--- src/block.rt:42:18
 shl-m : tie.Need-shl-m Inv-loop μ-loop
 shl-m c = search needs
 
--- src/block.rt:43:9
 add-j : tie.Need-add-j Inv-loop μ-loop
 add-j c = search needs
 
--- src/block.rt:40:5
 loop-less : tie.Need-loop-less Inv-loop μ-loop
 loop-less c = search needs
 
--- src/block.rt:40:5
 loop-again : tie.Need-loop-again Inv-loop μ-loop
 loop-again c =
     let p : ℕ → Bool = λ k. isOther (getD (c .before .before .before .before .before .args .s .now) (c .before .before .before .before .before .args .i + k) 0) in
     (omega arith, rw (c .before .before .before .loop .inv .1, c .is-other .ensures) (mask-turn p (c .before .before .before .loop .j) (omega arith)))
 
--- src/block.rt:34:1
 returns : tie.Need-returns Inv-loop μ-loop
 returns c =
     let p : ℕ → Bool = λ k. isOther (getD (c .before .before .before .args .s .now) (c .before .before .before .args .i + k) 0) in

@@ -1,33 +1,28 @@
-use mathlib.Core.Path.{_≡_, sym, ap, _∙_}
+-- `plain16` meets its contract: a mask with no bit has no place, and the lowest bit of any other is one above the first place.
+-- proofs/Mask.antt has both laws.
 use mathlib.Core.Bool.{Bool}
+use mathlib.Core.Path.{_≡_, sym, ap, _∙_}
 use Prim.Native.Nat.{ℕ, _+_, _-_}
 use native.Mathlib.Omega.{arith}
 use lib.Count.{trailingZeros, trailing-le}
 use lib.ListN.{getD}
+use borrow.Author.Needs.{needs}
 use Rattle.chars.specs.Block.{isOther}
 use Rattle.chars.proofs.Mask.{mask-none, mask-zeros}
-use borrow.Author.Needs.{needs}
 use Rattle.chars.proofs.block.plain16.Statement.{statement}
 use Rattle.chars.proofs.block.plain16.Tie as tie
-use Rattle.chars.proofs.block.plain16.Reads as reads
-use Rattle.chars.proofs.block.plain16.Lts as lts
-use Rattle.chars.proofs.block.mask16.Reads as mask16-reads
 
--- src/block.rt:32:9
 mask16-requires : tie.Need-mask16-requires
 mask16-requires c κs = search needs
 
--- src/block.rt:34:9
 returns : tie.Need-returns
 returns c =
     let p : ℕ → Bool = λ k. isOther (getD (c .before .before .before .args .s .now) (c .before .before .before .args .i + k) 0) in
     mask-none p 16 (sym (c .before .mask16 .ensures) ∙ c .if1 .taken)
 
--- src/block.rt:36:5
 cast-result : tie.Need-cast-result
 cast-result c = omega (arith, trailing-le 32 (c .before .mask16 .result))
 
--- src/block.rt:36:5
 sub-result : tie.Need-sub-result
 sub-result c =
     let p : ℕ → Bool = λ k. isOther (getD (c .before .before .before .args .s .now) (c .before .before .before .args .i + k) 0) in
@@ -36,7 +31,6 @@ sub-result c =
     let e : trailingZeros 32 (c .before .mask16 .result) ≡ f .0 + 1 = ap (trailingZeros 32) m ∙ f .1 in
     omega arith
 
--- src/block.rt:28:1
 returns-2 : tie.Need-returns-2
 returns-2 c =
     let p : ℕ → Bool = λ k. isOther (getD (c .before .before .before .args .s .now) (c .before .before .before .args .i + k) 0) in

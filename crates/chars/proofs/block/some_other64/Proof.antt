@@ -1,16 +1,15 @@
-use mathlib.Core.Path.{_≡_, refl, ap, _∙_}
+-- `some_other64` meets its contract. The loop's invariant: `found` tells whether one of the first j bytes of the block is not plain.
+-- The measure is what is left of the 64.
 use mathlib.Core.Bool.{Bool}
+use mathlib.Core.Path.{_≡_, refl, ap, _∙_}
 use Prim.Native.Nat.{ℕ, _+_, _-_, _≤_}
 use native.Mathlib.Omega.{arith}
-use borrow.Author.Needs.{needs}
 use lib.ListN.{getD}
+use borrow.Author.Needs.{needs}
 use Rattle.chars.specs.Block.{someOf, isOther}
 use Rattle.chars.proofs.Until.{some-turn}
 use Rattle.chars.proofs.block.some_other64.Statement.{statement}
 use Rattle.chars.proofs.block.some_other64.Tie as tie
-use Rattle.chars.proofs.block.some_other64.Reads as reads
-use Rattle.chars.proofs.block.some_other64.Lts as lts
-use Rattle.chars.proofs.block.is_other.Reads as is-other-reads
 
 abbrev Inv-loop : tie.InvT-loop
 Inv-loop s i found₀ j₀ found j = (j ≤ 64) × (found ≡ someOf (λ (k : ℕ). isOther (getD s (i + k) 0)) j)
@@ -18,39 +17,31 @@ Inv-loop s i found₀ j₀ found j = (j ≤ 64) × (found ≡ someOf (λ (k : �
 abbrev μ-loop : tie.MeasureT-loop
 μ-loop s i found₀ j₀ found j = 64 - j
 
--- src/block.rt:26:5
 loop-holds : tie.Need-loop-holds Inv-loop μ-loop
 unfolding someOf
 loop-holds c =
     (omega arith, refl)
 
--- src/block.rt:27:36
 add-is-other : tie.Need-add-is-other Inv-loop μ-loop
 add-is-other c = search needs
 
--- src/block.rt:27:34
 shared-slice-read-is-other : tie.Need-shared-slice-read-is-other Inv-loop μ-loop
 shared-slice-read-is-other c = search needs
 
--- src/block.rt:27:25
 is-other-requires : tie.Need-is-other-requires Inv-loop μ-loop
 is-other-requires c κs = search needs
 
--- src/block.rt:28:9
 add-j : tie.Need-add-j Inv-loop μ-loop
 add-j c = search needs
 
--- src/block.rt:26:5
 loop-less : tie.Need-loop-less Inv-loop μ-loop
 loop-less c = search needs
 
--- src/block.rt:26:5
 loop-again : tie.Need-loop-again Inv-loop μ-loop
 loop-again c =
     let p : ℕ → Bool = λ k. isOther (getD (c .before .before .before .before .before .args .s .now) (c .before .before .before .before .before .args .i + k) 0) in
     (omega arith, rw (c .before .before .before .loop .inv .1, c .is-other .ensures) (some-turn p (c .before .before .before .loop .j)))
 
--- src/block.rt:20:1
 returns : tie.Need-returns Inv-loop μ-loop
 returns c =
     let p : ℕ → Bool = λ k. isOther (getD (c .before .before .before .args .s .now) (c .before .before .before .args .i + k) 0) in

@@ -1,12 +1,11 @@
-use Rattle.chars.proofs.Ranges.{ranging}
+-- `in_ranges` meets its contract. The loop's invariant: the ranges from k on have c exactly if all of them do.
+-- The measure is what is left of the ranges.
 use mathlib.Core.Logic.{⊎-elim}
-use Rattle.chars.proofs.Ranges.{Ranging}
 use Prim.Native.Nat.{_-_}
 use lib.ListN.{length}
+use Rattle.chars.proofs.Ranges.{ranging, Ranging}
 use Rattle.chars.proofs.class.in_ranges.Statement.{statement}
 use Rattle.chars.proofs.class.in_ranges.Tie as tie
-use Rattle.chars.proofs.class.in_ranges.Reads as reads
-use Rattle.chars.proofs.class.in_ranges.Lts as lts
 
 abbrev Inv-loop : tie.InvT-loop
 Inv-loop t c k₀ k = Ranging t c k
@@ -14,55 +13,42 @@ Inv-loop t c k₀ k = Ranging t c k
 abbrev μ-loop : tie.MeasureT-loop
 μ-loop t c k₀ k = length t - k
 
--- src/class.rt:83:5
 loop-holds : tie.Need-loop-holds Inv-loop μ-loop
 loop-holds c = search ranging
 
--- src/class.rt:84:12
 sub-if1 : tie.Need-sub-if1 Inv-loop μ-loop
 sub-if1 c = search ranging
 
--- src/class.rt:85:13
 returns : tie.Need-returns Inv-loop μ-loop
 returns c = search ranging
 
--- src/class.rt:87:12
 mul-if2 : tie.Need-mul-if2 Inv-loop μ-loop
 mul-if2 c = search ranging
 
--- src/class.rt:87:12
 shared-slice-read-if2 : tie.Need-shared-slice-read-if2 Inv-loop μ-loop
 shared-slice-read-if2 c = search ranging
 
--- src/class.rt:88:23
 add-if3 : tie.Need-add-if3 Inv-loop μ-loop
 add-if3 c = search ranging
 
--- src/class.rt:88:21
 mul-if3 : tie.Need-mul-if3 Inv-loop μ-loop
 mul-if3 c = search ranging
 
--- src/class.rt:88:21
 shared-slice-read-if3 : tie.Need-shared-slice-read-if3 Inv-loop μ-loop
 shared-slice-read-if3 c = search ranging
 
--- src/class.rt:89:17
 returns-2 : tie.Need-returns-2 Inv-loop μ-loop
 returns-2 c = search ranging
 
--- src/class.rt:92:9
 add-k : tie.Need-add-k Inv-loop μ-loop
 add-k c = search ranging
 
--- src/class.rt:83:5
 loop-less : tie.Need-loop-less Inv-loop μ-loop
 loop-less c = search ranging
 
--- src/class.rt:83:5
 loop-again : tie.Need-loop-again Inv-loop μ-loop
 loop-again c = ⊎-elim (λ w. search ranging) (λ w. search ranging) (c .if2 .came)
 
--- src/class.rt:79:1
 returns-3 : tie.Need-returns-3 Inv-loop μ-loop
 returns-3 c = search ranging
 

@@ -1,12 +1,11 @@
+-- `table` meets its contract. This is the one computed test over the whole table: antt computes the class of each of the 768 code points
+-- from the ranges of [4] and [4a], and compares it with the entry of the constant.
 use mathlib.Core.Path.{refl}
 use Rattle.xml.specs.Productions.{isNameStart, isNameMore}
 use Rattle.chars.specs.Class.{classOf, classesFrom, classTable}
 use Rattle.chars.proofs.class.table.Statement.{statement}
 use Rattle.chars.proofs.class.table.Tie as tie
-use Rattle.chars.proofs.class.table.Reads as reads
-use Rattle.chars.proofs.class.table.Lts as lts
 
--- src/class.rt:72:1
 returns : tie.Need-returns
 unfolding classTable classesFrom classOf isNameStart isNameMore
 returns c = refl

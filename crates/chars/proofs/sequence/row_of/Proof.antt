@@ -1,3 +1,5 @@
+-- `row_of` meets its contract. The loop's invariant: the first row from i on that has the byte a is the first of all that has it.
+-- The measure is what is left of the nine. antt sees by computing that the constant has the rows of the definition.
 use mathlib.Core.Logic.{⊎-elim}
 use Prim.Native.Nat.{_-_}
 use borrow.Author.Needs.{needs}
@@ -5,8 +7,6 @@ use Rattle.xml.specs.Utf8.{rows}
 use Rattle.chars.proofs.Rows.{Rowing, row-start, rowing}
 use Rattle.chars.proofs.sequence.row_of.Statement.{statement}
 use Rattle.chars.proofs.sequence.row_of.Tie as tie
-use Rattle.chars.proofs.sequence.row_of.Reads as reads
-use Rattle.chars.proofs.sequence.row_of.Lts as lts
 
 abbrev Inv-loop : tie.InvT-loop
 Inv-loop a i₀ i = Rowing a i
@@ -14,45 +14,35 @@ Inv-loop a i₀ i = Rowing a i
 abbrev μ-loop : tie.MeasureT-loop
 μ-loop a i₀ i = 9 - i
 
--- src/sequence.rt:35:5
 loop-holds : tie.Need-loop-holds Inv-loop μ-loop
 loop-holds c = row-start
 
--- src/sequence.rt:36:19
 mul-row : tie.Need-mul-row Inv-loop μ-loop
 mul-row c = search needs
 
--- src/sequence.rt:36:19
 array-copy-out-row : tie.Need-array-copy-out-row Inv-loop μ-loop
 array-copy-out-row c = search needs
 
--- src/sequence.rt:37:12
 array-read-if1 : tie.Need-array-read-if1 Inv-loop μ-loop
 array-read-if1 c = search needs
 
--- src/sequence.rt:38:21
 array-read-if2 : tie.Need-array-read-if2 Inv-loop μ-loop
 array-read-if2 c = search needs
 
--- src/sequence.rt:39:17
 returns : tie.Need-returns Inv-loop μ-loop
 unfolding rows
 returns c = search rowing
 
--- src/sequence.rt:42:9
 add-i : tie.Need-add-i Inv-loop μ-loop
 add-i c = search needs
 
--- src/sequence.rt:35:5
 loop-less : tie.Need-loop-less Inv-loop μ-loop
 loop-less c = search needs
 
--- src/sequence.rt:35:5
 loop-again : tie.Need-loop-again Inv-loop μ-loop
 unfolding rows
 loop-again c = ⊎-elim (λ w. search rowing) (λ w. search rowing) (c .if1 .came)
 
--- src/sequence.rt:31:1
 returns-2 : tie.Need-returns-2 Inv-loop μ-loop
 returns-2 c = search rowing
 

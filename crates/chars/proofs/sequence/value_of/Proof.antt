@@ -1,70 +1,54 @@
+-- `value_of` meets its contract: one law for each of its four ways.
+-- proofs/Rows.antt has them.
 use Rattle.chars.proofs.Rows.{valuing}
 use Rattle.chars.proofs.sequence.value_of.Statement.{statement}
 use Rattle.chars.proofs.sequence.value_of.Tie as tie
-use Rattle.chars.proofs.sequence.value_of.Reads as reads
-use Rattle.chars.proofs.sequence.value_of.Lts as lts
 
--- src/sequence.rt:109:9
 returns : tie.Need-returns
 returns c = search valuing
 
--- src/sequence.rt:112:16
 mul-result : tie.Need-mul-result
 mul-result c = search valuing
 
--- src/sequence.rt:112:16
 add-result : tie.Need-add-result
 add-result c = search valuing
 
--- src/sequence.rt:112:9
 returns-2 : tie.Need-returns-2
 returns-2 c = search valuing
 
--- src/sequence.rt:115:16
 mul-result-2 : tie.Need-mul-result-2
 mul-result-2 c = search valuing
 
--- src/sequence.rt:115:36
 mul-result-3 : tie.Need-mul-result-3
 mul-result-3 c = search valuing
 
--- src/sequence.rt:115:16
 add-result-2 : tie.Need-add-result-2
 add-result-2 c = search valuing
 
--- src/sequence.rt:115:16
 add-result-3 : tie.Need-add-result-3
 add-result-3 c = search valuing
 
--- src/sequence.rt:115:9
 returns-3 : tie.Need-returns-3
 returns-3 c = search valuing
 
--- src/sequence.rt:117:5
 mul-result-4 : tie.Need-mul-result-4
 mul-result-4 c = search valuing
 
--- src/sequence.rt:117:23
 mul-result-5 : tie.Need-mul-result-5
 mul-result-5 c = search valuing
 
--- src/sequence.rt:117:5
 add-result-4 : tie.Need-add-result-4
 add-result-4 c = search valuing
 
--- src/sequence.rt:117:36
 mul-result-6 : tie.Need-mul-result-6
 mul-result-6 c = search valuing
 
--- src/sequence.rt:117:5
 add-result-5 : tie.Need-add-result-5
 add-result-5 c = search valuing
 
--- src/sequence.rt:117:5
 add-result-6 : tie.Need-add-result-6
 add-result-6 c = search valuing
 
--- src/sequence.rt:101:1
 returns-4 : tie.Need-returns-4
 returns-4 c = search valuing
 

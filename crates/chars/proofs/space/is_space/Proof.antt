@@ -1,10 +1,9 @@
+-- `is_space` meets its contract: its four bytes are the four ranges of [3].
+-- proofs/Spaces.antt has the law.
 use Rattle.chars.proofs.Spaces.{spacing}
 use Rattle.chars.proofs.space.is_space.Statement.{statement}
 use Rattle.chars.proofs.space.is_space.Tie as tie
-use Rattle.chars.proofs.space.is_space.Reads as reads
-use Rattle.chars.proofs.space.is_space.Lts as lts
 
--- src/space.rt:6:1
 returns : tie.Need-returns
 returns c = search spacing
 
