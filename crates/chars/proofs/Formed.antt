@@ -31,7 +31,8 @@ second (some r) = ltb 0 (r .low)
 -- each row begins from n on, after the rows before it
 abbrev rising : ℕ → List Row → Bool
 rising n [] = true
-rising n (r ∷ rs) = (leb n (r .first .low) && leb (r .first .low) (r .first .high)) && second (r .second) && rising (suc (r .first .high)) rs
+rising n (r ∷ rs) =
+    leb n (r .first .low) && leb (r .first .low) (r .first .high) && second (r .second) && rising (suc (r .first .high)) rs
 
 -- the row's ranges are not empty, and b is a second byte of it
 abbrev hit : List ℕ → ℕ → Bool
@@ -77,13 +78,14 @@ module _ (a : ℕ) where
       go true e none k rec = absurd (false≢true k)
       go true e (some q) k rec =
           let (l, h) = inside-bounds (r .first) a e in
-          rw (row-before (suc (r .first .high)) rs (b ∷ v) (then-rising n r rs up) (omega arith), le-ltb (r .first .high) (r .first .low) (omega arith))
-          (or-false _)
+          let none-later = row-before (suc (r .first .high)) rs (b ∷ v) (then-rising n r rs up) (omega arith) in
+          rw (none-later, le-ltb (r .first .high) (r .first .low) (omega arith)) (or-false _)
       go false e q k rec = rec
 
   hit-zero : (n : ℕ) (rs : List Row) → rising n rs ≡ true → hit (cellsIn rs a) 0 ≡ false
   hit-zero n [] up = refl
-  hit-zero n (r ∷ rs) up = go (inside (r .first) a) (r .second) (has-second n r rs up) (hit-zero (suc (r .first .high)) rs (then-rising n r rs up))
+  hit-zero n (r ∷ rs) up =
+      go (inside (r .first) a) (r .second) (has-second n r rs up) (hit-zero (suc (r .first .high)) rs (then-rising n r rs up))
     where
       go : (x : Bool) (q : Option Range) → second q ≡ true → hit (cellsIn rs a) 0 ≡ false
           → hit (cond x (r .first .low ∷ r .first .high ∷ seconds q) (cellsIn rs a)) 0 ≡ false

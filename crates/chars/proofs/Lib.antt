@@ -11,3 +11,5 @@ pub mod Runs
 pub mod Names
 pub mod Checks
 pub mod Meaning
+pub mod OneAnswer
+pub mod Examples

@@ -17,7 +17,8 @@ use Rattle.xml.specs.Character.{character, starts, wide, run}
 use Rattle.xml.proofs.Bools.{true-false}
 use Rattle.xml.proofs.Utf8.{utf8-long}
 use Rattle.xml.proofs.Character.{character-none, character-scalar, character-split, utf8-once}
-use Rattle.xml.proofs.Run.{starts-reads, reads-starts, starts-not, starts-nil, run-reads, run-stops, run-only, run-step, run-drop, run-length}
+use Rattle.xml.proofs.Run.{starts-reads, reads-starts, starts-not, starts-nil}
+use Rattle.xml.proofs.Run.{run-reads, run-stops, run-only, run-step, run-drop, run-length}
 use Rattle.chars.specs.Place.{endsAt}
 use Rattle.chars.specs.Sequence.{pointAt, sequenceAt}
 use Rattle.chars.specs.Check.{checkedBy, checkOf}

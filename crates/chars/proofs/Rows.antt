@@ -1,19 +1,21 @@
 -- The tests by which one sequence is read: the row of a first byte, sizes, values, [2] Char by its borders. Each law is one way through the
 -- code of sequence.rt.
 use mathlib.Core.Path.{_≡_, refl, sym, ap, _∙_}
-use mathlib.Core.Bool.{Bool, true, false, cond, not, _&&_, _||_}
+use mathlib.Core.Bool.{Bool, true, false, cond, not, _&&_, _||_, or-assoc, or-false}
 use mathlib.Core.List.{List, [], _∷_}
 use Prim.Native.Nat.{ℕ, zero, suc, _+_, _-_, _*_, _%_, _≤_, _<_}
 use native.Mathlib.Nat.{le-of-suc-le-suc, not-suc-le-zero}
 use native.Mathlib.Numerals.{add-one}
 use native.Mathlib.Omega.{arith}
 use borrow.Author.Needs.{needs}
-use borrow.Author.Tests.{le-leb, lt-leb, lt-ltb, le-ltb, leb-true, leb-false, ltb-true, ltb-false, eq-eqb, ne-eqb, not-true, not-false}
+use borrow.Author.Tests.{le-leb, lt-leb, lt-ltb, le-ltb, ltb-true, ltb-false, not-true, not-false}
 use lib.Dec.{eqb, leb, ltb}
 use lib.ListN.{length, getD, drop, List·getD-eq-default}
 use Rattle.xml.specs.Utf8.{Row, rows, sizeOf}
 use Rattle.xml.specs.Character.{valueOf}
 use Rattle.xml.specs.Productions.{isChar}
+use Rattle.xml.proofs.Bools.{only-equal}
+use Rattle.xml.proofs.Utf8.{size-one, size-two, size-three, size-four}
 use Rattle.xml.specs.Range.{inside, _–_}
 use Rattle.chars.specs.Sequence.{cellRows, cellsIn, cellsOf, formedBy, formed}
 
@@ -26,23 +28,19 @@ pub ruleset byting = (byte-none, needs)
 
 -- ---- `size_of`
 
-pub size-one : {a : ℕ} → a < 0x80 → 1 ≡ sizeOf a
-unfolding sizeOf
-size-one {a} h = sym (rw (lt-ltb a 0x80 h))
+pub one-byte : {a : ℕ} → a < 0x80 → 1 ≡ sizeOf a
+one-byte {a} h = sym (size-one a h)
 
-pub size-two : {a : ℕ} → 0x80 ≤ a → a < 0xE0 → 2 ≡ sizeOf a
-unfolding sizeOf
-size-two {a} l h = sym (rw (le-ltb a 0x80 l, lt-ltb a 0xE0 h))
+pub two-bytes : {a : ℕ} → 0x80 ≤ a → a < 0xE0 → 2 ≡ sizeOf a
+two-bytes {a} l h = sym (size-two a l h)
 
-pub size-three : {a : ℕ} → 0xE0 ≤ a → a < 0xF0 → 3 ≡ sizeOf a
-unfolding sizeOf
-size-three {a} l h = sym (rw (le-ltb a 0x80 (omega arith), le-ltb a 0xE0 l, lt-ltb a 0xF0 h))
+pub three-bytes : {a : ℕ} → 0xE0 ≤ a → a < 0xF0 → 3 ≡ sizeOf a
+three-bytes {a} l h = sym (size-three a l h)
 
-pub size-four : {a : ℕ} → 0xF0 ≤ a → 4 ≡ sizeOf a
-unfolding sizeOf
-size-four {a} l = sym (rw (le-ltb a 0x80 (omega arith), le-ltb a 0xE0 (omega arith), le-ltb a 0xF0 l))
+pub four-bytes : {a : ℕ} → 0xF0 ≤ a → 4 ≡ sizeOf a
+four-bytes {a} l = sym (size-four a l)
 
-pub ruleset sizing = (size-one, size-two, size-three, size-four, needs)
+pub ruleset sizing = (one-byte, two-bytes, three-bytes, four-bytes, needs)
 
 -- ---- `value_of`
 
@@ -119,20 +117,6 @@ pub ruleset rowing = (row-here, row-under, row-over, row-none, needs)
 
 -- ---- `is_char`: the ranges by their borders
 
-pub equal-both : (c a : ℕ) → eqb c a ≡ (leb a c && leb c a)
-equal-both c a = go (leb a c) (leb c a) refl refl
-  where
-    go : (x y : Bool) → leb a c ≡ x → leb c a ≡ y → eqb c a ≡ (x && y)
-    go true true p q = eq-eqb c a (let l = leb-true a c p in let m = leb-true c a q in omega arith)
-    go true false p q = ne-eqb c a (λ e. let m = leb-false c a q in omega arith)
-    go false y p q = ne-eqb c a (λ e. let m = leb-false a c p in omega arith)
-
-or-assoc : (x y z : Bool) → (x || y) || z ≡ x || (y || (z || false))
-or-assoc true y z = refl
-or-assoc false true z = refl
-or-assoc false false true = refl
-or-assoc false false false = refl
-
 -- from 0x20 on three ranges are left
 abbrev above : ℕ → Bool
 above c = leb 0x20 c && leb c 0xD7FF || (leb 0xE000 c && leb c 0xFFFD || (leb 0x10000 c && leb c 0x10FFFF || false))
@@ -153,8 +137,15 @@ module _ {c : ℕ} where
   pub char-control : c < 0x20 → (eqb c 0x9 || eqb c 0xA) || eqb c 0xD ≡ isChar c
   unfolding isChar
   char-control h =
-      rw (equal-both c 0x9, equal-both c 0xA, equal-both c 0xD, lt-leb 0x20 c h, lt-leb 0xE000 c (omega arith), lt-leb 0x10000 c (omega arith))
-      (or-assoc (leb 0x9 c && leb c 0x9) (leb 0xA c && leb c 0xA) (leb 0xD c && leb c 0xD))
+      rw (
+        only-equal c 0x9,
+        only-equal c 0xA,
+        only-equal c 0xD,
+        lt-leb 0x20 c h,
+        lt-leb 0xE000 c (omega arith),
+        lt-leb 0x10000 c (omega arith),
+      )
+      (simp (or-assoc, or-false))
 
   pub char-basic : 0x20 ≤ c → c < 0xD800 → true ≡ isChar c
   char-basic h k = sym (char-above c h ∙ rw (le-leb 0x20 c h, le-leb c 0xD7FF (omega arith)))

@@ -1,5 +1,5 @@
--- Loops over runs of characters of a class: what is left is run through. In order: what one found sequence says; the loop's invariant, how it
--- goes on and where it ends; classes of ASCII characters, which a byte tells.
+-- Loops over runs of characters of a class: what is left is run through. In order: what one found sequence says; the loop's invariant, how
+-- it goes on and where it ends; classes of ASCII characters, which a byte tells.
 use mathlib.Core.Path.{_≡_, refl, sym, ap, _∙_}
 use mathlib.Core.Bool.{Bool, true, false}
 use mathlib.Core.List.{List, [], _∷_}

@@ -1,6 +1,6 @@
 -- White space: by its four bytes, and runs of it.
-use mathlib.Core.Path.{_≡_, refl, sym, _∙_}
-use mathlib.Core.Bool.{Bool, true, false, not, _&&_, _||_, and-false, or-false}
+use mathlib.Core.Path.{_≡_, sym, _∙_}
+use mathlib.Core.Bool.{Bool, true, false, not, _||_, and-false, or-assoc, or-false}
 use mathlib.Core.List.{List}
 use Prim.Native.Nat.{ℕ, _+_, _≤_, _<_}
 use native.Mathlib.Omega.{arith}
@@ -10,21 +10,14 @@ use borrow.Author.Needs.{needs}
 use borrow.Author.Tests.{lt-leb, not-true, not-false}
 use Rattle.xml.specs.Character.{starts}
 use Rattle.xml.specs.Productions.{isSpace}
+use Rattle.xml.proofs.Bools.{only-equal}
 use Rattle.chars.specs.Space.{spaceEnd}
-use Rattle.chars.proofs.Rows.{equal-both}
 use Rattle.chars.proofs.Runs.{Running, run-start, run-ends, run-over, run-on, Ascii, starts-byte, byte-wide}
-
-or-four : (x y z w : Bool) → ((x || y) || z) || w ≡ x || (y || (z || (w || false)))
-or-four true y z w = refl
-or-four false true z w = refl
-or-four false false true w = refl
-or-four false false false w = sym (or-false w)
 
 pub space-four : (b : ℕ) → ((eqb b 0x20 || eqb b 0x9) || eqb b 0xD) || eqb b 0xA ≡ isSpace b
 unfolding isSpace
 space-four b =
-    rw (equal-both b 0x20, equal-both b 0x9, equal-both b 0xD, equal-both b 0xA)
-    (or-four (leb 0x20 b && leb b 0x20) (leb 0x9 b && leb b 0x9) (leb 0xD b && leb b 0xD) (leb 0xA b && leb b 0xA))
+    rw (only-equal b 0x20, only-equal b 0x9, only-equal b 0xD, only-equal b 0xA) (simp (or-assoc, or-false))
 
 -- ---- the run
 

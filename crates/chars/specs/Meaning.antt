@@ -1,5 +1,5 @@
--- What each answer says, in the words of the grammar: one relation for each kind of answer, by its cases. proofs/Meaning.antt shows that the
--- definitions which the contracts cite give the one answer that says so.
+-- What each answer says, in the words of the grammar: one relation for each kind of answer, by its cases. proofs/Meaning.antt shows that
+-- the definitions which the contracts cite give the one answer that says so.
 use mathlib.Core.Path.{_≡_}
 use mathlib.Core.Bool.{true}
 use mathlib.Core.List.{List, [], _++_}

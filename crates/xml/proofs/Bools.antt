@@ -4,9 +4,10 @@ use mathlib.Core.Path.{_≡_, refl, sym, _∙_}
 use mathlib.Core.Bool.{Bool, true, false, _&&_, _||_, and-eq-true-iff, true≢false}
 use mathlib.Core.Logic.{_⊎_, inl, inr}
 use Prim.Native.Nat.{ℕ, _≤_}
-use lib.Dec.{leb}
-use borrow.Author.Tests.{leb-true, le-leb}
-use Rattle.xml.specs.Range.{Range, inside}
+use native.Mathlib.Omega.{arith}
+use lib.Dec.{eqb, leb}
+use borrow.Author.Tests.{leb-true, leb-false, le-leb, eq-eqb, ne-eqb}
+use Rattle.xml.specs.Range.{Range, only, inside}
 
 pub and-left : (a b : Bool) → a && b ≡ true → a ≡ true
 and-left a b e = and-eq-true-iff a b .0 e .0
@@ -37,3 +38,12 @@ inside-bounds r c e =
 
 pub bounds-inside : (r : Range) (c : ℕ) → r .low ≤ c → c ≤ r .high → inside r c ≡ true
 bounds-inside r c l h = and-both (leb (r .low) c) _ (le-leb (r .low) c l) (le-leb c (r .high) h)
+
+-- the range of one number has that number alone
+pub only-equal : (c a : ℕ) → eqb c a ≡ inside (only a) c
+only-equal c a = go (leb a c) (leb c a) refl refl
+  where
+    go : (x y : Bool) → leb a c ≡ x → leb c a ≡ y → eqb c a ≡ (x && y)
+    go true true p q = eq-eqb c a (let l = leb-true a c p in let m = leb-true c a q in omega arith)
+    go true false p q = ne-eqb c a (λ e. let m = leb-false c a q in omega arith)
+    go false y p q = ne-eqb c a (λ e. let m = leb-false a c p in omega arith)

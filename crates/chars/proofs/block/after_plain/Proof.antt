@@ -41,7 +41,9 @@ loop-less c = search seeking
 
 loop-again : tie.Need-loop-again Inv-loop μ-loop
 loop-again c =
-    seek-on (seek-block (c .before .before .before .before .loop .inv) (search needs) (c .before .before .plain16 .ensures) (search needs)) (c .after-blocks .ensures)
+    let at = c .before .before .before .before in
+    let block = seek-block (at .loop .inv) (search needs) (c .before .before .plain16 .ensures) (search needs) in
+    seek-on block (c .after-blocks .ensures)
 
 plain-tail-requires : tie.Need-plain-tail-requires Inv-loop μ-loop
 plain-tail-requires c κs = search seeking

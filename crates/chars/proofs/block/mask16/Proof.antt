@@ -51,8 +51,10 @@ loop-less c = search needs
 
 loop-again : tie.Need-loop-again Inv-loop μ-loop
 loop-again c =
-    let p : ℕ → Bool = λ k. isOther (getD (c .before .before .before .before .before .args .s .now) (c .before .before .before .before .before .args .i + k) 0) in
-    (omega arith, rw (c .before .before .before .loop .inv .1, c .is-other .ensures) (mask-turn p (c .before .before .before .loop .j) (omega arith)))
+    let at = c .before .before .before in
+    let start = at .before .before .args in
+    let p : ℕ → Bool = λ k. isOther (getD (start .s .now) (start .i + k) 0) in
+    (omega arith, rw (at .loop .inv .1, c .is-other .ensures) (mask-turn p (at .loop .j) (omega arith)))
 
 returns : tie.Need-returns Inv-loop μ-loop
 returns c =

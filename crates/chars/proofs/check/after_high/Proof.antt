@@ -46,7 +46,9 @@ enum-told : tie.Need-enum-told Inv-loop μ-loop
 enum-told c = search highing
 
 returns-3 : tie.Need-returns-3 Inv-loop μ-loop
-returns-3 c = high-bad (c .before .before .before .before .before .before .loop .inv) (search needs) (c .before .before .sequence-at .ensures) (search needs)
+returns-3 c =
+    let found = c .before .before in
+    high-bad (found .before .before .before .before .loop .inv) (search needs) (found .sequence-at .ensures) (search needs)
 
 returns-4 : tie.Need-returns-4 Inv-loop μ-loop
 returns-4 c = search highing

@@ -33,9 +33,12 @@ add-t14 c = search pointing
 
 returns-2 : tie.Need-returns-2
 returns-2 c =
-    point-good (c .before .before .before .before .before .before .before .before .before .before .args .s .now) (c .before .before .before .before .before .before .before .before .before .before .args .at) (c .before .before .before .before .before .before .before .before .if1 .left)
-    (c .before .before .before .before .before .before .byte-after .ensures) (c .before .before .before .before .before .byte-after2 .ensures) (c .before .before .before .before .byte-after3 .ensures) (c .before .before .before .is-formed .ensures)
-    (c .before .before .if2 .taken) (c .before .value-of .ensures) (c .size-of .ensures .0)
+    let tested = c .before .before .before in
+    let bytes = tested .before .before .before in
+    let start = bytes .before .before .before .before in
+    point-good (start .args .s .now) (start .args .at) (bytes .before .before .if1 .left)
+    (bytes .byte-after .ensures) (tested .before .before .byte-after2 .ensures) (tested .before .byte-after3 .ensures)
+    (tested .is-formed .ensures) (c .before .before .if2 .taken) (c .before .value-of .ensures) (c .size-of .ensures .0)
 
 returns-3 : tie.Need-returns-3
 returns-3 c = search pointing
