@@ -25,9 +25,9 @@ sequence-at-one s at r r′ = both
 pub is-char-one : (c : ℕ) (r r′ : Bool) → r ≡ isChar c → r′ ≡ isChar c → r ≡ r′
 is-char-one c r r′ = both
 
--- `class::table`
-pub table-one : (r r′ : List ℕ) → r ≡ classTable → r′ ≡ classTable → r ≡ r′
-table-one r r′ = both
+-- `table::classes`
+pub classes-one : (r r′ : List ℕ) → r ≡ classTable → r′ ≡ classTable → r ≡ r′
+classes-one r r′ = both
 
 -- `class::class_of`
 pub class-of-one : (c r r′ : ℕ) → r ≡ classOf c → r′ ≡ classOf c → r ≡ r′

@@ -6,11 +6,11 @@ ghost use Rattle.xml.specs.Character.{starts};
 ghost use Rattle.xml.specs.Productions.{isNameStart};
 ghost use Rattle.chars.specs.Class.{classTable};
 ghost use Rattle.chars.specs.Name.{nameAt, nameEnd, nameStep};
-use crate::class::Classes;
 use crate::class::class_of;
-use crate::class::table;
 use crate::sequence::Sequence;
 use crate::sequence::sequence_at;
+use crate::table::Classes;
+use crate::table::classes;
 
 // Where a reading from a place on ends; or that there is nothing to read.
 pub enum Reading {
@@ -82,6 +82,6 @@ pub fn name_by(classes: &Classes, s: &[u8], at: usize) -> Reading
 pub fn name(s: &[u8], at: usize) -> Reading
     ensures { λ r. ⌜ r ≡ nameAt (now (s .entry)) at ⌝ }
 {
-    let classes = table();
-    name_by(&classes, s, at)
+    let lent = classes();
+    name_by(&lent, s, at)
 }
