@@ -1,15 +1,13 @@
-pub mod Place
 pub mod Mask
 pub mod Until
 pub mod Plain
 pub mod Ranges
-pub mod Rows
 pub mod Classes
 pub mod Spaces
-pub mod Formed
 pub mod Runs
 pub mod Names
 pub mod Checks
 pub mod Meaning
 pub mod OneAnswer
 pub mod Examples
+pub mod Borders

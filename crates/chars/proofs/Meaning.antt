@@ -1,42 +1,33 @@
--- Each definition that a contract cites gives an answer that says what specs/Meaning.antt has, and no other answer says it. In order:
--- sequences, the check, names, white space, classes.
+-- Each definition that a contract cites gives an answer that says what specs/Meaning.antt has, and no other answer says it. In order: the
+-- check, names, white space.
 use mathlib.Core.Path.{_≡_, refl, sym, ap, _∙_}
 use mathlib.Core.Bool.{Bool, true, false, cond}
-use mathlib.Core.List.{List, [], _∷_, _++_}
-use mathlib.Core.Option.{Option, none, some}
-use Prim.Native.Nat.{ℕ, _+_, _-_, _≤_, _<_}
+use mathlib.Core.List.{List, [], _∷_}
+use mathlib.Core.Option.{none, some}
+use Prim.Native.Nat.{ℕ, _+_, _-_, _≤_}
 use native.Mathlib.Omega.{arith}
 use lib.Dec.{leb}
 use borrow.Author.Tests.{leb-true, leb-false}
-use lib.ListN.{length, getD, drop, length-drop, length-append}
+use lib.ListN.{length, getD, drop, length-drop}
 use lib.Seq.{drop-drop}
-use Rattle.xml.specs.Utf8.{utf8}
 use Rattle.xml.specs.Notation.{Reads, Star, done, more, char, _∗}
 use Rattle.xml.specs.Productions.{Char, isChar, isSpace, isNameStart, isName, NameStartChar, NameChar, Name}
 use Rattle.xml.specs.Character.{character, starts, wide, run}
 use Rattle.xml.proofs.Bools.{true-false}
-use Rattle.xml.proofs.Utf8.{utf8-long}
-use Rattle.xml.proofs.Character.{character-none, character-scalar, character-split, utf8-once}
 use Rattle.xml.proofs.Run.{starts-reads, reads-starts, starts-not, starts-nil}
 use Rattle.xml.proofs.Run.{run-reads, run-stops, run-only, run-step, run-drop, run-length}
-use Rattle.chars.specs.Place.{endsAt}
-use Rattle.chars.specs.Sequence.{pointAt, sequenceAt}
+use Rattle.utf8.specs.Place.{endsAt}
 use Rattle.chars.specs.Check.{checkedBy, checkOf}
 use Rattle.chars.specs.Name.{nameOf, readingAt, nameAt}
 use Rattle.chars.specs.Space.{spaceEnd}
-use Rattle.chars.specs.Meaning.{SequenceSays, CheckSays, numberOf, NameSays, SpaceSays}
-use Rattle.chars.specs.declared.sequence.Sequence.{Sequence}
-use Rattle.chars.specs.declared.sequence.Sequence.the-variants.{Point, Bad}
+use Rattle.chars.specs.Meaning.{CheckSays, numberOf, NameSays, SpaceSays}
 use Rattle.chars.specs.declared.check.Checked.{Checked}
 use Rattle.chars.specs.declared.check.Checked.the-variants.{All, BadAt}
 use Rattle.chars.specs.declared.name.Reading.{Reading}
 use Rattle.chars.specs.declared.name.Reading.the-variants.{Ends, Fault}
-use Rattle.chars.proofs.Place.{drop-step, drop-end}
+use Rattle.utf8.proofs.Place.{drop-step, drop-end}
 
--- ---- places that leave the same are the same
-
-same-place : (d : List ℕ) (e e′ : ℕ) → e ≤ length d → e′ ≤ length d → drop e d ≡ drop e′ d → e ≡ e′
-same-place d e e′ h h′ q = omega (arith, length-drop e d, length-drop e′ d, ap length q)
+-- ---- no character of a class
 
 not-starts : (p : ℕ → Bool) (s : List ℕ) → ((t : List ℕ) → Reads (char p) s t → ⊥) → starts p s ≡ false
 not-starts p s n = go (starts p s) refl
@@ -44,31 +35,6 @@ not-starts p s n = go (starts p s) refl
     go : (b : Bool) → starts p s ≡ b → b ≡ false
     go true y = absurd (n _ (starts-reads p s y))
     go false y = refl
-
--- ---- sequences
-
-at-width : (d : List ℕ) (at : ℕ) (w t : List ℕ) → 0 < length w → drop at d ≡ w ++ t → at + length w ≤ length d
-at-width d at w t h e =
-    let n = ap length e ∙ length-append w t in
-    omega (arith, length-drop at d)
-
-pub sequence-says : (d : List ℕ) (at : ℕ) → SequenceSays d at (sequenceAt d at)
-unfolding sequenceAt
-sequence-says d at = go (character (drop at d)) refl
-  where
-    go : (o : Option ℕ) → character (drop at d) ≡ o → SequenceSays d at (pointAt at o)
-    go none e = λ c t h q. character-none (drop at d) e c t h q
-    go (some c) e =
-        let s = character-split (drop at d) c e in
-        (character-scalar (drop at d) c e, s ∙ rw drop-drop, at-width d at (utf8 c) _ (utf8-long c) s)
-
-pub sequence-only : (d : List ℕ) (at : ℕ) (r r′ : Sequence) → SequenceSays d at r → SequenceSays d at r′ → r ≡ r′
-sequence-only d at Bad Bad p q = refl
-sequence-only d at Bad (Point c e) p (h, s, l) = absurd (p c (drop e d) h s)
-sequence-only d at (Point c e) Bad (h, s, l) q = absurd (q c (drop e d) h s)
-sequence-only d at (Point c e) (Point c′ e′) (h, s, l) (h′, s′, l′) =
-    let (a, b) = utf8-once h h′ (sym s ∙ s′) in
-    rw (a, same-place d e e′ l l′ b)
 
 -- ---- the check
 

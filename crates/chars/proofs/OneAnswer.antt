@@ -5,23 +5,17 @@ use mathlib.Core.Bool.{Bool}
 use mathlib.Core.List.{List}
 use Prim.Native.Nat.{ℕ}
 use Rattle.xml.specs.Productions.{isChar, isSpace}
-use Rattle.chars.specs.Sequence.{sequenceAt}
 use Rattle.chars.specs.Class.{classOf, classTable}
 use Rattle.chars.specs.Check.{checkOf}
 use Rattle.chars.specs.Space.{spaceEnd}
 use Rattle.chars.specs.Name.{nameAt}
-use Rattle.chars.specs.declared.sequence.Sequence.{Sequence}
 use Rattle.chars.specs.declared.check.Checked.{Checked}
 use Rattle.chars.specs.declared.name.Reading.{Reading}
 
 both : {A : Type 0} {x r r′ : A} → r ≡ x → r′ ≡ x → r ≡ r′
 both p q = p ∙ sym q
 
--- `sequence::sequence_at`
-pub sequence-at-one : (s : List ℕ) (at : ℕ) (r r′ : Sequence) → r ≡ sequenceAt s at → r′ ≡ sequenceAt s at → r ≡ r′
-sequence-at-one s at r r′ = both
-
--- `sequence::is_char`
+-- `allowed::is_char`
 pub is-char-one : (c : ℕ) (r r′ : Bool) → r ≡ isChar c → r′ ≡ isChar c → r ≡ r′
 is-char-one c r r′ = both
 

@@ -9,7 +9,7 @@ use lib.Dec.{eqb, leb, ltb}
 use Rattle.xml.specs.Productions.{isChar}
 use Rattle.xml.proofs.Bools.{and-left, and-right}
 use Rattle.chars.specs.Block.{isOther}
-use Rattle.chars.proofs.Rows.{char-control, char-basic}
+use Rattle.chars.proofs.Borders.{char-control, char-basic}
 
 module _ (b : ℕ) where
   pub other-test : (ltb b 0x20 || leb 0x80 b) && not ((eqb b 0x9 || eqb b 0xA) || eqb b 0xD) ≡ isOther b

@@ -9,7 +9,7 @@ use borrow.Author.Needs.{needs}
 use borrow.Author.Tests.{le-leb, lt-leb}
 use lib.ListN.{length, getD, drop}
 use Rattle.chars.specs.Class.{pairs}
-use Rattle.chars.proofs.Place.{drop-step, drop-end}
+use Rattle.utf8.proofs.Place.{drop-step, drop-end}
 
 drop-two : (s : List ℕ) (i : ℕ) → i + 1 < length s → drop i s ≡ getD s i 0 ∷ getD s (i + 1) 0 ∷ drop (i + 2) s
 drop-two s i h =

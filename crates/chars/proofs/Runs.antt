@@ -16,11 +16,11 @@ use Rattle.xml.proofs.Bools.{true-false}
 use Rattle.xml.proofs.Utf8.{utf8-low, utf8-long}
 use Rattle.xml.proofs.Character.{character-low, character-high, character-split}
 use Rattle.xml.proofs.Run.{starts-found, starts-low, run-step, run-stop}
-use Rattle.chars.specs.Place.{endsAt, Stands}
-use Rattle.chars.specs.Sequence.{pointAt, sequenceAt}
-use Rattle.chars.specs.declared.sequence.Sequence.{Sequence}
-use Rattle.chars.specs.declared.sequence.Sequence.the-variants.{Point, Bad}
-use Rattle.chars.proofs.Place.{drop-step, drop-end, stands-ends}
+use Rattle.utf8.specs.Place.{endsAt, Stands}
+use Rattle.utf8.specs.Sequence.{pointAt, sequenceAt}
+use Rattle.utf8.specs.declared.Sequence.{Sequence}
+use Rattle.utf8.specs.declared.Sequence.the-variants.{Point, Bad}
+use Rattle.utf8.proofs.Place.{drop-step, drop-end, stands-ends}
 
 -- ---- what one sequence says
 

@@ -12,8 +12,8 @@ use lib.Dec.{eqb}
 use lib.ListN.{length, getD, drop}
 use Rattle.xml.proofs.Bools.{true-false}
 use Rattle.chars.specs.Block.{until, Skips, someOf, First}
-use Rattle.chars.specs.Place.{Stands}
-use Rattle.chars.proofs.Place.{drop-step, drop-end}
+use Rattle.utf8.specs.Place.{Stands}
+use Rattle.utf8.proofs.Place.{drop-step, drop-end}
 
 until-here : (p : ℕ → Bool) (d : List ℕ) (i : ℕ) → i < length d → p (getD d i 0) ≡ true → until p (drop i d) ≡ drop i d
 unfolding until

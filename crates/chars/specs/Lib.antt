@@ -1,5 +1,3 @@
-pub mod Place
-pub mod Sequence
 pub mod Class
 pub mod Block
 pub mod Check

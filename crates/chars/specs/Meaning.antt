@@ -1,24 +1,15 @@
 -- What each answer says, in the words of the grammar: one relation for each kind of answer, by its cases. proofs/Meaning.antt shows that
 -- the definitions which the contracts cite give the one answer that says so.
 use mathlib.Core.Path.{_≡_}
-use mathlib.Core.Bool.{true}
-use mathlib.Core.List.{List, [], _++_}
+use mathlib.Core.List.{List, []}
 use Prim.Native.Nat.{ℕ, _≤_, _<_}
 use lib.ListN.{length, drop}
-use Rattle.xml.specs.Utf8.{utf8, isScalar}
 use Rattle.xml.specs.Notation.{Reads, char, _∗}
 use Rattle.xml.specs.Productions.{Char, isSpace, NameChar, Name}
-use Rattle.chars.specs.declared.sequence.Sequence.{Sequence}
-use Rattle.chars.specs.declared.sequence.Sequence.the-variants.{Point, Bad}
 use Rattle.chars.specs.declared.check.Checked.{Checked}
 use Rattle.chars.specs.declared.check.Checked.the-variants.{All, BadAt}
 use Rattle.chars.specs.declared.name.Reading.{Reading}
 use Rattle.chars.specs.declared.name.Reading.the-variants.{Ends, Fault}
-
--- at the place at stands the scalar value c in UTF-8, and it ends at e; or no scalar value stands there
-abbrev pub SequenceSays : List ℕ → ℕ → Sequence → Type 0
-SequenceSays d at (Point c e) = (isScalar c ≡ true) × (drop at d ≡ utf8 c ++ drop e d) × (e ≤ length d)
-SequenceSays d at Bad = (c : ℕ) (t : List ℕ) → isScalar c ≡ true → drop at d ≡ utf8 c ++ t → ⊥
 
 -- all of d is Char*; or all before the place o is, and no Char stands at o
 abbrev pub CheckSays : List ℕ → Checked → Type 0

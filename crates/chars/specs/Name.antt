@@ -6,7 +6,7 @@ use Prim.Native.Nat.{ℕ, _+_}
 use lib.ListN.{drop}
 use Rattle.xml.specs.Character.{character, starts, wide, run}
 use Rattle.xml.specs.Productions.{isNameStart, isName}
-use Rattle.chars.specs.Place.{endsAt}
+use Rattle.utf8.specs.Place.{endsAt}
 use Rattle.chars.specs.declared.name.Reading.{Reading}
 use Rattle.chars.specs.declared.name.Reading.the-variants.{Ends, Fault}
 

@@ -4,7 +4,7 @@ use Prim.Native.Nat.{ℕ}
 use lib.ListN.{drop}
 use Rattle.xml.specs.Character.{run}
 use Rattle.xml.specs.Productions.{isSpace}
-use Rattle.chars.specs.Place.{endsAt}
+use Rattle.utf8.specs.Place.{endsAt}
 
 unfoldable pub spaceEnd : List ℕ → ℕ → ℕ
 spaceEnd d at = endsAt d at (run isSpace 0 (drop at d))

@@ -7,7 +7,7 @@ ghost use mathlib.Core.Path.{_≡_};
 ghost use Prim.Native.Nat.{_+_, _≤_};
 ghost use lib.ListN.{length, getD, drop};
 ghost use Rattle.chars.specs.Block.{isOther, someOf, maskOf, First, until, Skips};
-ghost use Rattle.chars.specs.Place.{Stands};
+ghost use Rattle.utf8.specs.Place.{Stands};
 
 // Whether b is no ASCII character that XML allows.
 fn is_other(b: u8) -> bool

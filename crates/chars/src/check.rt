@@ -3,12 +3,12 @@ ghost use mathlib.Core.Path.{_≡_};
 ghost use Prim.Native.Nat.{_≤_};
 ghost use lib.ListN.{length, drop};
 ghost use Rattle.xml.specs.Character.{run};
-ghost use Rattle.chars.specs.Place.{Stands};
+ghost use Rattle.utf8.specs.Place.{Stands};
 ghost use Rattle.chars.specs.Check.{checkOf, isHigh};
+use crate::allowed::is_char;
 use crate::block::after_plain;
-use crate::sequence::Sequence;
-use crate::sequence::is_char;
-use crate::sequence::sequence_at;
+use utf8::Sequence;
+use utf8::sequence_at;
 
 // Every byte belongs to a character that XML allows; or the first sequence that does not begins at a place.
 pub enum Checked {

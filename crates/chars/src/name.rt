@@ -7,10 +7,10 @@ ghost use Rattle.xml.specs.Productions.{isNameStart};
 ghost use Rattle.chars.specs.Class.{classTable};
 ghost use Rattle.chars.specs.Name.{nameAt, nameEnd, nameStep};
 use crate::class::class_of;
-use crate::sequence::Sequence;
-use crate::sequence::sequence_at;
 use crate::table::Classes;
 use crate::table::classes;
+use utf8::Sequence;
+use utf8::sequence_at;
 
 // Where a reading from a place on ends; or that there is nothing to read.
 pub enum Reading {
