@@ -2,6 +2,8 @@
 // where an answer differs from the one before: whether a sequence stands there that has this code point and this length, whether all is
 // characters, the class, and the class that the name reader shows.
 ghost use mathlib.Core.Path.{_≡_};
+ghost use Prim.Native.Nat.{_<_};
+ghost use lib.ListN.{length};
 ghost use Rattle.chars.specs.Class.{classTable};
 use crate::out;
 use chars::check::Checked;
@@ -41,8 +43,8 @@ fn is_name(classes: &Classes, s: &[u8]) -> bool
     }
 }
 
-// The class by the name reader, from the bytes s of a code point and t, which has a letter before them: 2 starts a name, 1 only goes on
-// with one, 0 does neither. 3, which starts a name and does not go on with one, is no class.
+// The class by the name reader, of a code point whose bytes are s, and t has a letter before them: 2 starts a name, 1 only goes on with
+// one, 0 does neither. 3, which starts a name and does not go on with one, is no class.
 fn read_class(classes: &Classes, s: &[u8], t: &[u8]) -> u8
     requires { ⌜ now classes ≡ classTable ⌝ }
 {
@@ -54,9 +56,11 @@ fn read_class(classes: &Classes, s: &[u8], t: &[u8]) -> u8
     }
 }
 
-fn look(classes: &Classes, c: u32, s: &[u8], t: &[u8]) -> Seen
-    requires { ⌜ now classes ≡ classTable ⌝ }
+// What is seen of c, whose bytes t has after a letter.
+fn look(classes: &Classes, c: u32, t: &[u8]) -> Seen
+    requires { ⌜ (now classes ≡ classTable) × (0 < length (now t)) ⌝ }
 {
+    let s = &t[1..];
     let sequence = is_sequence(s, c);
     let allowed = is_allowed(s);
     let class = chars::class::class_of(classes, c);
@@ -79,11 +83,11 @@ fn look_short(classes: &Classes, c: u32) -> Seen
 {
     if c < 0x80 {
         let a = (c % 0x80) as u8;
-        return look(classes, c, &[a], &[b'a', a]);
+        return look(classes, c, &[b'a', a]);
     }
     let a = 0xC0 + (c / 0x40 % 0x20) as u8;
     let b = later(c);
-    look(classes, c, &[a, b], &[b'a', a, b])
+    look(classes, c, &[b'a', a, b])
 }
 
 fn look_long(classes: &Classes, c: u32) -> Seen
@@ -93,11 +97,11 @@ fn look_long(classes: &Classes, c: u32) -> Seen
     let z = later(c);
     if c < 0x10000 {
         let a = 0xE0 + (c / 0x1000 % 0x10) as u8;
-        return look(classes, c, &[a, y, z], &[b'a', a, y, z]);
+        return look(classes, c, &[b'a', a, y, z]);
     }
     let a = 0xF0 + (c / 0x40000 % 8) as u8;
     let x = later(c / 0x1000);
-    look(classes, c, &[a, x, y, z], &[b'a', a, x, y, z])
+    look(classes, c, &[b'a', a, x, y, z])
 }
 
 fn look_at(classes: &Classes, c: u32) -> Seen
@@ -119,13 +123,11 @@ fn is_same(a: Seen, b: Seen) -> bool {
 
 fn line(c: u32, s: Seen) {
     out::point(c);
-    out::flag(s.sequence);
-    out::flag(s.allowed);
-    out::space();
+    out::number(s.sequence as usize);
+    out::number(s.allowed as usize);
     out::number(s.class as usize);
-    out::space();
     out::number(s.read as usize);
-    out::line_end();
+    out::text(b"\n");
 }
 
 fn lines(classes: &Classes)

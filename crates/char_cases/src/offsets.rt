@@ -100,43 +100,38 @@ fn try_lengths(s: &mut [u8], kind: &[u8]) -> Folded {
 fn each(s: &mut [u8], kind: &[u8]) {
     let f = try_lengths(s, kind);
     out::bytes(kind);
-    out::space();
     out::number(f.alone as usize);
-    out::space();
     out::number(f.ended as usize);
-    out::line_end();
+    out::text(b"\n");
 }
 
-// Bytes that begin no character, or one that is cut off by what follows or by the end.
-fn cut_off(s: &mut [u8]) {
-    each(s, b"\x80");
-    each(s, b"\xC3");
-    each(s, b"\xE2\x82");
-    each(s, b"\xF0\x9F\x98");
+// Each kind of a list, in which a bar ends each.
+fn all(s: &mut [u8], list: &[u8]) {
+    let mut from: usize = 0;
+    let mut i: usize = 0;
+    while i < list.len() {
+        let e = i;
+        i += 1;
+        if list[e] == b'|' {
+            each(s, &list[from..e]);
+            from = i;
+        }
+    }
 }
 
-// A control byte, an overlong form, a surrogate, a code point that is no Char, and one past the last.
-fn refused(s: &mut [u8]) {
-    each(s, b"\x01");
-    each(s, b"\xC0\x80");
-    each(s, b"\xED\xA0\x80");
-    each(s, b"\xEF\xBF\xBE");
-    each(s, b"\xF4\x90\x80\x80");
-}
-
-fn allowed(s: &mut [u8]) {
-    each(s, b"\x7F");
-    each(s, b"\xC3\xA9");
-    each(s, b"\xE2\x82\xAC");
-    each(s, b"\xEF\xBF\xBD");
-    each(s, b"\xF0\x9F\x98\x80");
-}
-
+// Bytes that begin no character, or one that is cut off by what follows or by the end; a control byte, an overlong form, a surrogate, a code
+// point that is no Char, and one past the last; and characters of each size.
 pub fn print() {
     out::text(b"planted bytes, the check's answers, and with a control byte at the end\n");
     let mut text = [0u8; 256];
     restore(&mut text, 0, 256);
-    cut_off(&mut text);
-    refused(&mut text);
-    allowed(&mut text);
+    all(&mut text, b"\x80|\xC3|\xE2\x82|\xF0\x9F\x98|");
+    all(
+        &mut text,
+        b"\x01|\xC0\x80|\xED\xA0\x80|\xEF\xBF\xBE|\xF4\x90\x80\x80|",
+    );
+    all(
+        &mut text,
+        b"\x7F|\xC3\xA9|\xE2\x82\xAC|\xEF\xBF\xBD|\xF0\x9F\x98\x80|",
+    );
 }

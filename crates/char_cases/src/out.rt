@@ -5,35 +5,23 @@ pub fn text(s: &[u8]) {
     io::write_all(STDOUT_FILENO, s);
 }
 
-pub fn space() {
-    text(b" ");
-}
-
-pub fn line_end() {
-    text(b"\n");
-}
-
+// A space, and n in decimal.
 pub fn number(n: usize) {
+    io::write_all(STDOUT_FILENO, b" ");
     io::print_decimal(STDOUT_FILENO, n as u64);
 }
 
-pub fn byte(b: u8) {
-    io::print_hex(STDOUT_FILENO, b as u64, 2);
-}
-
+// A code point in four hexadecimal digits or more.
 pub fn point(c: u32) {
     io::print_hex(STDOUT_FILENO, c as u64, 4);
 }
 
-pub fn flag(b: bool) {
-    if b {
-        text(b" yes");
-    } else {
-        text(b" no");
-    }
+// A byte in two hexadecimal digits.
+pub fn byte(b: u8) {
+    io::print_hex(STDOUT_FILENO, b as u64, 2);
 }
 
-// Each byte of s, in two digits.
+// Each byte of s.
 pub fn bytes(s: &[u8]) {
     let mut i: usize = 0;
     while i < s.len() {

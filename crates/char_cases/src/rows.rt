@@ -77,8 +77,8 @@ fn row_at(s: [u8; 4], place: usize) -> Row {
     step(r, s, place, 0xFF)
 }
 
-// The bytes of a sequence that begins with a, before which place stands what is to be tried: its second byte is the first or the last that
-// the first byte allows, and the third the first or the last that there is.
+// Four bytes that begin with a, well-formed up to the place where every byte is tried: the second is the first or the last that a allows,
+// and the third the first or the last that there is.
 fn start(a: u8, place: usize, last: bool) -> [u8; 4] {
     if place == 1 {
         return [a, 0x80, 0x80, 0x80];
@@ -96,22 +96,31 @@ fn is_same(a: Row, b: Row) -> bool {
 
 fn line(a: u8, r: Row) {
     out::byte(a);
-    out::space();
     if r.size == 0 {
-        out::text(b"none\n");
+        out::text(b" none\n");
         return;
     }
+    out::text(b" ");
     out::byte(r.low);
-    out::space();
+    out::text(b"-");
     out::byte(r.high);
-    out::space();
     out::number(r.count as usize);
-    out::space();
     out::number(r.size);
-    out::line_end();
+    out::text(b"\n");
+}
+
+fn heading(place: usize, last: bool) {
+    out::text(b"place");
+    out::number(place);
+    if last {
+        out::text(b" after the last\n");
+    } else {
+        out::text(b" after the first\n");
+    }
 }
 
 fn lines(place: usize, last: bool) {
+    heading(place, last);
     let mut old = row_at(start(0, place, last), place);
     line(0, old);
     let mut a: u8 = 0;
@@ -126,14 +135,10 @@ fn lines(place: usize, last: bool) {
 }
 
 pub fn print() {
-    out::text(b"first byte, second bytes, how many, size\n");
+    out::text(b"first byte, range of the bytes at a place after it, how many, size\n");
     lines(1, false);
-    out::text(b"first byte, third bytes, how many, size, after the first second byte\n");
     lines(2, false);
-    out::text(b"first byte, third bytes, how many, size, after the last second byte\n");
     lines(2, true);
-    out::text(b"first byte, fourth bytes, how many, size, after the first second and third byte\n");
     lines(3, false);
-    out::text(b"first byte, fourth bytes, how many, size, after the last second and third byte\n");
     lines(3, true);
 }

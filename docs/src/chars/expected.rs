@@ -35,10 +35,6 @@ fn read_class(s: &[u8]) -> u8 {
     }
 }
 
-fn yes(b: bool) -> &'static str {
-    if b { "yes" } else { "no" }
-}
-
 fn borders() {
     println!("code point, sequence, Char, class, class by the name reader");
     let mut last = None;
@@ -46,11 +42,12 @@ fn borders() {
         let s = encode(c);
         let mut chars = std::str::from_utf8(&s).unwrap_or("").chars();
         let is_sequence = chars.next().is_some_and(|d| d as u32 == c) && chars.next().is_none();
-        let now = Some((is_sequence, plain::check(&s) == s.len(), class(c), read_class(&s)));
-        if now != last {
-            println!("{c:04x} {} {} {} {}", yes(is_sequence), yes(plain::check(&s) == s.len()), class(c), read_class(&s));
+        let is_allowed = plain::check(&s) == s.len();
+        let line = format!("{} {} {} {}", is_sequence as u8, is_allowed as u8, class(c), read_class(&s));
+        if last.as_ref() != Some(&line) {
+            println!("{c:04x} {line}");
         }
-        last = now;
+        last = Some(line);
     }
 }
 
@@ -82,7 +79,7 @@ fn rows(place: usize, last: bool) {
         let new = row(start, place);
         if old != Some(new) {
             match new {
-                Some((low, high, count, size)) => println!("{a:02x} {low:02x} {high:02x} {count} {size}"),
+                Some((low, high, count, size)) => println!("{a:02x} {low:02x}-{high:02x} {count} {size}"),
                 None => println!("{a:02x} none"),
             }
         }
@@ -91,16 +88,11 @@ fn rows(place: usize, last: bool) {
 }
 
 fn all_rows() {
-    println!("first byte, second bytes, how many, size");
-    rows(1, false);
-    println!("first byte, third bytes, how many, size, after the first second byte");
-    rows(2, false);
-    println!("first byte, third bytes, how many, size, after the last second byte");
-    rows(2, true);
-    println!("first byte, fourth bytes, how many, size, after the first second and third byte");
-    rows(3, false);
-    println!("first byte, fourth bytes, how many, size, after the last second and third byte");
-    rows(3, true);
+    println!("first byte, range of the bytes at a place after it, how many, size");
+    for (place, last) in [(1, false), (2, false), (2, true), (3, false), (3, true)] {
+        println!("place {place} after the {}", if last { "last" } else { "first" });
+        rows(place, last);
+    }
 }
 
 fn hex(s: &[u8]) -> String {

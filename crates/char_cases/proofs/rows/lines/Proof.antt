@@ -11,6 +11,9 @@ Inv-loop place last old₀ a₀ old a = a ≤ 0xFF
 abbrev μ-loop : tie.MeasureT-loop
 μ-loop place last old₀ a₀ old a = 0xFF - a
 
+heading-requires : tie.Need-heading-requires Inv-loop μ-loop
+heading-requires c κs = search needs
+
 start-requires : tie.Need-start-requires Inv-loop μ-loop
 start-requires c κs = search needs
 
@@ -59,6 +62,7 @@ lines-spec =
     (tie.spec
     Inv-loop
     μ-loop
+    heading-requires
     start-requires
     row-at-requires
     line-requires
