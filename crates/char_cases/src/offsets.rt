@@ -42,20 +42,21 @@ fn restore(s: &mut [u8], at: usize, n: usize) {
     }
 }
 
-// What the check says of the first n bytes: 0, or one more than the place.
-fn answer(s: &[u8], n: usize) -> usize {
-    if s.len() < n {
-        return 0;
-    }
-    match chars::check::check(&s[0..n]) {
+// What the check says of s: 0, or one more than the place.
+fn answer(s: &[u8]) -> usize {
+    match chars::check::check(s) {
         Checked::All => 0,
         Checked::BadAt(o) => o % 0x10000 + 1,
     }
 }
 
-fn fold(h: u32, x: usize) -> u32 {
-    let y = (x % 0x100000000) as u64;
-    ((h as u64 * 31 + y) % 0x100000000) as u32
+// 31 h and the answer for the first n bytes, modulo 2^32.
+fn fold(h: u32, s: &[u8], n: usize) -> u32 {
+    if s.len() < n {
+        return h;
+    }
+    let x = answer(&s[0..n]) % 0x100000000;
+    ((h as u64 * 31 + x as u64) % 0x100000000) as u32
 }
 
 // The two numbers of a kind: the text as it is, and with a control byte at its end.
@@ -69,9 +70,9 @@ fn try_at(s: &mut [u8], n: usize, at: usize, kind: &[u8], f: Folded) -> Folded
     requires { ⌜ at < n ⌝ }
 {
     plant(s, at, kind);
-    let alone = fold(f.alone, answer(s, n));
+    let alone = fold(f.alone, s, n);
     put(s, n - 1, 1);
-    let ended = fold(f.ended, answer(s, n));
+    let ended = fold(f.ended, s, n);
     put(s, n - 1, plain(n - 1));
     restore(s, at, kind.len());
     Folded { alone, ended }
@@ -119,19 +120,16 @@ fn all(s: &mut [u8], list: &[u8]) {
     }
 }
 
-// Bytes that begin no character, or one that is cut off by what follows or by the end; a control byte, an overlong form, a surrogate, a code
-// point that is no Char, and one past the last; and characters of each size.
+// A line of the list each: bytes that begin no character, or one that is cut off by what follows or by the end; a control byte, an overlong
+// form, a surrogate, a code point that is no Char, and one past the last; and characters of each size.
 pub fn print() {
     out::text(b"planted bytes, the check's answers, and with a control byte at the end\n");
     let mut text = [0u8; 256];
     restore(&mut text, 0, 256);
-    all(&mut text, b"\x80|\xC3|\xE2\x82|\xF0\x9F\x98|");
     all(
         &mut text,
-        b"\x01|\xC0\x80|\xED\xA0\x80|\xEF\xBF\xBE|\xF4\x90\x80\x80|",
-    );
-    all(
-        &mut text,
-        b"\x7F|\xC3\xA9|\xE2\x82\xAC|\xEF\xBF\xBD|\xF0\x9F\x98\x80|",
+        b"\x80|\xC3|\xE2\x82|\xF0\x9F\x98|\
+        \x01|\xC0\x80|\xED\xA0\x80|\xEF\xBF\xBE|\xF4\x90\x80\x80|\
+        \x7F|\xC3\xA9|\xE2\x82\xAC|\xEF\xBF\xBD|\xF0\x9F\x98\x80|",
     );
 }
