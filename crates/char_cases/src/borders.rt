@@ -7,9 +7,9 @@ ghost use lib.ListN.{length};
 ghost use Rattle.chars.specs.Class.{classTable};
 use crate::out;
 use chars::check::Checked;
-use chars::class::Classes;
 use chars::name::Reading;
-use chars::sequence::Sequence;
+use chars::table::Classes;
+use utf8::Sequence;
 
 const LAST: u32 = 0x110010;
 
@@ -21,7 +21,7 @@ struct Seen {
 }
 
 fn is_sequence(s: &[u8], c: u32) -> bool {
-    match chars::sequence::sequence_at(s, 0) {
+    match utf8::sequence_at(s, 0) {
         Sequence::Point(d, e) => (d == c) & (e == s.len()),
         Sequence::Bad => false,
     }
@@ -148,6 +148,6 @@ fn lines(classes: &Classes)
 
 pub fn print() {
     out::text(b"code point, sequence, Char, class, class by the name reader\n");
-    let classes = chars::class::table();
+    let classes = chars::table::classes();
     lines(&classes);
 }

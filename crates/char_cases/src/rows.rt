@@ -1,7 +1,7 @@
 // Every byte at the second, the third and the fourth place of a sequence, after each first byte: the range of those that are accepted, how
 // many there are, and the size of the sequence. A line for each first byte where that differs from the one before.
 use crate::out;
-use chars::sequence::Sequence;
+use utf8::Sequence;
 
 // The first and the last byte with which a sequence stands at the front, its size with the first, and how many bytes give that size.
 struct Row {
@@ -13,7 +13,7 @@ struct Row {
 
 // How many bytes of s the sequence at its front takes, or 0.
 fn taken(s: &[u8]) -> usize {
-    match chars::sequence::sequence_at(s, 0) {
+    match utf8::sequence_at(s, 0) {
         Sequence::Point(_, e) => e,
         Sequence::Bad => 0,
     }
