@@ -1,0 +1,84 @@
+-- A path list by printing: what a list says is data, and its bytes are what that data prints as. In order: steps, paths and lists; what
+-- each prints as; which data is a path; sizes.
+use mathlib.Core.Bool.{Bool, true, false}
+use mathlib.Core.List.{List, [], _∷_, _++_}
+use Prim.Native.Nat.{ℕ, _≤_, _<_}
+use lib.ListN.{length}
+use Rattle.xml.specs.Notation.{bytes}
+use Rattle.xml.specs.Productions.{Name}
+use Rattle.xml.specs.Language.{Language}
+use Rattle.paths.specs.declared.Kind.{Kind}
+use Rattle.paths.specs.declared.Kind.the-variants.{Child, Descendant}
+
+-- `*`, or a name
+pub data Test : Type 0 where
+  any : Test
+  named : List ℕ → Test
+
+pub record Step : Type 0 where
+  pub kind : Kind
+  pub test : Test
+
+pub record Path : Type 0 where
+  pub steps : List Step
+  pub marked : Bool
+
+-- ---- what each prints as
+
+abbrev pub printKind : Kind → List ℕ
+printKind Child = bytes "/"
+printKind Descendant = bytes "//"
+
+abbrev pub printTest : Test → List ℕ
+printTest any = bytes "*"
+printTest (named n) = n
+
+unfoldable pub printStep : Step → List ℕ
+printStep s = printKind (s .kind) ++ printTest (s .test)
+
+abbrev pub printAll : {A : Type 0} → (A → List ℕ) → List A → List ℕ
+printAll print [] = []
+printAll print (x ∷ xs) = print x ++ printAll print xs
+
+abbrev pub printMark : Bool → List ℕ
+printMark true = bytes " #"
+printMark false = []
+
+-- a line, with its LF
+unfoldable pub printLine : Path → List ℕ
+printLine p = printAll printStep (p .steps) ++ printMark (p .marked) ++ bytes "\n"
+
+unfoldable pub printList : List Path → List ℕ
+printList = printAll printLine
+
+-- ---- which data is a path: one step or more, and each name is a Name of [5]
+
+abbrev pub ProperTest : Test → Type 0
+ProperTest any = Unit {0}
+ProperTest (named n) = Language Name n
+
+pub record Proper (s : Step) : Type 0 where
+  pub test : ProperTest (s .test)
+
+pub data All {A : Type 0} (P : A → Type 0) : List A → Type 0 where
+  none : All P []
+  more : {x : A} {xs : List A} → P x → All P xs → All P (x ∷ xs)
+
+pub record IsPath (p : Path) : Type 0 where
+  pub some : 0 < length (p .steps)
+  pub each : All Proper (p .steps)
+
+-- ---- sizes: 16 steps a line, names of 255 bytes
+
+abbrev pub testSize : Test → ℕ
+testSize any = 0
+testSize (named n) = length n
+
+pub record Within (p : Path) : Type 0 where
+  pub steps : length (p .steps) ≤ 16
+  pub names : All (λ s. testSize (s .test) ≤ 255) (p .steps)
+
+-- a path that a sound list may have
+pub record Good (p : Path) : Type 0 where
+  pub path : IsPath p
+  pub within : Within p
