@@ -121,7 +121,7 @@ fn all(s: &mut [u8], list: &[u8]) {
 }
 
 // A line of the list each: bytes that begin no character, or one that is cut off by what follows or by the end; a control byte, an overlong
-// form, a surrogate, a code point that is no Char, and one past the last; and characters of each size.
+// form, a surrogate, a code point that is no Char, and one past the last; characters of each size; a character with a fault after it.
 pub fn print() {
     out::text(b"planted bytes, the check's answers, and with a control byte at the end\n");
     let mut text = [0u8; 256];
@@ -130,6 +130,7 @@ pub fn print() {
         &mut text,
         b"\x80|\xC3|\xE2\x82|\xF0\x9F\x98|\
         \x01|\xC0\x80|\xED\xA0\x80|\xEF\xBF\xBE|\xF4\x90\x80\x80|\
-        \x7F|\xC3\xA9|\xE2\x82\xAC|\xEF\xBF\xBD|\xF0\x9F\x98\x80|",
+        \x7F|\xC3\xA9|\xE2\x82\xAC|\xEF\xBF\xBD|\xF0\x9F\x98\x80|\
+        \xC3\xA9\x80|\xE2\x82\xAC\xE2\x82|\xF0\x9F\x98\x80\xED\xA0\x80|\xC3\xA9plain bytes\x01|",
     );
 }

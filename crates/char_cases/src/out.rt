@@ -1,4 +1,5 @@
-// Text and numbers to standard output. A write that fails leaves an output that is not the expected one.
+// Text and numbers to standard output. What a write answers is not looked at: one that fails leaves an output that is not the expected
+// one.
 use libc::STDOUT_FILENO;
 
 pub fn text(s: &[u8]) {

@@ -108,10 +108,11 @@ fn fold(h: u32, s: &[u8]) -> u32 {
 fn offsets() {
     println!("planted bytes, the check's answers, and with a control byte at the end");
     let ascii: Vec<u8> = (0..0x80u8).filter(|&b| plain::is_char(b as char)).collect();
-    let kinds: [&[u8]; 14] = [
+    let kinds: [&[u8]; 18] = [
         b"\x80", b"\xC3", b"\xE2\x82", b"\xF0\x9F\x98",
         b"\x01", b"\xC0\x80", b"\xED\xA0\x80", b"\xEF\xBF\xBE", b"\xF4\x90\x80\x80",
         b"\x7F", b"\xC3\xA9", b"\xE2\x82\xAC", b"\xEF\xBF\xBD", b"\xF0\x9F\x98\x80",
+        b"\xC3\xA9\x80", b"\xE2\x82\xAC\xE2\x82", b"\xF0\x9F\x98\x80\xED\xA0\x80", b"\xC3\xA9plain bytes\x01",
     ];
     for kind in kinds {
         let (mut alone, mut ended) = (0, 0);
