@@ -1,4 +1,5 @@
--- The class of a code point, as the table has it and as the ranges give it; and that the table of 768 entries is that of the classes.
+-- The class of a code point, as the table has it and as the ranges give it. In order: an entry of the table; the class by the two tests of
+-- [4] and [4a]; the tests by the class.
 use mathlib.Core.Path.{_≡_, refl, sym, ap, _∙_}
 use mathlib.Core.Bool.{Bool, true, false, cond, _||_}
 use mathlib.Core.List.{List}

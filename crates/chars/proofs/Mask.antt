@@ -1,4 +1,5 @@
--- What a mask says: how a turn of its loop adds a bit, that no bit means no place, and that its lowest bit is one above the first place.
+-- What a mask says. In order: how a turn of its loop adds a bit; the same bits counted from the lowest; no bit means no place; the lowest
+-- bit is one above the first place.
 use mathlib.Core.Path.{_≡_, refl, sym, ap, _∙_, subst}
 use mathlib.Core.Bool.{Bool, true, false}
 use Prim.Native.Nat.{ℕ, zero, suc, _+_, _*_, _/_, _%_, _^_, _≤_, _<_}
