@@ -41,8 +41,6 @@ module _ (c : ℕ) {x : Bool} (e : x ≡ isNameStart c) where
     unfolding classOf
     class-zero h k = sym (rw (sym e ∙ h, sym f ∙ k))
 
-pub ruleset judging = (class-two, class-one, class-zero, needs)
-
 -- ---- the tests by the class
 
 abbrev byTests : Bool → Bool → ℕ

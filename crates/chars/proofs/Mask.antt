@@ -140,3 +140,7 @@ mask-zeros p n h nz =
       ap (trailingZeros 32) (mask-low p n) ∙ zeros-double 31 (low p n) ∙ sym (add-one _),
       low-first 31 n p h pos,
     )
+
+-- the same place
+pub first-is : {p : ℕ → Bool} {n t r : ℕ} → First p n t → r ≡ t → First p n r
+first-is f e = rw e f
