@@ -1,4 +1,5 @@
--- [2] Char by its borders: each law is one way through the code of `is_char`.
+-- [2] Char by its borders: each law is one way through the code of `is_char`. First what is left of the ranges from 0x20 on, then a law for
+-- each stretch between two borders, and the rules by which `is_char` is proved.
 use mathlib.Core.Path.{_≡_, refl, sym, _∙_}
 use mathlib.Core.Bool.{Bool, true, false, _&&_, _||_, or-assoc, or-false}
 use Prim.Native.Nat.{ℕ, _≤_, _<_}

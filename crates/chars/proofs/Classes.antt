@@ -1,4 +1,5 @@
--- The class of a code point, as the table has it and as the ranges give it; and that the table of 768 entries is that of the classes.
+-- The class of a code point, as the table has it and as the ranges give it. In order: an entry of the table; the class by the two tests of
+-- [4] and [4a]; the tests by the class.
 use mathlib.Core.Path.{_≡_, refl, sym, ap, _∙_}
 use mathlib.Core.Bool.{Bool, true, false, cond, _||_}
 use mathlib.Core.List.{List}
@@ -39,8 +40,6 @@ module _ (c : ℕ) {x : Bool} (e : x ≡ isNameStart c) where
     pub class-zero : x ≡ false → y ≡ false → 0 ≡ classOf c
     unfolding classOf
     class-zero h k = sym (rw (sym e ∙ h, sym f ∙ k))
-
-pub ruleset judging = (class-two, class-one, class-zero, needs)
 
 -- ---- the tests by the class
 

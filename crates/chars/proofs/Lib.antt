@@ -1,3 +1,5 @@
+-- Laws by part of the crate: masks and blocks, classes, [2] by its borders, runs of characters, the check, white space, names; what the
+-- answers say, examples, one answer.
 pub mod Mask
 pub mod Until
 pub mod Plain

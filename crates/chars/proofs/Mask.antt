@@ -1,4 +1,5 @@
--- What a mask says: how a turn of its loop adds a bit, that no bit means no place, and that its lowest bit is one above the first place.
+-- What a mask says. In order: how a turn of its loop adds a bit; the same bits counted from the lowest; no bit means no place; the lowest
+-- bit is one above the first place.
 use mathlib.Core.Path.{_≡_, refl, sym, ap, _∙_, subst}
 use mathlib.Core.Bool.{Bool, true, false}
 use Prim.Native.Nat.{ℕ, zero, suc, _+_, _*_, _/_, _%_, _^_, _≤_, _<_}
@@ -139,3 +140,7 @@ mask-zeros p n h nz =
       ap (trailingZeros 32) (mask-low p n) ∙ zeros-double 31 (low p n) ∙ sym (add-one _),
       low-first 31 n p h pos,
     )
+
+-- the same place
+pub first-is : {p : ℕ → Bool} {n t r : ℕ} → First p n t → r ≡ t → First p n r
+first-is f e = rw e f

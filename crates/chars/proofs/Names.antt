@@ -1,4 +1,5 @@
--- Names by their characters' classes: one step of a name, the first character, and the answer.
+-- Names by their characters' classes. In order: one step of a name, by an ASCII byte or by a sequence; the run of name characters; the
+-- first character, and the answer.
 use mathlib.Core.Path.{_≡_, refl, sym, ap, _∙_}
 use mathlib.Core.Bool.{Bool, true, false, cond}
 use mathlib.Core.List.{List}

@@ -1,4 +1,5 @@
--- Plain bytes: the code's test of a byte, and what it says.
+-- Plain bytes: the code's test of a byte is that of `isOther`; a byte that is not other is an ASCII Char, and an other one below 0x80 is
+-- no Char.
 use mathlib.Core.Path.{_≡_, refl}
 use mathlib.Core.Bool.{Bool, true, false, not, _&&_, _||_}
 use Prim.Native.Nat.{ℕ, _<_}

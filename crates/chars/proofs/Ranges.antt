@@ -1,4 +1,5 @@
--- The loop of `in_ranges`: the ranges that are left are asked.
+-- The loop of `in_ranges`: the ranges that are left are asked. First two entries on, then the invariant, how it begins, goes on and ends,
+-- and the rules by which `in_ranges` is proved.
 use mathlib.Core.Path.{_≡_, refl, sym, ap, _∙_}
 use mathlib.Core.Bool.{true, false}
 use mathlib.Core.List.{List, _∷_}

@@ -1,4 +1,5 @@
--- White space: by its four bytes, and runs of it.
+-- White space: its four bytes are the four ranges of [3]; it is ASCII alone, so a byte tells it; and the loop over a run of it, with the
+-- rules by which both functions are proved.
 use mathlib.Core.Path.{_≡_, sym, _∙_}
 use mathlib.Core.Bool.{Bool, true, false, not, _||_, and-false, or-assoc, or-false}
 use mathlib.Core.List.{List}

@@ -1,4 +1,5 @@
--- The first byte of a class, sought from a place on. In order: what is left, one byte on or a block on; the loops, by bytes and by blocks.
+-- The first byte of a class, sought from a place on. In order: what is left, one byte on or a block on; whether one of n places has the
+-- class; the loops, by bytes and by blocks.
 use mathlib.Core.Path.{_≡_, refl, sym, ap, _∙_}
 use mathlib.Core.Bool.{Bool, true, false, _||_}
 use mathlib.Core.List.{List}

@@ -1,4 +1,5 @@
--- The whole document's characters: all of them are Char of [2], or the first sequence that is none begins at a place.
+-- The whole document's characters: all of them are Char of [2], or the first sequence that is none begins at a place. specs/Meaning.antt
+-- says what each answer says.
 use mathlib.Core.Bool.{Bool, _&&_}
 use mathlib.Core.List.{List, [], _∷_}
 use Prim.Native.Nat.{ℕ, _-_}

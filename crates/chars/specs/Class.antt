@@ -1,4 +1,5 @@
--- The classes of name characters by productions [4] and [4a], and the table of those below U+0300.
+-- The classes of name characters by productions [4] and [4a], and the table of those below U+0300. Last, ranges as a flat list of numbers,
+-- as the code keeps them.
 use mathlib.Core.Bool.{Bool, false, cond, _&&_, _||_}
 use mathlib.Core.List.{List, [], _∷_}
 use Prim.Native.Nat.{ℕ, zero, suc}

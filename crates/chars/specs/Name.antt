@@ -1,4 +1,5 @@
--- Names, production [5]: the longest at the front of s, and at a place.
+-- Names, production [5]: what follows the longest name at the front of some bytes, and the answer at a place. Then what the code goes by:
+-- where a run of name characters ends, and one step of it.
 use mathlib.Core.Bool.{cond}
 use mathlib.Core.List.{List}
 use mathlib.Core.Option.{Option, none, some}

@@ -1,4 +1,5 @@
--- White space, production [3]: where a run of it ends.
+-- White space, production [3]: where a run of it from a place on ends. The place itself where there is none, also past the end of the
+-- bytes.
 use mathlib.Core.List.{List}
 use Prim.Native.Nat.{ℕ}
 use lib.ListN.{drop}

@@ -1,4 +1,5 @@
-// The whole document's characters.
+// The whole document's characters: plain bytes are passed in blocks, and the characters that are not ASCII one by one, in turn, until the
+// end or the first sequence that is no character.
 ghost use mathlib.Core.Path.{_≡_};
 ghost use Prim.Native.Nat.{_≤_};
 ghost use lib.ListN.{length, drop};

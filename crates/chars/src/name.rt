@@ -1,4 +1,5 @@
-// Names: production [5], the longest at a place. Any bytes may stand there: what is not well-formed ends a name.
+// Names: production [5], the longest at a place. Any bytes may stand there: what is not well-formed ends a name. `name` is for everybody,
+// `name_by` for readers that lend the table of classes.
 ghost use mathlib.Core.Path.{_≡_};
 ghost use Prim.Native.Nat.{_+_, _<_};
 ghost use lib.ListN.{length, drop};

@@ -1,2 +1,3 @@
+-- Laws: the number for each case, and one answer.
 pub mod Numbers
 pub mod OneAnswer

@@ -1,1 +1,2 @@
+-- Definitions: the numbers that callers in Rust and C get.
 pub mod Numbers

@@ -1,13 +1,11 @@
--- The number for each case of an answer, as callers in Rust and C get it.
+-- The number for each case of an answer, as callers in Rust and C get it: where a check of n bytes ends, all of them or the offset of the
+-- first bad sequence.
 use mathlib.Core.List.{List}
 use Prim.Native.Nat.{ℕ}
 use lib.ListN.{length}
 use Rattle.chars.specs.Check.{checkOf}
-use Rattle.chars.specs.Name.{nameAt}
 use Rattle.chars.specs.declared.check.Checked.{Checked}
 use Rattle.chars.specs.declared.check.Checked.the-variants.{All, BadAt}
-use Rattle.chars.specs.declared.name.Reading.{Reading}
-use Rattle.chars.specs.declared.name.Reading.the-variants.{Ends, Fault}
 
 -- of n bytes, how many are sound
 abbrev pub soundOf : ℕ → Checked → ℕ
@@ -16,10 +14,3 @@ soundOf n (BadAt o) = o
 
 unfoldable pub checkEnd : List ℕ → ℕ
 checkEnd d = soundOf (length d) (checkOf d)
-
-abbrev pub stopOf : ℕ → Reading → ℕ
-stopOf at (Ends e) = e
-stopOf at Fault = at
-
-unfoldable pub nameStop : List ℕ → ℕ → ℕ
-nameStop d at = stopOf at (nameAt d at)

@@ -1,4 +1,5 @@
--- `sequenceAt` gives an answer that says what specs/Meaning.antt has, and no other answer says it.
+-- `sequenceAt` gives an answer that says what specs/Meaning.antt has (`sequence-says`), and no other answer says it (`sequence-only`):
+-- what stands at a place is one character, and ends at one place.
 use mathlib.Core.Path.{_≡_, refl, sym, ap, _∙_}
 use mathlib.Core.List.{List, _++_}
 use mathlib.Core.Option.{Option, none, some}

@@ -1,4 +1,5 @@
--- From places to what is left: one step on, the end, and where a reading ends. Every scanner's loop asks for these.
+-- From places to what is left: one step on, the end, and where a reading ends. Every scanner's loop asks for these, in this crate and in
+-- those above it.
 use mathlib.Core.Path.{_≡_, sym, ap, _∙_}
 use mathlib.Core.List.{List, [], _∷_}
 use Prim.Native.Nat.{ℕ, _+_, _≤_, _<_}

@@ -1,4 +1,5 @@
--- Places in a slice, and what is left of it from a place on: functions answer places, definitions speak of what is left.
+-- Places in a slice, and what is left of it from a place on: functions answer places, definitions speak of what is left. Every crate that
+-- reads bytes uses these two.
 use mathlib.Core.Path.{_≡_}
 use mathlib.Core.List.{List}
 use Prim.Native.Nat.{ℕ, _+_, _-_, _≤_}

@@ -1,3 +1,5 @@
+-- What follows from the definitions: UTF-8 by the table and by its rule, characters and runs of them, the notation's ordinary meaning, the
+-- notation computed, and worked examples of every production.
 pub mod Bools
 pub mod Utf8
 pub mod Character

@@ -1,3 +1,5 @@
+-- Definitions, in the order to read them: what a reader must believe are the first five; Character and Computes find by computing what the
+-- others say, and Judged states worked examples.
 pub mod Range
 pub mod Utf8
 pub mod Notation

@@ -1,4 +1,5 @@
--- Ranges of numbers, by which document 01 and the Recommendation write bytes and characters, and the class that a list of ranges makes.
+-- Ranges of numbers, by which document 01 and the Recommendation write bytes and characters, and the class that a list of ranges makes:
+-- within one of them.
 use mathlib.Core.Bool.{Bool, false, _&&_, _||_}
 use mathlib.Core.List.{List, [], _∷_}
 use Prim.Native.Nat.{ℕ}

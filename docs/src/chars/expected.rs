@@ -41,7 +41,7 @@ fn borders() {
     for c in 0..=0x110010 {
         let s = encode(c);
         let mut chars = std::str::from_utf8(&s).unwrap_or("").chars();
-        let is_sequence = chars.next().is_some_and(|d| d as u32 == c) && chars.next().is_none();
+        let is_sequence = chars.next().map_or(false, |d| d as u32 == c) && chars.next().is_none();
         let is_allowed = plain::check(&s) == s.len();
         let line = format!("{} {} {} {}", is_sequence as u8, is_allowed as u8, class(c), read_class(&s));
         if last.as_ref() != Some(&line) {

@@ -41,8 +41,7 @@ pub fn point(s: &[u8], at: usize) -> Option<char> {
 
 /// Where the longest name at a place ends: the place itself where there is none.
 pub fn name(s: &[u8], at: usize) -> usize {
-    let Some(rest) = s.get(at..) else { return at };
-    let text = sound(rest);
+    let text = sound(s.get(at..).unwrap_or(&[]));
     let mut chars = text.char_indices();
     match chars.next() {
         Some((_, c)) if is_name_start(c) => {}

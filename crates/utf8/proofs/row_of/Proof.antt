@@ -4,7 +4,7 @@ use mathlib.Core.Logic.{⊎-elim}
 use Prim.Native.Nat.{_-_}
 use borrow.Author.Needs.{needs}
 use Rattle.xml.specs.Utf8.{rows}
-use Rattle.utf8.proofs.Rows.{Rowing, row-start, rowing}
+use Rattle.utf8.proofs.Rows.{Rowing, row-start, row-here, rowing}
 use Rattle.utf8.proofs.row_of.Statement.{statement}
 use Rattle.utf8.proofs.row_of.Tie as tie
 
@@ -31,7 +31,9 @@ array-read-if2 c = search needs
 
 returns : tie.Need-returns Inv-loop μ-loop
 unfolding rows
-returns c = search rowing
+returns c =
+    let turn = c .before .before .before in
+    row-here (turn .before .loop .inv) (search needs) (c .before .if1 .taken) (c .if2 .taken)
 
 add-i : tie.Need-add-i Inv-loop μ-loop
 add-i c = search needs

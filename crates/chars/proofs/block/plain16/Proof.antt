@@ -2,13 +2,13 @@
 -- proofs/Mask.antt has both laws.
 use mathlib.Core.Bool.{Bool}
 use mathlib.Core.Path.{_≡_, sym, ap, _∙_}
-use Prim.Native.Nat.{ℕ, _+_, _-_}
+use Prim.Native.Nat.{ℕ, _+_}
 use native.Mathlib.Omega.{arith}
 use lib.Count.{trailingZeros, trailing-le}
 use lib.ListN.{getD}
 use borrow.Author.Needs.{needs}
 use Rattle.chars.specs.Block.{isOther}
-use Rattle.chars.proofs.Mask.{mask-none, mask-zeros}
+use Rattle.chars.proofs.Mask.{mask-none, mask-zeros, first-is}
 use Rattle.chars.proofs.block.plain16.Statement.{statement}
 use Rattle.chars.proofs.block.plain16.Tie as tie
 
@@ -33,12 +33,12 @@ sub-result c =
 
 returns-2 : tie.Need-returns-2
 returns-2 c =
-    let p : ℕ → Bool = λ k. isOther (getD (c .before .before .before .args .s .now) (c .before .before .before .args .i + k) 0) in
+    let start = c .before .before .before .args in
+    let p : ℕ → Bool = λ k. isOther (getD (start .s .now) (start .i + k) 0) in
     let m = c .before .mask16 .ensures in
     let f = mask-zeros p 16 (omega arith) (λ z. c .if1 .left (m ∙ z)) in
     let e : trailingZeros 32 (c .before .mask16 .result) ≡ f .0 + 1 = ap (trailingZeros 32) m ∙ f .1 in
-    let q : trailingZeros 32 (c .before .mask16 .result) - 1 ≡ f .0 = omega arith in
-    rw q (f .2)
+    first-is (f .2) (omega arith)
 
 pub plain16-spec : {M : Type 1} → statement M
 plain16-spec = tie.close (tie.spec mask16-requires returns cast-result sub-result returns-2)

@@ -2,7 +2,7 @@
 -- proofs/Classes.antt has the class by the two tests.
 use borrow.Author.Needs.{needs}
 use Rattle.xml.specs.Productions.{isNameStart, isNameMore}
-use Rattle.chars.proofs.Classes.{judging}
+use Rattle.chars.proofs.Classes.{class-two, class-one, class-zero}
 use Rattle.chars.proofs.class.by_ranges.Statement.{statement}
 use Rattle.chars.proofs.class.by_ranges.Tie as tie
 
@@ -14,7 +14,7 @@ in-ranges-requires c κs = search needs
 
 returns : tie.Need-returns
 unfolding isNameStart
-returns c = search judging
+returns c = class-two (c .before .before .before .args .c) (c .before .in-ranges .ensures) (c .if1 .taken)
 
 slice-aggregate-in-ranges-2 : tie.Need-slice-aggregate-in-ranges-2
 slice-aggregate-in-ranges-2 c = search needs
@@ -24,11 +24,17 @@ in-ranges-requires-2 c κs = search needs
 
 returns-2 : tie.Need-returns-2
 unfolding isNameStart isNameMore
-returns-2 c = search judging
+returns-2 c =
+    let first = c .before .before .before .before in
+    class-one (first .before .before .args .c) (first .in-ranges .ensures) (c .before .in-ranges2 .ensures) (c .before .before .before .if1 .left)
+    (c .if2 .taken)
 
 returns-3 : tie.Need-returns-3
 unfolding isNameStart isNameMore
-returns-3 c = search judging
+returns-3 c =
+    let first = c .before .before .before .before in
+    class-zero (first .before .before .args .c) (first .in-ranges .ensures) (c .before .in-ranges2 .ensures) (c .before .before .before .if1 .left)
+    (c .if2 .left)
 
 pub by-ranges-spec : {M : Type 1} → statement M
 by-ranges-spec =
