@@ -27,12 +27,12 @@ lines:
 # The outputs that programs are held to are those of ordinary Rust, which shares nothing with the Rattle source.
 expected:
 	@mkdir -p $(MADE)
-	rustc -O -o $(MADE)/chars_expected $(RUST)/chars/expected.rs
-	$(MADE)/chars_expected | cmp - crates/char_cases/stdout
+	rustc -O -o $(MADE)/expected $(RUST)/expected/main.rs
+	$(MADE)/expected | cmp - crates/cases/stdout
 
 speed: toolchain
 	@[ "$$(uname -m)" = x86_64 ] || { echo 'the toolchain makes x86-64 code: no time can be measured on this machine'; exit 1; }
 	rt staticlib exported
 	@mkdir -p $(MADE)
-	rustc -O -o $(MADE)/chars_speed $(RUST)/chars/speed.rs -L target/staticlib -l static=exported
-	$(MADE)/chars_speed
+	rustc -O -o $(MADE)/speed $(RUST)/speed/main.rs -L target/staticlib -l static=exported
+	$(MADE)/speed
