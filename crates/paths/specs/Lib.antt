@@ -1,2 +1,4 @@
 pub mod Path
 pub mod Answer
+pub mod Reader
+pub mod Judge
