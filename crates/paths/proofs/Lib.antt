@@ -1,0 +1,5 @@
+pub mod Print
+pub mod Names
+pub mod Steps
+pub mod Lines
+pub mod Meaning
