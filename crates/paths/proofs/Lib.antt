@@ -3,3 +3,4 @@ pub mod Names
 pub mod Steps
 pub mod Lines
 pub mod Meaning
+pub mod Places

@@ -93,7 +93,8 @@ module _ (s : List ℕ) (l : length s ≤ 8192) where
   short-answer = rw (le-ltb 8192 (length s) l)
 
   -- the lines before t are all that are sound
-  stopped-answer : (ps : List Path) (t : List ℕ) → Before s ps t → length ps ≤ 32 → soundAt t ≡ none → listAnswer s ≡ judgeRest t (length ps)
+  stopped-answer : (ps : List Path) (t : List ℕ) → Before s ps t → length ps ≤ 32 → soundAt t ≡ none
+      → listAnswer s ≡ judgeRest t (length ps)
   stopped-answer ps t b n e =
       short-answer ∙ ap judge (ap lines (b .prints) ∙ lines-whole ps t (b .good) e) ∙ judge-few ps t n
 

@@ -2,3 +2,4 @@ pub mod Path
 pub mod Answer
 pub mod Reader
 pub mod Judge
+pub mod Place
