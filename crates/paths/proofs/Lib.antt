@@ -4,3 +4,4 @@ pub mod Steps
 pub mod Lines
 pub mod Meaning
 pub mod Places
+pub mod Walk

@@ -13,13 +13,13 @@ use Rattle.xml.specs.Character.{begins, starts}
 use Rattle.xml.specs.Productions.{isName, isNameStart, isNameMore}
 use Rattle.xml.proofs.Bools.{and-left, and-right}
 use Rattle.xml.proofs.Character.{begins-split}
-use Rattle.paths.specs.Path.{Test, any, named, Step, Path, testSize, printKind, printStep, printAll, printMark, printLine, printList}
+use Rattle.paths.specs.Path.{Test, any, named, Step, Path, testSize, printKind, printStep, printAll, printLine, printList}
 use Rattle.paths.specs.Path.{All, none as nil, more, Proper, IsPath, Within, Good}
-use Rattle.paths.specs.Reader.{Run, run, kindAt, stepAt, steps, printEnd, endAt, withEnd, lineAt}
+use Rattle.paths.specs.Reader.{Run, kindAt, stepAt, steps, printEnd, endAt, withEnd, lineAt}
 use Rattle.paths.specs.Judge.{smallNames, within, smallOnly, soundAt, lines}
 use Rattle.paths.specs.declared.Kind.{Kind}
 use Rattle.paths.specs.declared.Kind.the-variants.{Child, Descendant}
-use Rattle.paths.proofs.Print.{Printed, Undoes, Found, prepend, reads-nil, run-found, run-print, run-whole}
+use Rattle.paths.proofs.Print.{Printed, Undoes, Found, prepend, reads-nil, run-none, run-found, run-print, run-whole}
 use Rattle.paths.proofs.Names.{name-ends}
 use Rattle.paths.proofs.Steps.{Free, AnyRest, AfterTest, AfterStep, step-undoes, step-long, steps-found}
 
@@ -46,6 +46,10 @@ end-undoes =
     back : (m : Bool) (t : List ℕ) → endAt (printEnd m ++ t) ≡ some m
     back true t = refl
     back false t = refl
+
+pub end-long : (m : Bool) → 0 < length (printEnd m)
+end-long true = omega arith
+end-long false = omega arith
 
 -- no step stands there, and no name goes on there; nor does one before a step
 end-no-step : (m : Bool) (t : List ℕ) → stepAt (printEnd m ++ t) ≡ none
@@ -173,6 +177,10 @@ sound-nil = reads-nil sound-undoes line-long
 pub lines-found : (s : List ℕ) → Found printLine Good soundAt s (lines s)
 unfolding lines
 lines-found s = run-found sound-undoes line-long 0 s
+
+pub lines-none : (s : List ℕ) → soundAt s ≡ none → lines s ≡ record { all = []; rest = s }
+unfolding lines
+lines-none s e = run-none printLine soundAt s e
 
 -- the lines of what is printed, and then those of what follows
 pub lines-print : (ps : List Path) (t : List ℕ) → All Good ps → lines (printList ps ++ t) ≡ prepend ps (lines t)

@@ -10,15 +10,15 @@ use borrow.Author.Tests.{leb-true, leb-false, lt-leb, ltb-true, ltb-false, lt-lt
 use lib.Dec.{ltb, leb}
 use lib.ListN.{length, take, drop, length-append, length-drop}
 use lib.Seq.{length-take-le}
-use Rattle.paths.specs.Path.{Path, printAll, printLine, printList, All, none as nil, more, IsPath, Within, Good}
+use Rattle.paths.specs.Path.{Path, printAll, printLine, printList, All, none as nil, more, Within, Good}
 use Rattle.paths.specs.Answer.{NoLine, LargeLine, Before, Says, long, sound, malformed, large, past}
 use Rattle.paths.specs.Reader.{Run, lineAt}
 use Rattle.paths.specs.Judge.{within, soundAt, lines, faultOf, judgeRest, judge, listAnswer, listPaths}
 use Rattle.paths.specs.declared.ListAnswer.{ListAnswer}
-use Rattle.paths.specs.declared.ListAnswer.the-variants.{Sound, TooLong, Malformed, TooLarge}
-use Rattle.paths.proofs.Print.{Found, prepend}
+use Rattle.paths.specs.declared.ListAnswer.the-variants.{Sound, TooLong, TooLarge}
+use Rattle.paths.proofs.Print.{prepend}
 use Rattle.paths.proofs.Lines.{line-long, line-undoes, test-within, within-test}
-use Rattle.paths.proofs.Lines.{sound-undoes, sound-nil, lines-found, lines-print, lines-whole}
+use Rattle.paths.proofs.Lines.{sound-nil, lines-found, lines-print, lines-whole}
 
 -- ---- the readers in the words of the answer
 
@@ -83,7 +83,7 @@ judge-few : (ps : List Path) (t : List ℕ) → length ps ≤ 32 → judge (reco
 unfolding judge
 judge-few ps t l = rw (le-ltb 32 (length ps) l)
 
-judge-fault : (t : List ℕ) (n : ℕ) → n < 32 → (t ≡ [] → ⊥) → (o : Option Path) → lineAt t ≡ o → judgeRest t n ≡ faultOf o (n + 1)
+pub judge-fault : (t : List ℕ) (n : ℕ) → n < 32 → (t ≡ [] → ⊥) → (o : Option Path) → lineAt t ≡ o → judgeRest t n ≡ faultOf o (n + 1)
 judge-fault [] n l h o e = absurd (h refl)
 judge-fault (b ∷ t) n l h o e = rw (lt-leb 32 n l, e)
 

@@ -3,16 +3,14 @@
 use mathlib.Core.Path.{_≡_, refl, sym, ap, _∙_}
 use mathlib.Core.Bool.{Bool, true, false, cond}
 use mathlib.Core.List.{List, [], _∷_, _++_}
-use mathlib.Core.Option.{Option, none, some, Option·none-ne-some, Option·some-injective}
+use mathlib.Core.Option.{none, some, Option·none-ne-some, Option·some-injective}
 use Prim.Native.Nat.{ℕ, _<_}
-use native.Mathlib.Omega.{arith}
-use lib.ListN.{length, drop, length-append}
+use lib.ListN.{drop}
 use Rattle.xml.specs.Notation.{Reads, more}
 use Rattle.xml.specs.Language.{Language}
 use Rattle.xml.specs.Productions.{Name, isNameStart, isName}
 use Rattle.xml.specs.Character.{begins, character, starts, wide, run}
 use Rattle.xml.proofs.Bools.{true-false}
-use Rattle.xml.proofs.Utf8.{utf8-long}
 use Rattle.xml.proofs.Character.{begins-split}
 use Rattle.xml.proofs.Language.{language-reads}
 use Rattle.xml.proofs.Run.{starts-reads, reads-starts, starts-low, run-reads, run-stops, run-step, run-only}
@@ -41,9 +39,6 @@ module _ (s t : List ℕ) where
   name-is (m, (c, i, h, e), rs) n =
       rw (reads-starts isNameStart s m (c, i, h, e))
       (ap some (run-only isName (more (c, i, start-name c h, e) rs) n))
-
-pub name-long : (n : List ℕ) → Language Name n → 0 < length n
-name-long n (x, y, (c, i, h, q), ls, e) = rw (e, q, length-append) (let z = utf8-long c in omega arith)
 
 -- a name begins with no other ASCII character
 pub name-front : (x : ℕ) → x < 0x80 → isNameStart x ≡ false → (n t : List ℕ) → Language Name n → begins (x ∷ []) (n ++ t) ≡ false

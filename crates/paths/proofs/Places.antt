@@ -1,7 +1,7 @@
 -- What the functions find at places is what the definitions say. In order: a text at a place; a test; a step; a line's end.
 use mathlib.Core.Path.{_≡_, refl, sym, ap, _∙_}
 use mathlib.Core.Bool.{Bool, true, false}
-use mathlib.Core.List.{List, [], _∷_, _++_}
+use mathlib.Core.List.{List, _++_}
 use mathlib.Core.Option.{Option, none, some}
 use Prim.Native.Nat.{ℕ, _+_, _-_, _≤_, _<_}
 use native.Mathlib.Omega.{arith}
@@ -17,14 +17,13 @@ use Rattle.utf8.proofs.Place.{drop-step, drop-end}
 use Rattle.chars.specs.Name.{nameOf, nameAt, readingAt}
 use Rattle.chars.specs.declared.name.Reading.{Reading}
 use Rattle.chars.specs.declared.name.Reading.the-variants.{Ends, Fault}
-use Rattle.paths.specs.Path.{Test, Step, testSize, printKind, printTest, printStep}
+use Rattle.paths.specs.Path.{Test, testSize, printKind, printTest, printStep}
 use Rattle.paths.specs.Reader.{kindAt, nameBefore, testAt, withKind, stepAt, endAt}
 use Rattle.paths.specs.Place.{testPlaced, testEndAt, stepPlaced, stepEndAt, lineEndAt}
 use Rattle.paths.specs.declared.Kind.{Kind}
 use Rattle.paths.specs.declared.Kind.the-variants.{Child, Descendant}
 use Rattle.paths.specs.declared.StepEnd.{StepEnd}
 use Rattle.paths.specs.declared.StepEnd.the-variants.{Step as StepTo, Fault as NoStep}
-use Rattle.paths.specs.declared.LineEnd.{LineEnd}
 use Rattle.paths.specs.declared.LineEnd.the-variants.{Ends as LineEnds, Fault as NoEnd}
 
 -- ---- a text at a place

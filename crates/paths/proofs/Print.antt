@@ -1,12 +1,12 @@
 -- Readers of printed things, and runs of them. In order: what a reader does; how a run goes on and where it stops; a run finds what was
--- printed, and nothing else.
+-- printed, and nothing else; what is read at a place ends inside, and a run goes on from there.
 use mathlib.Core.Path.{_≡_, refl, sym, ap, _∙_}
 use mathlib.Core.List.{List, [], _∷_, _++_, append-assoc, append-nil}
 use mathlib.Core.Option.{Option, none, some}
 use Prim.Native.Nat.{ℕ, zero, suc, pred, _+_, _≤_, _<_}
 use native.Mathlib.Omega.{arith}
-use lib.ListN.{length, drop, length-append}
-use lib.Seq.{drop-append-seam}
+use lib.ListN.{length, drop, length-append, length-drop}
+use lib.Seq.{drop-drop, drop-append-seam}
 use Rattle.paths.specs.Path.{printAll, All, none as nil, more}
 use Rattle.paths.specs.Reader.{Run, cons, next, run}
 
@@ -66,14 +66,14 @@ abbrev pub prepend : {A : Type 0} → List A → Run A → Run A
 prepend xs r = record { all = xs ++ r .all; rest = r .rest }
 
 module _ {A : Type 0} {print : A → List ℕ} {Ok : A → Type 0} {After : A → List ℕ → Type 0} {read : List ℕ → Option A}
-    (d : Undoes print Ok After read) (long : (x : A) → 0 < length (print x)) where
+    (u : Undoes print Ok After read) (long : (x : A) → 0 < length (print x)) where
   pub reads-nil : read [] ≡ none
   reads-nil = go (read []) refl
     where
       go : (o : Option A) → read [] ≡ o → o ≡ none
       go none e = refl
       go (some x) e =
-          let p = d .sound [] x e in
+          let p = u .sound [] x e in
           absurd (let z = front-some (print x) (p .rest) (p .prints) (long x) in omega arith)
 
   pub run-found : (k : ℕ) (s : List ℕ) → Found print Ok read (drop k s) (run print read k s)
@@ -93,7 +93,7 @@ module _ {A : Type 0} {print : A → List ℕ} {Ok : A → Type 0} {After : A �
           → Found print Ok read (b ∷ s) (next print o (b ∷ s) (λ k. run print read k s))
       go none e later = record { prints = refl; each = nil; stops = e }
       go (some x) e later =
-          let p = d .sound (b ∷ s) x e in
+          let p = u .sound (b ∷ s) x e in
           let r = later (pred (length (print x))) in
           let front = passed (print x) (p .rest) (long x) (p .prints) in
           record {
@@ -108,8 +108,22 @@ module _ {A : Type 0} {print : A → List ℕ} {Ok : A → Type 0} {After : A �
     run-print [] nil = refl
     run-print (x ∷ xs) (more ok oks) =
         rw append-assoc
-        (run-some print read _ x (printAll print xs ++ t) refl (long x) (d .complete x _ ok (after x xs))
+        (run-some print read _ x (printAll print xs ++ t) refl (long x) (u .complete x _ ok (after x xs))
         ∙ ap (cons x) (run-print xs oks))
 
     pub run-whole : (xs : List A) → All Ok xs → read t ≡ none → run print read 0 (printAll print xs ++ t) ≡ record { all = xs; rest = t }
     run-whole xs ok e = run-print xs ok ∙ ap (prepend xs) (run-none print read t e) ∙ rw (append-nil xs)
+
+  -- at a place
+  module _ (d : List ℕ) (at : ℕ) {x : A} (e : read (drop at d) ≡ some x) where
+    pub read-inside : at + length (print x) ≤ length d
+    read-inside =
+        let p = u .sound (drop at d) x e in
+        let l = long x in
+        omega (arith, length-drop at d, ap length (p .prints) ∙ length-append (print x) (p .rest))
+
+    pub run-cons : run print read 0 (drop at d) ≡ cons x (run print read 0 (drop (at + length (print x)) d))
+    run-cons =
+        let p = u .sound (drop at d) x e in
+        let z = ap (drop (length (print x))) (p .prints) ∙ drop-append-seam (print x) (p .rest) in
+        rw (← drop-drop (length (print x)) at d, z) (run-some print read (drop at d) x (p .rest) (p .prints) (long x) e)

@@ -9,18 +9,18 @@ use lib.Dec.{eqb}
 use lib.ListN.{length, take, drop, length-append}
 use lib.Seq.{take-at, drop-append-seam}
 use Rattle.xml.specs.Notation.{bytes}
-use Rattle.xml.specs.Productions.{Name, isName, isNameStart, isNameMore}
+use Rattle.xml.specs.Productions.{Name, isName, isNameStart}
 use Rattle.xml.specs.Character.{begins, starts}
 use Rattle.xml.proofs.Bools.{and-left}
 use Rattle.xml.proofs.Character.{begins-split}
 use Rattle.xml.proofs.Language.{reads-language, language-reads}
 use Rattle.chars.specs.Name.{nameOf}
 use Rattle.paths.specs.Path.{Test, any, named, Step, printKind, printTest, printStep, ProperTest, Proper}
-use Rattle.paths.specs.Reader.{Run, cons, kindAt, nameBefore, testAt, withKind, withTest, stepAt, steps}
+use Rattle.paths.specs.Reader.{kindAt, nameBefore, testAt, withKind, withTest, stepAt, steps}
 use Rattle.paths.specs.declared.Kind.{Kind}
 use Rattle.paths.specs.declared.Kind.the-variants.{Child, Descendant}
-use Rattle.paths.proofs.Print.{Printed, Undoes, Found, run-found, run-none, run-some}
-use Rattle.paths.proofs.Names.{name-found, name-is, name-long, name-front}
+use Rattle.paths.proofs.Print.{Printed, Undoes, Found, run-found, run-none}
+use Rattle.paths.proofs.Names.{name-found, name-is, name-front}
 
 -- what may be printed at any time, and what may follow anything
 abbrev pub Free : {A : Type 0} → A → Type 0

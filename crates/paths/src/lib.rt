@@ -112,3 +112,54 @@ pub fn end_at(list: &[u8], at: usize) -> LineEnd
     }
     LineEnd::Fault
 }
+
+// The list is judged line by line: the first line with a fault decides, and nothing after it is looked at. Within a line malformed comes
+// before too large, so a line's sizes are looked at once it has been read to its end.
+pub fn answer(list: &[u8]) -> ListAnswer
+    ensures { λ r. ⌜ r ≡ listAnswer (now (list .entry)) ⌝ }
+{
+    if list.len() > 8192 {
+        return ListAnswer::TooLong;
+    }
+    let mut at: usize = 0;
+    let mut line: usize = 1;
+    let said = 'lines: loop {
+        if at >= list.len() {
+            break 'lines ListAnswer::Sound;
+        }
+        if line > 32 {
+            break 'lines ListAnswer::TooLarge(line);
+        }
+        let mut count: usize = 0;
+        let mut small = true;
+        'steps: loop {
+            match step_at(list, at) {
+                StepEnd::Step {
+                    kind: _,
+                    name: _,
+                    len,
+                    end,
+                } => {
+                    count += 1;
+                    small = small & (len <= 255);
+                    at = end;
+                }
+                StepEnd::Fault => break 'steps,
+            }
+        }
+        if count == 0 {
+            break 'lines ListAnswer::Malformed(line);
+        }
+        match end_at(list, at) {
+            LineEnd::Ends { marked: _, next } => {
+                at = next;
+            }
+            LineEnd::Fault => break 'lines ListAnswer::Malformed(line),
+        }
+        if !((count <= 16) & small) {
+            break 'lines ListAnswer::TooLarge(line);
+        }
+        line += 1;
+    };
+    said
+}

@@ -1,50 +1,39 @@
-use Rattle.paths.proofs.Places.{room}
-use Rattle.xml.specs.Notation.{bytes}
+-- `end_at` meets its contract: the marked end before the plain one, each inside where it stands.
+-- proofs/Places.antt has the laws.
 use native.Mathlib.Omega.{arith}
-use Rattle.paths.proofs.Places.{ending}
+use Rattle.xml.specs.Notation.{bytes}
+use Rattle.paths.proofs.Places.{room, ending}
 use Rattle.paths.proofs.end_at.Statement.{statement}
 use Rattle.paths.proofs.end_at.Tie as tie
-use Rattle.paths.proofs.end_at.Reads as reads
-use Rattle.paths.proofs.end_at.Lts as lts
-use Rattle.paths.proofs.stands.Reads as stands-reads
 
--- src/lib.rt:101:25
 slice-aggregate-stands : tie.Need-slice-aggregate-stands
 slice-aggregate-stands c = search ending
 
--- src/lib.rt:101:8
 stands-requires : tie.Need-stands-requires
 stands-requires c κs = search ending
 
--- src/lib.rt:104:19
 add-t8 : tie.Need-add-t8
 add-t8 c =
     let args = c .before .before .before .before .args in
     omega (arith, room (args .list .now) (args .at) (bytes " #\n") (c .before .stands .ensures) (c .if1 .taken) (omega arith))
 
--- src/lib.rt:102:9
 returns : tie.Need-returns
 returns c = search ending
 
--- src/lib.rt:107:25
 slice-aggregate-stands-2 : tie.Need-slice-aggregate-stands-2
 slice-aggregate-stands-2 c = search ending
 
--- src/lib.rt:107:8
 stands-requires-2 : tie.Need-stands-requires-2
 stands-requires-2 c κs = search ending
 
--- src/lib.rt:110:19
 add-t12 : tie.Need-add-t12
 add-t12 c =
     let args = c .before .before .before .before .before .before .before .args in
     omega (arith, room (args .list .now) (args .at) (bytes "\n") (c .before .stands2 .ensures) (c .if2 .taken) (omega arith))
 
--- src/lib.rt:108:9
 returns-2 : tie.Need-returns-2
 returns-2 c = search ending
 
--- src/lib.rt:98:1
 returns-3 : tie.Need-returns-3
 returns-3 c = search ending
 

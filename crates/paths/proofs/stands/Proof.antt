@@ -1,11 +1,10 @@
-use Rattle.paths.proofs.Places.{standing}
-use Rattle.paths.proofs.Places.{Standing}
-use lib.ListN.{length}
+-- `stands` meets its contract. The loop's invariant: the first k bytes of the text stand before the place i.
+-- The measure is what is left of the text.
 use Prim.Native.Nat.{_-_}
+use lib.ListN.{length}
+use Rattle.paths.proofs.Places.{standing, Standing}
 use Rattle.paths.proofs.stands.Statement.{statement}
 use Rattle.paths.proofs.stands.Tie as tie
-use Rattle.paths.proofs.stands.Reads as reads
-use Rattle.paths.proofs.stands.Lts as lts
 
 abbrev Inv-loop : tie.InvT-loop
 Inv-loop list at text i₀ k₀ i k = Standing list at text i k
@@ -13,43 +12,33 @@ Inv-loop list at text i₀ k₀ i k = Standing list at text i k
 abbrev μ-loop : tie.MeasureT-loop
 μ-loop list at text i₀ k₀ i k = length text - k
 
--- src/lib.rt:48:5
 loop-holds : tie.Need-loop-holds Inv-loop μ-loop
 loop-holds c = search standing
 
--- src/lib.rt:50:13
 returns : tie.Need-returns Inv-loop μ-loop
 returns c = search standing
 
--- src/lib.rt:52:12
 shared-slice-read-if2 : tie.Need-shared-slice-read-if2 Inv-loop μ-loop
 shared-slice-read-if2 c = search standing
 
--- src/lib.rt:52:23
 shared-slice-read-if2-2 : tie.Need-shared-slice-read-if2-2 Inv-loop μ-loop
 shared-slice-read-if2-2 c = search standing
 
--- src/lib.rt:53:13
 returns-2 : tie.Need-returns-2 Inv-loop μ-loop
 returns-2 c = search standing
 
--- src/lib.rt:55:9
 add-i : tie.Need-add-i Inv-loop μ-loop
 add-i c = search standing
 
--- src/lib.rt:56:9
 add-k : tie.Need-add-k Inv-loop μ-loop
 add-k c = search standing
 
--- src/lib.rt:48:5
 loop-less : tie.Need-loop-less Inv-loop μ-loop
 loop-less c = search standing
 
--- src/lib.rt:48:5
 loop-again : tie.Need-loop-again Inv-loop μ-loop
 loop-again c = search standing
 
--- src/lib.rt:43:1
 returns-3 : tie.Need-returns-3 Inv-loop μ-loop
 returns-3 c = search standing
 
