@@ -5,3 +5,5 @@ pub mod Lines
 pub mod Meaning
 pub mod Places
 pub mod Walk
+pub mod Examples
+pub mod OneAnswer
