@@ -7,12 +7,11 @@ use Prim.Native.Nat.{ℕ, zero, suc}
 use Rattle.xml.specs.Utf8.{utf8, isScalar}
 use Rattle.xml.specs.Notation.{bytes}
 use Rattle.xml.specs.Productions.{isNameStart, isNameMore, isName}
-use Rattle.xml.specs.Character.{valueOf, guess, character, starts}
-use Rattle.xml.specs.Character.{run as runOf}
+use Rattle.xml.specs.Character.{valueOf, guess, character, starts, run}
 use Rattle.utf8.proofs.Examples.{Row, _at_gives_, answers, expected}
 use Rattle.chars.specs.Name.{nameOf}
 use Rattle.paths.specs.Path.{Test, any, named, Step, Path, printStep, printLine}
-use Rattle.paths.specs.Reader.{run, kindAt, testAt, stepAt, steps, endAt, lineAt}
+use Rattle.paths.specs.Reader.{readAll, kindAt, testAt, stepAt, steps, endAt, lineAt}
 use Rattle.paths.specs.Judge.{within, soundAt, lines, judge, listAnswer, listPaths}
 use Rattle.paths.specs.declared.Kind.the-variants.{Child, Descendant}
 use Rattle.paths.specs.declared.ListAnswer.{ListAnswer}
@@ -177,8 +176,8 @@ abbrev pub lists : List (Row ListAnswer)
 lists = wholeLines ++ blanks ++ badSteps ++ nameLines ++ sizes ++ firstFault
 
 pub answers-computed : answers (λ s k. listAnswer s) lists ≡ expected lists
-unfolding wholeLines blanks badSteps nameLines sizes firstFault listAnswer judge lines soundAt within lineAt steps run endAt stepAt testAt
-    kindAt printStep printLine nameOf runOf starts character guess valueOf utf8 isScalar isNameStart isNameMore isName
+unfolding wholeLines blanks badSteps nameLines sizes firstFault listAnswer judge lines soundAt within lineAt steps readAll endAt stepAt testAt
+    kindAt printStep printLine nameOf run starts character guess valueOf utf8 isScalar isNameStart isNameMore isName
 answers-computed = refl
 
 -- ---- the paths of a list
@@ -209,6 +208,6 @@ pathLists =
     ∷ []
 
 pub paths-computed : answers (λ s k. listPaths s) pathLists ≡ expected pathLists
-unfolding pathLists listPaths listAnswer judge lines soundAt within lineAt steps run endAt stepAt testAt kindAt printStep printLine nameOf
-    runOf starts character guess valueOf utf8 isScalar isNameStart isNameMore isName
+unfolding pathLists listPaths listAnswer judge lines soundAt within lineAt steps readAll endAt stepAt testAt kindAt printStep printLine nameOf
+    run starts character guess valueOf utf8 isScalar isNameStart isNameMore isName
 paths-computed = refl
