@@ -176,8 +176,8 @@ abbrev pub lists : List (Row ListAnswer)
 lists = wholeLines ++ blanks ++ badSteps ++ nameLines ++ sizes ++ firstFault
 
 pub answers-computed : answers (λ s k. listAnswer s) lists ≡ expected lists
-unfolding wholeLines blanks badSteps nameLines sizes firstFault listAnswer judge lines soundAt within lineAt steps readAll endAt stepAt testAt
-    kindAt printStep printLine nameOf run starts character guess valueOf utf8 isScalar isNameStart isNameMore isName
+unfolding wholeLines blanks badSteps nameLines sizes firstFault listAnswer judge lines soundAt within lineAt steps readAll endAt stepAt
+    testAt kindAt printStep printLine nameOf run starts character guess valueOf utf8 isScalar isNameStart isNameMore isName
 answers-computed = refl
 
 -- ---- the paths of a list
@@ -208,6 +208,6 @@ pathLists =
     ∷ []
 
 pub paths-computed : answers (λ s k. listPaths s) pathLists ≡ expected pathLists
-unfolding pathLists listPaths listAnswer judge lines soundAt within lineAt steps readAll endAt stepAt testAt kindAt printStep printLine nameOf
-    run starts character guess valueOf utf8 isScalar isNameStart isNameMore isName
+unfolding pathLists listPaths listAnswer judge lines soundAt within lineAt steps readAll endAt stepAt testAt kindAt printStep printLine
+    nameOf run starts character guess valueOf utf8 isScalar isNameStart isNameMore isName
 paths-computed = refl

@@ -4,6 +4,7 @@ pub mod Steps
 pub mod Lines
 pub mod Meaning
 pub mod Places
+pub mod Here
 pub mod Walk
 pub mod Examples
 pub mod OneAnswer

@@ -106,7 +106,8 @@ module _ {A : Type 0} {print : A → List ℕ} {Ok : A → Type 0} {After : A �
         (run-some print read _ x (printAll print xs ++ t) refl (long x) (u .complete x _ ok (after x xs))
         ∙ ap (cons x) (run-print xs oks))
 
-    pub run-whole : (xs : List A) → All Ok xs → read t ≡ none → readAll print read 0 (printAll print xs ++ t) ≡ record { all = xs; rest = t }
+    pub run-whole : (xs : List A) → All Ok xs → read t ≡ none
+        → readAll print read 0 (printAll print xs ++ t) ≡ record { all = xs; rest = t }
     run-whole xs ok e = run-print xs ok ∙ ap (prepend xs) (run-none print read t e) ∙ rw (append-nil xs)
 
   -- at a place

@@ -9,22 +9,23 @@ use native.Mathlib.Omega.{arith}
 use borrow.Author.Needs.{needs}
 use borrow.Author.Tests.{le-ltb, lt-ltb, not-true, not-false}
 use lib.Dec.{leb}
-use lib.ListN.{length, drop, length-append, length-drop}
+use lib.ListN.{length, drop, length-drop}
 use Rattle.utf8.proofs.Place.{drop-end}
-use Rattle.paths.specs.Path.{Step, Path, testSize, printStep, printAll, printLine}
-use Rattle.paths.specs.Reader.{Run, cons, stepAt, steps, printEnd, endAt, withEnd, lineAt}
+use Rattle.paths.specs.Path.{Step, Path, printLine}
+use Rattle.paths.specs.Reader.{Run, cons, steps, endAt, withEnd, lineAt}
 use Rattle.paths.specs.Judge.{smallNames, within, soundAt, lines, faultOf, judge, listAnswer}
-use Rattle.paths.specs.Place.{stepPlaced, stepEndAt, endPlaced, lineEndAt}
+use Rattle.paths.specs.Place.{stepEndAt, lineEndAt}
 use Rattle.paths.specs.declared.Kind.{Kind}
 use Rattle.paths.specs.declared.ListAnswer.the-variants.{Sound, TooLong, Malformed, TooLarge}
 use Rattle.paths.specs.declared.StepEnd.{StepEnd}
 use Rattle.paths.specs.declared.StepEnd.the-variants.{Step as StepTo, Fault as NoStep}
 use Rattle.paths.specs.declared.LineEnd.{LineEnd}
 use Rattle.paths.specs.declared.LineEnd.the-variants.{Ends as LineEnds, Fault as NoEnd}
-use Rattle.paths.proofs.Print.{run-cons, read-inside}
-use Rattle.paths.proofs.Steps.{step-undoes, step-long, steps-found, steps-none}
-use Rattle.paths.proofs.Lines.{end-undoes, end-long, line-long, sound-undoes, sound-nil, lines-none}
+use Rattle.paths.proofs.Print.{run-cons}
+use Rattle.paths.proofs.Steps.{steps-none}
+use Rattle.paths.proofs.Lines.{line-long, sound-undoes, sound-nil, lines-none}
 use Rattle.paths.proofs.Meaning.{judge-past, judge-fault}
+use Rattle.paths.proofs.Here.{StepHere, step-none, step-here, EndHere, end-none, end-here, line-ends}
 
 -- ---- a run that is passed in part
 
@@ -126,58 +127,31 @@ walk-start v l h =
     record { front = v; some = l; few = h; here = record { passing = pass-start steps (omega arith); small-is = refl } }
 
 -- a step was found
-module _ (d : List ℕ) (at : ℕ) {r : StepEnd} (q : r ≡ stepEndAt d at) where
-  no-step : r ≡ NoStep → stepAt (drop at d) ≡ none
-  unfolding stepEndAt
-  no-step f = go (stepAt (drop at d)) (sym f ∙ q)
-    where
-      go : (o : Option Step) → NoStep ≡ stepPlaced at o → o ≡ none
-      go none z = refl
-      go (some x) z = absurd (let z : _≡_ {A = ℕ} 0 1 = cc in omega arith)
+module _ {d : List ℕ} {from line at count : ℕ} {small : Bool} (w : Walking d from line at count small) {r : StepEnd}
+    (q : r ≡ stepEndAt d at) {k : Kind} {name len end : ℕ} (f : r ≡ StepTo k name len end) where
+  step-is : StepHere d at k name len end
+  step-is = step-here d at q f
 
-  module _ {k : Kind} {name len end : ℕ} (f : r ≡ StepTo k name len end) where
-    step-found : (x : Step) × (stepAt (drop at d) ≡ some x) × (len ≡ testSize (x .test)) × (end ≡ at + length (printStep x))
-    unfolding stepEndAt
-    step-found = go (stepAt (drop at d)) (sym f ∙ q)
-      where
-        go : (o : Option Step) → StepTo k name len end ≡ stepPlaced at o
-            → (x : Step) × (o ≡ some x) × (len ≡ testSize (x .test)) × (end ≡ at + length (printStep x))
-        go none z = absurd (let z : _≡_ {A = ℕ} 0 1 = cc in omega arith)
-        go (some x) z = (x, refl, (cc), (cc))
+  pub step-less : length d - end < length d - at
+  step-less = let l = step-is .on in let i = step-is .inside in omega arith
 
-    step-bounds : (at < end) × (end ≤ length d)
-    step-bounds =
-        let (x, e, n, m) = step-found in
-        let l = step-long x in
-        let i = read-inside step-undoes step-long d at e in
-        (omega arith, omega arith)
+  pub step-room : count + 1 ≤ length d
+  step-room = let b = w .here .passing .begun in let l = step-is .on in let i = step-is .inside in omega arith
 
-    pub step-less : length d - end < length d - at
-    step-less = omega (arith, step-bounds)
-
-    pub step-room : {from line count : ℕ} {small : Bool} → Walking d from line at count small → count + 1 ≤ length d
-    step-room w = let b = w .here .passing .begun in omega (arith, step-bounds)
-
-    pub walk-on : {from line count : ℕ} {small : Bool} → Walking d from line at count small
-        → Walking d from line end (count + 1) (small && leb len 255)
-    unfolding steps
-    walk-on {from = from} {small = small} w =
-        let (x, e, n, m) = step-found in
-        let (l, i) = step-bounds in
-        let c : steps (drop at d) ≡ cons x (steps (drop end d)) =
-        run-cons step-undoes step-long d at e ∙ ap (λ (n : ℕ). cons x (steps (drop n d))) (sym m) in
-        let v = w .here in
-        let z : small && smallNames (x ∷ steps (drop end d) .all) ≡ smallNames (steps (drop from d) .all) =
-        ap (λ (r : Run Step). small && smallNames (r .all)) (sym c) ∙ v .small-is in
-        record {
-          front = w .front;
-          some = w .some;
-          few = w .few;
-          here = record {
-            passing = pass-on steps (v .passing) x end c l i;
-            small-is = rw n (and-assoc small (leb (testSize (x .test)) 255) _ ∙ z);
-          };
-        }
+  pub walk-on : Walking d from line end (count + 1) (small && leb len 255)
+  walk-on =
+      let v = w .here in
+      let all : smallNames (step-is .step ∷ steps (drop end d) .all) ≡ smallNames (steps (drop at d) .all) =
+      ap (λ (r : Run Step). smallNames (r .all)) (sym (step-is .runs)) in
+      record {
+        front = w .front;
+        some = w .some;
+        few = w .few;
+        here = record {
+          passing = pass-on steps (v .passing) (step-is .step) end (step-is .runs) (step-is .on) (step-is .inside);
+          small-is = rw (step-is .size) (and-assoc small _ _ ∙ ap (λ (b : Bool). small && b) all ∙ v .small-is);
+        };
+      }
 
 -- ---- a line that was read
 
@@ -187,7 +161,7 @@ module _ {d : List ℕ} {from line at count : ℕ} {small : Bool} (w : Walking d
   xs = steps (drop from d) .all
 
   here : steps (drop at d) ≡ record { all = []; rest = drop at d }
-  here = steps-none (drop at d) (no-step d at q f)
+  here = steps-none (drop at d) (step-none d at q f)
 
   count-is : count ≡ length xs
   count-is =
@@ -219,13 +193,8 @@ module _ {d : List ℕ} {from line at count : ℕ} {small : Bool} (w : Walking d
 
   module _ {k : LineEnd} (e : k ≡ lineEndAt d at) where
     pub no-end : k ≡ NoEnd → Malformed line ≡ listAnswer d
-    unfolding lineEndAt
-    no-end g = malformed (line-is ∙ ap (withEnd xs) (go (endAt (drop at d)) (sym g ∙ e)) ∙ nothing xs)
+    no-end g = malformed (line-is ∙ ap (withEnd xs) (end-none d at e g) ∙ nothing xs)
       where
-        go : (o : Option Bool) → NoEnd ≡ endPlaced at o → o ≡ none
-        go none z = refl
-        go (some m) z = absurd (let z : _≡_ {A = ℕ} 0 1 = cc in omega arith)
-
         nothing : (ys : List Step) → withEnd ys none ≡ none
         nothing [] = refl
         nothing (y ∷ ys) = refl
@@ -234,16 +203,11 @@ module _ {d : List ℕ} {from line at count : ℕ} {small : Bool} (w : Walking d
       abbrev path : Path
       path = record { steps = xs; marked = m }
 
-      end-found : (endAt (drop at d) ≡ some m) × (next ≡ at + length (printEnd m))
-      unfolding lineEndAt
-      end-found = go (endAt (drop at d)) (sym g ∙ e)
-        where
-          go : (o : Option Bool) → LineEnds m next ≡ endPlaced at o → (o ≡ some m) × (next ≡ at + length (printEnd m))
-          go none z = absurd (let z : _≡_ {A = ℕ} 0 1 = cc in omega arith)
-          go (some y) z = let h : y ≡ m = cc in (ap some h, (let v : next ≡ at + length (printEnd y) = cc in v ∙ rw h))
+      end-is : EndHere d at m next
+      end-is = end-here d at e g
 
       line-found : lineAt (drop from d) ≡ some path
-      line-found = line-is ∙ ap (withEnd xs) (end-found .0) ∙ go xs (λ z. n (count-is ∙ z))
+      line-found = line-is ∙ ap (withEnd xs) (end-is .found) ∙ go xs (λ z. n (count-is ∙ z))
         where
           go : (ys : List Step) → (length ys ≡ 0 → ⊥) → withEnd ys (some m) ≡ some (record { steps = ys; marked = m })
           go [] h = absurd (h refl)
@@ -253,26 +217,16 @@ module _ {d : List ℕ} {from line at count : ℕ} {small : Bool} (w : Walking d
       unfolding within
       within-is = rw (count-is, small-names)
 
-      line-ends : next ≡ from + length (printLine path)
-      unfolding printLine
-      line-ends =
+      next-is : next ≡ from + length (printLine path)
+      next-is =
           let b = w .here .passing .begun in
-          let i = w .here .passing .inside in
-          let z : length (drop from d) ≡ length (printAll printStep xs) + length (drop at d) =
-          ap length (steps-found (drop from d) .prints) ∙ length-append (printAll printStep xs) _ ∙ rw rest-is in
-          let y : length (printLine path) ≡ length (printAll printStep xs) + length (printEnd m) =
-          simp length-append (omega arith) in
-          omega (arith, length-drop from d, length-drop at d, end-found .1)
+          end-is .ends ∙ sym (line-ends d from at m (omega arith) (w .here .passing .inside) rest-is)
 
-      line-bounds : (from < next) × (next ≤ length d)
-      line-bounds =
-          let l = line-ends in
-          let k = line-long path in
-          let i = read-inside end-undoes end-long d at (end-found .0) in
-          (omega arith, omega (arith, end-found .1))
+      line-on : from < next
+      line-on = let b = w .here .passing .begun in let l = end-is .on in omega arith
 
       pub line-less : length d - next < length d - from
-      line-less = omega (arith, line-bounds)
+      line-less = let l = line-on in let i = end-is .inside in omega arith
 
       pub line-large : not (leb count 16 && small) ≡ true → TooLarge line ≡ listAnswer d
       unfolding soundAt
@@ -285,13 +239,13 @@ module _ {d : List ℕ} {from line at count : ℕ} {small : Bool} (w : Walking d
       line-next y =
           let s : soundAt (drop from d) ≡ some path = rw (line-found, within-is ∙ not-false _ y) in
           let c : lines (drop from d) ≡ cons path (lines (drop next d)) =
-          run-cons sound-undoes line-long d from s ∙ ap (λ (n : ℕ). cons path (lines (drop n d))) (sym line-ends) in
+          run-cons sound-undoes line-long d from s ∙ ap (λ (n : ℕ). cons path (lines (drop n d))) (sym next-is) in
           let a = w .front in
           let h = a .first in
           let l = w .few in
           let z : line - 1 + 1 ≡ line + 1 - 1 = omega arith in
           record {
-            passing = rw z at (pass-on lines (a .passing) path next c (line-bounds .0) (line-bounds .1));
+            passing = rw z at (pass-on lines (a .passing) path next c line-on (end-is .inside));
             short = a .short;
             first = omega arith;
             few = omega arith;
