@@ -8,7 +8,7 @@ use Prim.Native.Nat.{ℕ, _+_, _≤_, _<_}
 use native.Mathlib.Omega.{arith}
 use lib.ListN.{length, take, drop, length-append, length-drop}
 use lib.Seq.{drop-drop, take-append-seam, drop-append-seam}
-use Rattle.paths.specs.Path.{Test, named, Step, Path, testSize, printKind, printTest, printStep, printAll, printLine, Good}
+use Rattle.paths.specs.Path.{Test, named, Step, Path, testSize, printKind, printTest, printStep, printAll, printLine, Proper, Good}
 use Rattle.paths.specs.Answer.{Says, sound}
 use Rattle.paths.specs.Reader.{Run, cons, stepAt, steps, printEnd, endAt, withEnd, lineAt}
 use Rattle.paths.specs.Judge.{within, smallOnly, soundAt, lines, listAnswer, listPaths}
@@ -19,7 +19,7 @@ use Rattle.paths.specs.declared.StepEnd.{StepEnd}
 use Rattle.paths.specs.declared.StepEnd.the-variants.{Step as StepTo, Fault as NoStep}
 use Rattle.paths.specs.declared.LineEnd.{LineEnd}
 use Rattle.paths.specs.declared.LineEnd.the-variants.{Ends as LineEnds, Fault as NoEnd}
-use Rattle.paths.proofs.Print.{run-cons, read-inside}
+use Rattle.paths.proofs.Print.{read-inside, read-prints, run-cons}
 use Rattle.paths.proofs.Steps.{step-undoes, step-long, steps-found}
 use Rattle.paths.proofs.Lines.{end-undoes, end-long, line-long, sound-undoes, sound-nil, lines-none, lines-whole}
 use Rattle.paths.proofs.Meaning.{says}
@@ -30,6 +30,8 @@ use Rattle.paths.proofs.Meaning.{says}
 pub record StepHere (d : List ℕ) (at : ℕ) (k : Kind) (name len end : ℕ) : Type 0 where
   pub step : Step
   pub found : stepAt (drop at d) ≡ some step
+  pub proper : Proper step
+  pub prints : drop at d ≡ printStep step ++ drop end d
   pub kind : k ≡ step .kind
   pub size : len ≡ testSize (step .test)
   pub bytes : (n : List ℕ) → step .test ≡ named n → take len (drop name d) ≡ n
@@ -70,6 +72,8 @@ module _ (d : List ℕ) (at : ℕ) {r : StepEnd} (q : r ≡ stepEndAt d at) wher
           record {
             step = x;
             found = e;
+            proper = step-undoes .sound (drop at d) x e .ok;
+            prints = read-prints step-undoes step-long d at e ∙ ap (λ (n : ℕ). printStep x ++ drop n d) (sym h);
             kind = a;
             size = c;
             bytes = rw (b, c) (name-bytes d at x e);

@@ -5,6 +5,7 @@ pub mod Lines
 pub mod Meaning
 pub mod Places
 pub mod Here
+pub mod Front
 pub mod Walk
 pub mod Examples
 pub mod OneAnswer

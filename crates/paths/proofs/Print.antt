@@ -118,8 +118,12 @@ module _ {A : Type 0} {print : A → List ℕ} {Ok : A → Type 0} {After : A �
         let l = long x in
         omega (arith, length-drop at d, ap length (p .prints) ∙ length-append (print x) (p .rest))
 
-    pub run-cons : readAll print read 0 (drop at d) ≡ cons x (readAll print read 0 (drop (at + length (print x)) d))
-    run-cons =
+    pub read-prints : drop at d ≡ print x ++ drop (at + length (print x)) d
+    read-prints =
         let p = u .sound (drop at d) x e in
-        let z = ap (drop (length (print x))) (p .prints) ∙ drop-append-seam (print x) (p .rest) in
-        rw (← drop-drop (length (print x)) at d, z) (run-some print read (drop at d) x (p .rest) (p .prints) (long x) e)
+        let z : drop (at + length (print x)) d ≡ p .rest =
+        sym (drop-drop (length (print x)) at d) ∙ ap (drop (length (print x))) (p .prints) ∙ drop-append-seam (print x) (p .rest) in
+        p .prints ∙ ap (λ (v : List ℕ). print x ++ v) (sym z)
+
+    pub run-cons : readAll print read 0 (drop at d) ≡ cons x (readAll print read 0 (drop (at + length (print x)) d))
+    run-cons = run-some print read (drop at d) x (drop (at + length (print x)) d) read-prints (long x) e
