@@ -13,7 +13,7 @@ test: toolchain format lines expected
 toolchain:
 	@command -v rt > /dev/null || { \
 	    echo 'missing: the Rattle toolchain. Its command rt must be on the PATH; nothing here can be checked without it.'; exit 1; }
-	@command -v rustc > /dev/null || { echo 'installing rustc'; apt-get update -q > /dev/null && apt-get install -y -q rustc > /dev/null; } || { \
+	@command -v rustc > /dev/null || { echo 'installing rustc'; apt-get update -q && apt-get install -y -q rustc; } > /dev/null || { \
 	    echo 'missing: rustc, which makes the expected outputs anew. Install the Debian package rustc.'; exit 1; }
 
 format:

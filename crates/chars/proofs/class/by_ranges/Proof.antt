@@ -26,15 +26,15 @@ returns-2 : tie.Need-returns-2
 unfolding isNameStart isNameMore
 returns-2 c =
     let first = c .before .before .before .before in
-    class-one (first .before .before .args .c) (first .in-ranges .ensures) (c .before .in-ranges2 .ensures) (c .before .before .before .if1 .left)
-    (c .if2 .taken)
+    let second = c .before .in-ranges2 .ensures in
+    class-one (first .before .before .args .c) (first .in-ranges .ensures) second (c .before .before .before .if1 .left) (c .if2 .taken)
 
 returns-3 : tie.Need-returns-3
 unfolding isNameStart isNameMore
 returns-3 c =
     let first = c .before .before .before .before in
-    class-zero (first .before .before .args .c) (first .in-ranges .ensures) (c .before .in-ranges2 .ensures) (c .before .before .before .if1 .left)
-    (c .if2 .left)
+    let second = c .before .in-ranges2 .ensures in
+    class-zero (first .before .before .args .c) (first .in-ranges .ensures) second (c .before .before .before .if1 .left) (c .if2 .left)
 
 pub by-ranges-spec : {M : Type 1} → statement M
 by-ranges-spec =
