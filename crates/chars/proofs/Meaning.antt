@@ -3,7 +3,7 @@
 use mathlib.Core.Path.{_≡_, refl, sym, ap, _∙_}
 use mathlib.Core.Bool.{Bool, true, false, cond}
 use mathlib.Core.List.{List, [], _∷_}
-use mathlib.Core.Option.{none, some}
+use mathlib.Core.Option.{none, some, Option·none-ne-some, Option·some-injective}
 use Prim.Native.Nat.{ℕ, _+_, _-_, _≤_}
 use native.Mathlib.Omega.{arith}
 use lib.Dec.{leb}
@@ -102,26 +102,40 @@ some-left p d at y = go (leb at (length d)) refl
         let h = leb-false at (length d) e in
         absurd (true-false (ap (starts p) (sym (drop-end d at (omega arith))) ∙ y) (starts-nil p))
 
-name-run : (s t : List ℕ) → Reads Name s t → Star (Reads NameChar) s t
-name-run s t (m, (c, h, k, e), rs) = more (c, h, start-name c k, e) rs
+name-run : {s t : List ℕ} → Reads Name s t → Star (Reads NameChar) s t
+name-run (m, (c, h, k, e), rs) = more (c, h, start-name c k, e) rs
+
+-- on what is left: `nameOf` reads a Name that no NameChar follows, and nothing else
+module _ (s t : List ℕ) where
+  pub name-found : nameOf s ≡ some t → Reads Name s t × (starts isName t ≡ false)
+  unfolding nameOf
+  name-found e = go (starts isNameStart s) refl e
+    where
+      go : (b : Bool) → starts isNameStart s ≡ b → cond b (some (run isName 0 s)) none ≡ some t → Reads Name s t × (starts isName t ≡ false)
+      go false n q = absurd (Option·none-ne-some t q)
+      go true y q =
+          let m = drop (wide (character s)) s in
+          let x : Reads NameStartChar s m = starts-reads isNameStart s y in
+          let k : starts isName s ≡ true = reads-starts isName s m (x .0, x .1, start-name (x .0) (x .2), x .3) in
+          rw (← Option·some-injective _ _ q) ((m, x, rw (run-step isName s k) (run-reads isName m)), run-stops isName s)
+
+  pub name-is : Reads Name s t → starts isName t ≡ false → nameOf s ≡ some t
+  unfolding nameOf
+  name-is x n = rw (reads-starts isNameStart s (x .0) (x .1)) (ap some (run-only isName (name-run x) n))
 
 pub name-says : (d : List ℕ) (at : ℕ) → NameSays d at (nameAt d at)
 unfolding nameAt nameOf
-name-says d at = go (starts isNameStart (drop at d)) refl
+name-says d at = go (starts isNameStart s) refl
   where
-    go : (b : Bool) → starts isNameStart (drop at d) ≡ b → NameSays d at (readingAt d at (cond b (some (run isName 0 (drop at d))) none))
-    go false n = λ t (m, r, rs). starts-not isNameStart (drop at d) n m r
+    s : List ℕ
+    s = drop at d
+
+    go : (b : Bool) → starts isNameStart s ≡ b → NameSays d at (readingAt d at (cond b (some (run isName 0 s)) none))
+    go false n = λ t (m, r, rs). starts-not isNameStart s n m r
     go true y =
-        let s = drop at d in
-        let m = drop (wide (character s)) s in
-        let x : Reads NameStartChar s m = starts-reads isNameStart s y in
-        let r : run isName 0 s ≡ run isName 0 m =
-        run-step isName s (reads-starts isName s m (x .0, x .1, start-name (x .0) (x .2), x .3)) in
-        rw (ends-left isName d at) (
-          (m, x, rw r (run-reads isName m)),
-          ends-inside d at (run isName 0 s) (some-left isNameStart d at y),
-          λ t z. starts-not isName (run isName 0 s) (run-stops isName s) t z,
-        )
+        let (x, n) = name-found s (run isName 0 s) (rw y) in
+        rw (ends-left isName d at)
+        (x, ends-inside d at (run isName 0 s) (some-left isNameStart d at y), λ t z. starts-not isName (run isName 0 s) n t z)
 
 pub name-only : (d : List ℕ) (at : ℕ) (r : Reading) → NameSays d at r → r ≡ nameAt d at
 unfolding nameAt nameOf
@@ -131,7 +145,7 @@ name-only d at Fault p = sym (rw (not-starts isNameStart (drop at d) no-start))
     no-start m x = p m (m, x, done)
 name-only d at (Ends e) (x, l, n) =
     let s = drop at d in
-    let r : run isName 0 s ≡ drop e d = run-only isName (name-run s (drop e d) x) (not-starts isName (drop e d) n) in
+    let r : run isName 0 s ≡ drop e d = run-only isName (name-run x) (not-starts isName (drop e d) n) in
     let y : starts isNameStart s ≡ true = reads-starts isNameStart s (x .0) (x .1) in
     let w = ends-is d at e (run isName 0 s) (sym r) l (some-left isNameStart d at y) (run-length isName s) in
     sym (rw (y, ← w))

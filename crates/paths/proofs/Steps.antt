@@ -20,7 +20,8 @@ use Rattle.paths.specs.Reader.{kindAt, nameBefore, testAt, withKind, wit
 use Rattle.paths.specs.declared.Kind.{Kind}
 use Rattle.paths.specs.declared.Kind.the-variants.{Child, Descendant}
 use Rattle.paths.proofs.Print.{Printed, Undoes, Found, run-found, run-none}
-use Rattle.paths.proofs.Names.{name-found, name-is, name-front}
+use Rattle.chars.proofs.Meaning.{name-found, name-is}
+use Rattle.paths.proofs.Names.{name-front}
 
 -- what may be printed at any time, and what may follow anything
 abbrev pub Free : {A : Type 0} → A → Type 0
