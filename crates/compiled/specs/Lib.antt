@@ -1,3 +1,5 @@
 pub mod Bits
 pub mod Names
+pub mod Index
+pub mod Sizes
 pub mod Compiled

@@ -1,5 +1,5 @@
--- The distinct names of a list with their places in its bytes, in the order of their first place; where a name stands among them; and chains
--- through them by a number of the name, so that a name is found without going through all.
+-- The distinct names of a list with their places in its bytes, in the order of their first place; where a name stands among them; and
+-- chains through them by a number of the name, so that a name is found without going through all.
 use mathlib.Core.Bool.{Bool, true, false, cond}
 use mathlib.Core.List.{List, [], _∷_, _++_, map}
 use Prim.Native.Nat.{ℕ, zero, suc, _+_, _-_, _*_, _%_}
