@@ -3,6 +3,8 @@ pub mod Places
 pub mod Firsts
 pub mod Chains
 pub mod Bits
-pub mod Rows
+pub mod NameRows
 pub mod Stand
 pub mod Sizes
+pub mod Search
+pub mod Entries

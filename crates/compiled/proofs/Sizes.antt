@@ -18,7 +18,7 @@ use Rattle.compiled.proofs.Same.{all-map, all-append}
 use Rattle.compiled.proofs.Firsts.{names-few, names-once}
 use Rattle.compiled.proofs.Bits.{step-bits-below, padded-long, column-long, column-below}
 use Rattle.compiled.proofs.Bits.{Below, below-all, below-padded, all-mapped}
-use Rattle.compiled.proofs.Rows.{rows-long}
+use Rattle.compiled.proofs.NameRows.{rows-long}
 use Rattle.compiled.proofs.Chains.{chains-linked}
 use Rattle.compiled.proofs.Stand.{names-stand}
 

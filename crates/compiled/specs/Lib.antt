@@ -1,5 +1,6 @@
 pub mod Bits
 pub mod Names
 pub mod Index
+pub mod Row
 pub mod Sizes
 pub mod Compiled

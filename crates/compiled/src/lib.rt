@@ -1,4 +1,6 @@
 // A sound path list, compiled for matching: tables by value, as specs/Compiled.antt has them.
+pub mod find;
+pub mod rows;
 
 // For each path the bits of its descendant steps, that of its last step, and that again if it is marked: bit j for step j + 1. The distinct
 // names by their places in the list, and chains through them by a number of the name. A row of 32 for each name, the steps of each path
