@@ -51,7 +51,8 @@ pub fn find(
     name: &[u8],
 ) -> usize
     requires { ⌜ Tables (now list) (now at) (now len) (now head) (now next) ⌝ }
-    ensures { λ r. ⌜ Found (now (list .entry)) (now (at .entry)) (now (len .entry)) (now (head .entry)) (now (next .entry)) (now (name .entry)) r ⌝ }
+    ensures { λ r.
+        ⌜ Found (now (list .entry)) (now (at .entry)) (now (len .entry)) (now (head .entry)) (now (next .entry)) (now (name .entry)) r ⌝ }
 {
     let mut k = head[hash(name)] as usize;
     while 0 < k {

@@ -75,14 +75,16 @@ element-copy-out-k-2 c = search finding
 
 cast-k-2 : tie.Need-cast-k-2 Inv-loop μ-loop
 cast-k-2 c =
-    omega (arith, find-room (c .before .before .before .before .before .before .loop .inv) (search needs), find-less (c .before .before .before .before .before .before .loop .inv) (search needs))
+    let v = c .before .before .before .before .before .before .loop .inv in
+    omega (arith, find-room v (search needs), find-less v (search needs))
 
 loop-less : tie.Need-loop-less Inv-loop μ-loop
 loop-less c = search finding
 
 loop-again : tie.Need-loop-again Inv-loop μ-loop
 loop-again c =
-    find-more (c .before .before .before .before .before .before .loop .inv) (search needs) (c .before .before .same .ensures) (c .before .if1 .left)
+    let v = c .before .before .before .before .before .before .loop .inv in
+    find-more v (search needs) (c .before .before .same .ensures) (c .before .if1 .left)
 
 returns-2 : tie.Need-returns-2 Inv-loop μ-loop
 returns-2 c = search finding

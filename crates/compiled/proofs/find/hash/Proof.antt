@@ -40,7 +40,8 @@ add-result-2 c = search needs
 
 returns-2 : tie.Need-returns-2
 returns-2 c =
-    hash-is (c .before .before .before .before .before .before .args .name .now) (c .before .before .wide .ensures .0) (c .wide2 .ensures .0)
+    let name = c .before .before .before .before .before .before .args .name .now in
+    hash-is name (c .before .before .wide .ensures .0) (c .wide2 .ensures .0)
 
 pub hash-spec : {M : Type 1} → statement M
 hash-spec =
