@@ -1,10 +1,34 @@
-// The path list: judged line by line. What a list means is in specs/Path.antt, and what is answered in specs/Answer.antt.
+// The path list: steps and line ends at places, and the list judged line by line. What a list means is in specs/Path.antt, and what is
+// answered in specs/Answer.antt.
 ghost use mathlib.Core.Path.{_≡_};
+ghost use lib.ListN.{drop};
+ghost use Rattle.xml.specs.Character.{begins};
+ghost use Rattle.paths.specs.Place.{testEndAt, stepEndAt, lineEndAt};
+ghost use Rattle.paths.specs.Judge.{listAnswer};
+use chars::name::Reading;
+use chars::name::name;
 
 // How a step stands to the step before: one place below, or any number of places from one on.
 pub enum Kind {
     Child,
     Descendant,
+}
+
+// What stands at a place: a step, with its name's place and length (0 for `*`) and its end; or none.
+pub enum StepEnd {
+    Step {
+        kind: Kind,
+        name: usize,
+        len: usize,
+        end: usize,
+    },
+    Fault,
+}
+
+// What stands at a place: the end of a line, with its mark and the next line's place; or none.
+pub enum LineEnd {
+    Ends { marked: bool, next: usize },
+    Fault,
 }
 
 // What is said of a list: sound; over 8,192 bytes; the first line at fault is malformed, or too large.
@@ -13,4 +37,129 @@ pub enum ListAnswer {
     TooLong,
     Malformed(usize),
     TooLarge(usize),
+}
+
+// The text stands at a place.
+fn stands(list: &[u8], at: usize, text: &[u8]) -> bool
+    ensures { λ r. ⌜ r ≡ begins (now (text .entry)) (drop at (now (list .entry))) ⌝ }
+{
+    let mut i = at;
+    let mut k: usize = 0;
+    while k < text.len() {
+        if i >= list.len() {
+            return false;
+        }
+        if list[i] != text[k] {
+            return false;
+        }
+        i += 1;
+        k += 1;
+    }
+    true
+}
+
+// The step of a kind whose `*` or name stands at a place.
+fn test_at(list: &[u8], at: usize, kind: Kind) -> StepEnd
+    ensures { λ r. ⌜ r ≡ testEndAt kind (now (list .entry)) at ⌝ }
+{
+    if stands(list, at, b"*") {
+        return StepEnd::Step {
+            kind,
+            name: at,
+            len: 0,
+            end: at + 1,
+        };
+    }
+    match name(list, at) {
+        Reading::Ends(end) => StepEnd::Step {
+            kind,
+            name: at,
+            len: end - at,
+            end,
+        },
+        Reading::Fault => StepEnd::Fault,
+    }
+}
+
+// The step at a place; past the end there is none.
+pub fn step_at(list: &[u8], at: usize) -> StepEnd
+    ensures { λ r. ⌜ r ≡ stepEndAt (now (list .entry)) at ⌝ }
+{
+    if stands(list, at, b"//") {
+        return test_at(list, at + 2, Kind::Descendant);
+    }
+    if stands(list, at, b"/") {
+        return test_at(list, at + 1, Kind::Child);
+    }
+    StepEnd::Fault
+}
+
+// The end of a line at a place: LF, or a space, `#` and LF. Past the end there is none.
+pub fn end_at(list: &[u8], at: usize) -> LineEnd
+    ensures { λ r. ⌜ r ≡ lineEndAt (now (list .entry)) at ⌝ }
+{
+    if stands(list, at, b" #\n") {
+        return LineEnd::Ends {
+            marked: true,
+            next: at + 3,
+        };
+    }
+    if stands(list, at, b"\n") {
+        return LineEnd::Ends {
+            marked: false,
+            next: at + 1,
+        };
+    }
+    LineEnd::Fault
+}
+
+// The list is judged line by line: the first line with a fault decides, and nothing after it is looked at. Within a line malformed comes
+// before too large, so a line's sizes are looked at once it has been read to its end.
+pub fn answer(list: &[u8]) -> ListAnswer
+    ensures { λ r. ⌜ r ≡ listAnswer (now (list .entry)) ⌝ }
+{
+    if list.len() > 8192 {
+        return ListAnswer::TooLong;
+    }
+    let mut at: usize = 0;
+    let mut line: usize = 1;
+    let said = 'lines: loop {
+        if at >= list.len() {
+            break 'lines ListAnswer::Sound;
+        }
+        if line > 32 {
+            break 'lines ListAnswer::TooLarge(line);
+        }
+        let mut count: usize = 0;
+        let mut small = true;
+        'steps: loop {
+            match step_at(list, at) {
+                StepEnd::Step {
+                    kind: _,
+                    name: _,
+                    len,
+                    end,
+                } => {
+                    count += 1;
+                    small = small & (len <= 255);
+                    at = end;
+                }
+                StepEnd::Fault => break 'steps,
+            }
+        }
+        if count == 0 {
+            break 'lines ListAnswer::Malformed(line);
+        }
+        match end_at(list, at) {
+            LineEnd::Ends { marked: _, next } => {
+                at = next;
+            }
+            LineEnd::Fault => break 'lines ListAnswer::Malformed(line),
+        }
+        if !((count <= 16) & small) {
+            break 'lines ListAnswer::TooLarge(line);
+        }
+        line += 1;
+    };
+    said
 }

@@ -1,0 +1,152 @@
+-- What the functions find at places is what the definitions say. In order: a text at a place; a test; a step; a line's end.
+use mathlib.Core.Path.{_≡_, refl, sym, ap, _∙_}
+use mathlib.Core.Bool.{Bool, true, false}
+use mathlib.Core.List.{List, _++_}
+use mathlib.Core.Option.{Option, none, some}
+use Prim.Native.Nat.{ℕ, _+_, _-_, _≤_, _<_}
+use native.Mathlib.Omega.{arith}
+use borrow.Author.Needs.{needs}
+use borrow.Author.Tests.{eq-eqb, ne-eqb}
+use lib.ListN.{length, getD, take, drop, length-append, length-drop}
+use lib.Seq.{drop-drop, length-take-le}
+use Rattle.xml.specs.Notation.{bytes}
+use Rattle.xml.specs.Character.{begins}
+use Rattle.xml.proofs.Character.{begins-split}
+use Rattle.utf8.specs.Place.{endsAt}
+use Rattle.utf8.proofs.Place.{drop-step, drop-end}
+use Rattle.chars.specs.Name.{nameOf, nameAt, readingAt}
+use Rattle.chars.specs.declared.name.Reading.{Reading}
+use Rattle.chars.specs.declared.name.Reading.the-variants.{Ends, Fault}
+use Rattle.paths.specs.Path.{Test, testSize, printKind, printTest, printStep}
+use Rattle.paths.specs.Reader.{kindAt, nameBefore, testAt, withKind, stepAt, endAt}
+use Rattle.paths.specs.Place.{testPlaced, testEndAt, stepPlaced, stepEndAt, lineEndAt}
+use Rattle.paths.specs.declared.Kind.{Kind}
+use Rattle.paths.specs.declared.Kind.the-variants.{Child, Descendant}
+use Rattle.paths.specs.declared.StepEnd.{StepEnd}
+use Rattle.paths.specs.declared.StepEnd.the-variants.{Step as StepTo, Fault as NoStep}
+use Rattle.paths.specs.declared.LineEnd.the-variants.{Ends as LineEnds, Fault as NoEnd}
+
+-- ---- a text at a place
+
+-- the first k bytes of w stand at the place at of d, and i is the place after them
+pub record Standing (d : List ℕ) (at : ℕ) (w : List ℕ) (i k : ℕ) : Type 0 where
+  pub inside : k ≤ length w
+  pub same : begins (drop k w) (drop i d) ≡ begins w (drop at d)
+
+pub stand-start : {d : List ℕ} {at : ℕ} {w : List ℕ} → Standing d at w at 0
+stand-start = record { inside = omega arith; same = refl }
+
+module _ {d : List ℕ} {at : ℕ} {w : List ℕ} {i k : ℕ} (v : Standing d at w i k) where
+  pub stand-whole : length w ≤ k → true ≡ begins w (drop at d)
+  stand-whole h = rw (drop-end w k h) at (v .same)
+
+  module _ (h : k < length w) where
+    pub stand-short : length d ≤ i → false ≡ begins w (drop at d)
+    stand-short l = rw (drop-step w k h, drop-end d i l) at (v .same)
+
+    module _ (l : i < length d) where
+      pub stand-other : (getD d i 0 ≡ getD w k 0 → ⊥) → false ≡ begins w (drop at d)
+      stand-other n = rw (drop-step w k h, drop-step d i l, ne-eqb (getD d i 0) (getD w k 0) n) at (v .same)
+
+      pub stand-on : getD d i 0 ≡ getD w k 0 → Standing d at w (i + 1) (k + 1)
+      stand-on e =
+          record {
+            inside = omega arith;
+            same = rw (drop-step w k h, drop-step d i l, eq-eqb (getD d i 0) (getD w k 0) e) at (v .same);
+          }
+
+pub ruleset standing = (stand-start, stand-whole, stand-short, stand-other, stand-on, needs)
+
+-- a text that stands at a place ends inside
+pub room : (d : List ℕ) (at : ℕ) (w : List ℕ) {x : Bool} → x ≡ begins w (drop at d) → x ≡ true → 0 < length w → at + length w ≤ length d
+room d at w q y n =
+    let e : begins w (drop at d) ≡ true = sym q ∙ y in
+    omega (arith, length-drop at d, ap length (begins-split w (drop at d) e) ∙ length-append w (drop (length w) (drop at d)))
+
+-- ---- a test
+
+module _ (d : List ℕ) (at : ℕ) {x : Bool} (q : x ≡ begins (bytes "*") (drop at d)) (k : Kind) where
+  pub test-star : x ≡ true → StepTo k at 0 (at + 1) ≡ testEndAt k d at
+  unfolding testEndAt testAt
+  test-star y = sym (rw (sym q ∙ y))
+
+  module _ (n : x ≡ false) {r : Reading} (f : r ≡ nameAt d at) where
+    pub test-fault : r ≡ Fault → NoStep ≡ testEndAt k d at
+    unfolding testEndAt testAt nameAt
+    test-fault e = rw (sym q ∙ n) (go (nameOf (drop at d)) (sym e ∙ f))
+      where
+        go : (o : Option (List ℕ)) → Fault ≡ readingAt d at o → NoStep ≡ testPlaced k at (nameBefore (drop at d) o)
+        go none z = refl
+        go (some t) z = absurd (let z : _≡_ {A = ℕ} 0 1 = cc in omega arith)
+
+    module _ {e : ℕ} (g : r ≡ Ends e) where
+      pub test-name : StepTo k at (e - at) e ≡ testEndAt k d at
+      unfolding testEndAt testAt nameAt endsAt
+      test-name = rw (sym q ∙ n) (go (nameOf (drop at d)) (sym g ∙ f))
+        where
+          go : (o : Option (List ℕ)) → Ends e ≡ readingAt d at o
+              → StepTo k at (e - at) e ≡ testPlaced k at (nameBefore (drop at d) o)
+          go none z = absurd (let z : _≡_ {A = ℕ} 0 1 = cc in omega arith)
+          go (some t) z =
+              let n = length (drop at d) - length t in
+              let l : length (take n (drop at d)) ≡ n = length-take-le n (drop at d) (omega arith) in
+              let w : e ≡ at + n = cc in
+              rw (l, w) (ap (λ (m : ℕ). StepTo k at m (at + n)) (let v : at + n - at ≡ n = omega arith in v))
+
+pub name-on : (d : List ℕ) (at : ℕ) {r : Reading} {e : ℕ} → r ≡ nameAt d at → r ≡ Ends e → at ≤ e
+unfolding nameAt endsAt
+name-on d at {r} {e} f g = go (nameOf (drop at d)) (sym g ∙ f)
+  where
+    go : (o : Option (List ℕ)) → Ends e ≡ readingAt d at o → at ≤ e
+    go none z = absurd (let z : _≡_ {A = ℕ} 0 1 = cc in omega arith)
+    go (some t) z = let w : e ≡ at + (length (drop at d) - length t) = cc in omega arith
+
+pub ruleset testing = (test-star, test-fault, test-name, name-on, needs)
+
+-- ---- a step
+
+step-kind : (d : List ℕ) (at : ℕ) (k : Kind) → kindAt (drop at d) ≡ some k → testEndAt k d (at + length (printKind k)) ≡ stepEndAt d at
+unfolding stepEndAt stepAt testEndAt printStep
+step-kind d at k e = rw (e, drop-drop (length (printKind k)) at d) (go (testAt (drop (at + length (printKind k)) d)))
+  where
+    go : (o : Option Test) → testPlaced k (at + length (printKind k)) o ≡ stepPlaced at (withKind k o)
+    go none = refl
+    go (some x) =
+        let n = length (printKind k) in
+        let z : at + n + length (printTest x) ≡ at + length (printKind k ++ printTest x) =
+        omega (arith, length-append (printKind k) (printTest x)) in
+        ap (StepTo k (at + n) (testSize x)) z
+
+module _ (d : List ℕ) (at : ℕ) {x : Bool} (q : x ≡ begins (bytes "//") (drop at d)) where
+  pub step-descends : x ≡ true → {r : StepEnd} → r ≡ testEndAt Descendant d (at + 2) → r ≡ stepEndAt d at
+  unfolding kindAt
+  step-descends y p = p ∙ step-kind d at Descendant (rw (sym q ∙ y))
+
+  module _ (n : x ≡ false) {z : Bool} (f : z ≡ begins (bytes "/") (drop at d)) where
+    pub step-child : z ≡ true → {r : StepEnd} → r ≡ testEndAt Child d (at + 1) → r ≡ stepEndAt d at
+    unfolding kindAt
+    step-child y p = p ∙ step-kind d at Child (rw (sym q ∙ n, sym f ∙ y))
+
+    pub step-fault : z ≡ false → NoStep ≡ stepEndAt d at
+    unfolding stepEndAt stepAt kindAt
+    step-fault m = sym (rw (sym q ∙ n, sym f ∙ m))
+
+pub ruleset stepping = (step-descends, step-child, step-fault, needs)
+
+-- ---- a line's end
+
+module _ (d : List ℕ) (at : ℕ) {x : Bool} (q : x ≡ begins (bytes " #\n") (drop at d)) where
+  pub end-marked : x ≡ true → LineEnds true (at + 3) ≡ lineEndAt d at
+  unfolding lineEndAt endAt
+  end-marked y = sym (rw (sym q ∙ y))
+
+  module _ (n : x ≡ false) {z : Bool} (f : z ≡ begins (bytes "\n") (drop at d)) where
+    pub end-plain : z ≡ true → LineEnds false (at + 1) ≡ lineEndAt d at
+    unfolding lineEndAt endAt
+    end-plain y = sym (rw (sym q ∙ n, sym f ∙ y))
+
+    pub end-fault : z ≡ false → NoEnd ≡ lineEndAt d at
+    unfolding lineEndAt endAt
+    end-fault m = sym (rw (sym q ∙ n, sym f ∙ m))
+
+pub ruleset ending = (end-marked, end-plain, end-fault, needs)
