@@ -73,7 +73,7 @@ pub row-fit : (ps : List Path) → Sized ps → (n : List ℕ) → rowIn (rowsOf
 unfolding rowIn rowOf
 row-fit ps s n =
     let a = place-least (namesOf ps) n in
-    let b = names-few ps s in
+    let b = names-few ps (s .few) (s .short) in
     let c = rows-long ps s in
     rw (lt-ltb (placeOf (namesOf ps) n) 513 (omega arith))
     (entries-take (rowsOf ps) (32 * placeOf (namesOf ps) n) 32 (omega arith) ∙ rows-fit ps s n)

@@ -6,10 +6,9 @@ use native.Mathlib.Omega.{arith}
 use lib.ListN.{length, length-append}
 use Rattle.paths.specs.Path.{Test, any, named, Step, Path, All, none, more, printKind, printStep, printLine}
 use Rattle.compiled.specs.Names.{Named, placeOf, unless, firsts, testNames, stepNames, listNames, namesOf}
-use Rattle.compiled.specs.Sizes.{Sized}
 use Rattle.compiled.specs.Index.{Once, first, another}
 use Rattle.compiled.proofs.Same.{all-left, all-right, all-map}
-use Rattle.compiled.proofs.Places.{Has, has-left, has-right}
+use Rattle.compiled.proofs.Places.{Has, has-left, has-right, place-kept}
 
 -- ---- names met
 
@@ -46,9 +45,20 @@ firsts-once : (xs : List Named) {ns : List Named} → Once ns → Once (firsts n
 firsts-once [] o = o
 firsts-once (x ∷ xs) o = firsts-once xs (unless-once x o)
 
-firsts-append : (xs ys ns : List Named) → firsts ns (xs ++ ys) ≡ firsts (firsts ns xs) ys
+pub firsts-append : (xs ys ns : List Named) → firsts ns (xs ++ ys) ≡ firsts (firsts ns xs) ys
 firsts-append [] ys ns = refl
 firsts-append (x ∷ xs) ys ns = firsts-append xs ys (unless (placeOf ns (x .name)) ns x)
+
+-- a name that is there keeps its place
+pub firsts-kept : (xs ns : List Named) (n : List ℕ) → Has ns n → placeOf (firsts ns xs) n ≡ placeOf ns n
+firsts-kept [] ns n h = refl
+firsts-kept (x ∷ xs) ns n h =
+    let k = placeOf ns (x .name) in
+    firsts-kept xs (unless k ns x) n (unless-has k ns x n h) ∙ go k
+  where
+    go : (k : ℕ) → placeOf (unless k ns x) n ≡ placeOf ns n
+    go zero = place-kept ns x n h
+    go (suc k) = refl
 
 -- what holds of each name holds of the first ones
 firsts-all : {P : Named → Type 0} {xs ns : List Named} → All P ns → All P xs → All P (firsts ns xs)
@@ -140,10 +150,9 @@ lists-few at (p ∷ ps) (more l a) =
     let c = lists-few (at + length (printLine p)) ps a in
     rw (length-append xs ys) (omega arith)
 
-pub names-few : (ps : List Path) → Sized ps → length (namesOf ps) ≤ 512
+pub names-few : (ps : List Path) → length ps ≤ 32 → All (λ p. length (p .steps) ≤ 16) ps → length (namesOf ps) ≤ 512
 unfolding namesOf
-names-few ps s =
+names-few ps l s =
     let a = firsts-few (listNames 0 ps) [] in
-    let b = lists-few 0 ps (s .short) in
-    let c = s .few in
+    let b = lists-few 0 ps s in
     omega arith

@@ -8,3 +8,6 @@ pub mod Stand
 pub mod Sizes
 pub mod Search
 pub mod Entries
+pub mod Enter
+pub mod Listed
+pub mod Numbers

@@ -61,7 +61,7 @@ module _ (ps : List Path) (s : Sized ps) where
 
   rows-many : length (rowList ps) ≡ 513
   rows-many =
-      let f = names-few ps s in
+      let f = names-few ps (s .few) (s .short) in
       let ns = namesOf ps in
       let a = length-append (map (λ x. fitOf ps (x .name)) ns) (replicate (512 - length ns) (otherFit ps)) in
       let b = length-map ns (λ x. fitOf ps (x .name)) in
@@ -107,4 +107,4 @@ module _ (ps : List Path) (s : Sized ps) where
       go zero e = rows-get 0 (omega arith) ∙ other-fits n e
       go (suc k) e =
           let (l, q) = place-says (namesOf ps) n k e in
-          rows-get (suc k) (let f = names-few ps s in omega arith) ∙ name-row k l ∙ ap (fitOf ps) q
+          rows-get (suc k) (let f = names-few ps (s .few) (s .short) in omega arith) ∙ name-row k l ∙ ap (fitOf ps) q

@@ -36,15 +36,15 @@ pub record Long (c : Compiled) : Type 0 where
 pub compiled-long : (ps : List Path) → Sized ps → Long (compiledOf ps)
 unfolding compiledOf descendsOf lastsOf marksOf
 compiled-long ps s =
-    let v = chains-linked (names-once ps) (names-few ps s) in
+    let v = chains-linked (names-once ps) (names-few ps (s .few) (s .short)) in
     record {
       descends = column-long _ ps (s .few);
       lasts = column-long _ ps (s .few);
       marks = column-long _ ps (s .few);
-      at = padded-long 512 (map (λ x. x .place) (namesOf ps)) (rw (length-map (namesOf ps) (λ x. x .place)) (names-few ps s));
+      at = padded-long 512 (map (λ x. x .place) (namesOf ps)) (rw (length-map (namesOf ps) (λ x. x .place)) (names-few ps (s .few) (s .short)));
       len =
           padded-long 512 (map (λ x. length (x .name)) (namesOf ps))
-          (rw (length-map (namesOf ps) (λ x. length (x .name))) (names-few ps s));
+          (rw (length-map (namesOf ps) (λ x. length (x .name))) (names-few ps (s .few) (s .short)));
       head = v .head-long;
       next = v .next-long;
       rows = rows-long ps s;
@@ -110,8 +110,8 @@ rows-below ps s =
 pub compiled-fits : (ps : List Path) → Sized ps → Fitting (compiledOf ps)
 unfolding compiledOf descendsOf lastsOf marksOf
 compiled-fits ps s =
-    let v = chains-linked (names-once ps) (names-few ps s) in
-    let f = names-few ps s in
+    let v = chains-linked (names-once ps) (names-few ps (s .few) (s .short)) in
+    let f = names-few ps (s .few) (s .short) in
     let b = s .bytes in
     record {
       descends = column-below _ 65536 ps (omega arith) (all-map (step-bits-below _) (s .short));

@@ -63,7 +63,7 @@ pub compiled-indexed : (ps : List Path) → Sized ps
 unfolding compiledOf
 compiled-indexed ps s =
     record {
-      few = names-few ps s;
+      few = names-few ps (s .few) (s .short);
       once = names-once ps;
       stand = names-stand ps;
       at-is = refl;

@@ -4,3 +4,4 @@ pub mod Index
 pub mod Row
 pub mod Sizes
 pub mod Compiled
+pub mod Built

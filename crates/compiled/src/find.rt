@@ -31,7 +31,7 @@ fn wide(b: u8) -> usize
 }
 
 // The number of a name, by its first byte, its last and its length: below 256.
-fn hash(name: &[u8]) -> usize
+pub fn hash(name: &[u8]) -> usize
     ensures { λ r. ⌜ (r ≡ hashOf (now (name .entry))) × (r < 256) ⌝ }
 {
     let n = name.len();

@@ -1,4 +1,5 @@
 // A sound path list, compiled for matching: tables by value, as specs/Compiled.antt has them.
+pub mod build;
 pub mod find;
 pub mod rows;
 
