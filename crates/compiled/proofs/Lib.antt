@@ -11,3 +11,4 @@ pub mod Entries
 pub mod Enter
 pub mod Listed
 pub mod Numbers
+pub mod Spreading

@@ -5,8 +5,8 @@ use mathlib.Core.Bool.{Bool, true, false}
 use mathlib.Core.List.{List, [], _∷_, _++_, map}
 use Prim.Native.Nat.{ℕ, zero, suc, _+_, _-_, _*_, _≤_, _<_}
 use native.Mathlib.Omega.{arith}
-use lib.ListN.{length, getD, take, drop, replicate, length-append, length-map, length-replicate, List·getD-append}
-use lib.Seq.{take-at, drop-append-add}
+use lib.ListN.{length, getD, take, drop, replicate, length-append, length-map, length-replicate, getD-replicate, List·getD-append}
+use lib.Seq.{take-at, drop-append-add, getD-append-add}
 use Rattle.xml.specs.Productions.{same}
 use Rattle.paths.specs.Path.{Test, any, named, Step, Path, All, none, more}
 use Rattle.compiled.specs.Bits.{stepBits, passes, passesAny, fitOf, otherFit, column}
@@ -89,7 +89,7 @@ module _ (ps : List Path) (s : Sized ps) where
       test any h = refl
       test (named m) h = sym (same-other m n (λ e. h (ap (placeOf (namesOf ps)) e ∙ z)))
 
-  name-row : (k : ℕ) → k < length (namesOf ps) → getD (rowList ps) (suc k) [] ≡ fitOf ps (nameAt (namesOf ps) k)
+  pub name-row : (k : ℕ) → k < length (namesOf ps) → getD (rowList ps) (suc k) [] ≡ fitOf ps (nameAt (namesOf ps) k)
   name-row k l =
       List·getD-append (map (λ x. fitOf ps (x .name)) (namesOf ps)) (replicate (512 - length (namesOf ps)) (otherFit ps)) [] k
       (rw (length-map (namesOf ps) (λ x. fitOf ps (x .name))) l)
@@ -99,6 +99,16 @@ module _ (ps : List Path) (s : Sized ps) where
       go [] k l = absurd (omega arith)
       go (x ∷ ns) zero l = refl
       go (x ∷ ns) (suc k) l = go ns k (omega arith)
+
+  pub past-row : (k : ℕ) → length (namesOf ps) ≤ k → k < 512 → getD (rowList ps) (suc k) [] ≡ otherFit ps
+  past-row k l h =
+      let xs = map (λ x. fitOf ps (x .name)) (namesOf ps) in
+      let ys = replicate (512 - length (namesOf ps)) (otherFit ps) in
+      let e = length-map (namesOf ps) (λ x. fitOf ps (x .name)) in
+      let z : k ≡ length xs + (k - length xs) = omega arith in
+      ap (λ (i : ℕ). getD (xs ++ ys) i []) z
+      ∙ getD-append-add xs ys (k - length xs) []
+      ∙ getD-replicate (512 - length (namesOf ps)) (k - length xs) (otherFit ps) [] (omega arith)
 
   pub rows-fit : (n : List ℕ) → take 32 (drop (32 * placeOf (namesOf ps) n) (rowsOf ps)) ≡ fitOf ps n
   rows-fit n = go (placeOf (namesOf ps) n) refl

@@ -90,7 +90,7 @@ all-column b f ps l a = all-append (all-mapped f a) (zeros-below (32 - length (m
     zeros-below zero = none
     zeros-below (suc n) = more l (zeros-below n)
 
-rows-below : (ps : List Path) → Sized ps → Below 65536 (rowsOf ps)
+pub rows-below : (ps : List Path) → Sized ps → Below 65536 (rowsOf ps)
 unfolding rowsOf otherFit fitOf
 rows-below ps s =
     below-all (omega arith)

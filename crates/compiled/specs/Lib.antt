@@ -5,3 +5,4 @@ pub mod Row
 pub mod Sizes
 pub mod Compiled
 pub mod Built
+pub mod Spread
