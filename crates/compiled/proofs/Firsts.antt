@@ -73,7 +73,7 @@ firsts-all {P} {ns = ns} a (more {x} {xs} p b) = firsts-all (go (placeOf ns (x .
     go zero = snoc a
     go (suc k) = a
 
-firsts-few : (xs ns : List Named) → length (firsts ns xs) ≤ length ns + length xs
+pub firsts-few : (xs ns : List Named) → length (firsts ns xs) ≤ length ns + length xs
 firsts-few [] ns = omega arith
 firsts-few (x ∷ xs) ns =
     let z = firsts-few xs (unless (placeOf ns (x .name)) ns x) in
@@ -132,7 +132,7 @@ test-few : (at : ℕ) (t : Test) → length (testNames at t) ≤ 1
 test-few at any = omega arith
 test-few at (named m) = omega arith
 
-steps-few : (at : ℕ) (ss : List Step) → length (stepNames at ss) ≤ length ss
+pub steps-few : (at : ℕ) (ss : List Step) → length (stepNames at ss) ≤ length ss
 steps-few at [] = omega arith
 steps-few at (s ∷ ss) =
     let xs = testNames (at + length (printKind (s .kind))) (s .test) in
@@ -141,7 +141,7 @@ steps-few at (s ∷ ss) =
     let b = steps-few (at + length (printStep s)) ss in
     rw (length-append xs ys) (omega arith)
 
-lists-few : (at : ℕ) (ps : List Path) → All (λ p. length (p .steps) ≤ 16) ps → length (listNames at ps) ≤ 16 * length ps
+pub lists-few : (at : ℕ) (ps : List Path) → All (λ p. length (p .steps) ≤ 16) ps → length (listNames at ps) ≤ 16 * length ps
 lists-few at [] none = omega arith
 lists-few at (p ∷ ps) (more l a) =
     let xs = stepNames at (p .steps) in

@@ -12,3 +12,4 @@ pub mod Enter
 pub mod Listed
 pub mod Numbers
 pub mod Spreading
+pub mod Stepped

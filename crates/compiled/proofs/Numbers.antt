@@ -13,11 +13,11 @@ use Rattle.paths.specs.Path.{Test, any, named, Step, Path, All, none, more}
 use Rattle.paths.specs.Path.{printKind, printStep, printAll, printLine, printList}
 use Rattle.compiled.specs.Bits.{bitsOf, stepBits, column}
 use Rattle.compiled.specs.Names.{Named, placeOf, testNames, stepNames, listNames, firsts, namesOf}
-use Rattle.compiled.specs.Built.{numberOf, listed, numberRow, numberRows}
+use Rattle.compiled.specs.Built.{numberOf, listed, numberRow, numberRows, longer}
 use Rattle.compiled.proofs.Same.{all-map}
 use Rattle.compiled.proofs.Places.{Has, place-least}
-use Rattle.compiled.proofs.Firsts.{HasTest, Steps, firsts-append, firsts-kept, names-have}
-use Rattle.compiled.proofs.Bits.{bits-snoc, map-snoc, column-long, column-get, column-snoc, column-alike}
+use Rattle.compiled.proofs.Firsts.{HasTest, Steps, firsts-append, firsts-kept, names-have, firsts-few, lists-few, steps-few}
+use Rattle.compiled.proofs.Bits.{bits-below, bits-snoc, map-snoc, column-long, column-get, column-snoc, column-alike}
 use Rattle.compiled.proofs.Listed.{listed-entry, listed-set}
 
 -- ---- names
@@ -40,9 +40,18 @@ lists-snoc at (p ∷ ps) q =
     let z : at + length (printLine p) + length (printList ps) ≡ at + length (printList (p ∷ ps)) = omega arith in
     rw (lists-snoc (at + length (printLine p)) ps q, z) (sym (append-assoc (stepNames at (p .steps)) _ _))
 
--- a path with one more step
-abbrev pub longer : Path → Step → Path
-longer q s = record { steps = q .steps ++ s ∷ []; marked = q .marked }
+-- there is room for one more
+pub names-room : (done : List Path) (q : Path) → length done < 32 → All (λ p. length (p .steps) ≤ 16) done → length (q .steps) < 16
+    → length (namesOf (done ++ q ∷ [])) < 512
+unfolding namesOf
+names-room done q l a h =
+    let e = lists-snoc 0 done q in
+    let x = firsts-few (listNames 0 (done ++ q ∷ [])) [] in
+    let y = lists-few 0 done a in
+    let z = steps-few (0 + length (printList done)) (q .steps) in
+    let w = length-append (listNames 0 done) (stepNames (0 + length (printList done)) (q .steps)) in
+    let u = ap length e in
+    omega arith
 
 module _ (done : List Path) (q : Path) (s : Step) where
   abbrev stepPlace : ℕ
@@ -112,7 +121,7 @@ module _ (done : List Path) (q : Path) (s : Step) where
       ∙ ap (λ (r : List ℕ). set r (length done) (getD r (length done) 0 + cond (hits k s) (2 ^ length (q .steps)) 0)) (row-kept k)
 
   module _ (l : length done < 32) (few : length after ≤ 512) where
-    number-in : numberOf after (s .test) < 513
+    pub number-in : numberOf after (s .test) < 513
     number-in = go (s .test)
       where
         go : (t : Test) → numberOf after t < 513
@@ -126,10 +135,17 @@ module _ (done : List Path) (q : Path) (s : Step) where
     abbrev cell : ℕ
     cell = 32 * numberOf after (s .test) + length done
 
-    cell-is : getD (numberRows (done ++ q ∷ [])) cell 0 ≡ getD (numberRow before (done ++ q ∷ []) (numberOf after (s .test))) (length done) 0
+    pub cell-is : getD (numberRows (done ++ q ∷ [])) cell 0 ≡ getD (numberRow before (done ++ q ∷ []) (numberOf after (s .test))) (length done) 0
     unfolding numberRows
     cell-is =
         listed-entry (numberRow before (done ++ q ∷ [])) row-long 513 (numberOf after (s .test)) (length done) number-in l
+
+    pub last-cell : getD (numberRows (done ++ q ∷ [])) cell 0 < 2 ^ length (q .steps)
+    unfolding numberRow
+    last-cell =
+        let k = numberOf after (s .test) in
+        let f : Step → Bool = λ x. eqb (numberOf before (x .test)) k in
+        rw (cell-is, column-last (stepBits f), ← length-map (q .steps) f) (bits-below (map f (q .steps)))
 
     pub rows-longer : numberRows (done ++ longer q s ∷ [])
         ≡ set (numberRows (done ++ q ∷ [])) cell (getD (numberRows (done ++ q ∷ [])) cell 0 + 2 ^ length (q .steps))

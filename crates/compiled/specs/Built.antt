@@ -1,11 +1,11 @@
 -- The tables while a list is read: those of the names met so far, and rows by number. A step has a number, 0 for `*` and else the place of its
 -- name; row k has the steps of number k. Then what is entered for a step, and what the tables of the paths read so far are.
 use mathlib.Core.Path.{_≡_}
-use mathlib.Core.List.{List, [], _∷_}
-use Prim.Native.Nat.{ℕ, zero, suc, _+_, _≤_, _<_}
+use mathlib.Core.List.{List, [], _∷_, _++_}
+use Prim.Native.Nat.{ℕ, zero, suc, _+_, _^_, _≤_, _<_}
 use lib.ListN.{length, take, drop, getD}
 use lib.Dec.{eqb}
-use Rattle.paths.specs.Path.{Test, any, named, Step, Path}
+use Rattle.paths.specs.Path.{Test, any, named, Step, Path, All, printKind, printStep, printAll, printList}
 use Rattle.compiled.specs.Bits.{stepBits, column}
 use Rattle.compiled.specs.Names.{Named, placeOf, testNames, firsts, namesOf}
 use Rattle.compiled.specs.Compiled.{joined}
@@ -61,3 +61,31 @@ pub record Built (d at len head next rows : List ℕ) (names : ℕ) (ps : List P
   pub indexed : Indexed d at len head next (namesOf ps)
   pub count : names ≡ length (namesOf ps)
   pub rows-are : rows ≡ numberRows ps
+
+-- ---- one more step
+
+-- a path with one more step
+abbrev pub longer : Path → Step → Path
+longer q s = record { steps = q .steps ++ s ∷ []; marked = q .marked }
+
+-- a step of path p, whose name has n bytes at the place a, comes after the paths done and the steps of the path so far
+pub record AtStep (d at len head next rows : List ℕ) (names p bit a n : ℕ) : Type 0 where
+  pub done : List Path
+  pub path : Path
+  pub step : Step
+  pub built : Built d at len head next rows names (done ++ path ∷ [])
+  pub p-is : p ≡ length done
+  pub bit-is : bit ≡ 2 ^ length (path .steps)
+  pub a-is : a ≡ length (printList done) + length (printAll printStep (path .steps)) + length (printKind (step .kind))
+  pub test-is : testIn d a n ≡ step .test
+  pub inside : a + n ≤ length d
+  pub bytes : length d ≤ 8192
+  pub few : length done < 32
+  pub short : All (λ q. length (q .steps) ≤ 16) done
+  pub room : length (path .steps) < 16
+
+-- the tables after it, for every such step
+pub record StepDone (d at len head next rows : List ℕ) (names p bit a n : ℕ) (at′ len′ head′ next′ rows′ : List ℕ) (names′ : ℕ)
+    : Type 0 where
+  pub is : (v : AtStep d at len head next rows names p bit a n)
+      → Built d at′ len′ head′ next′ rows′ names′ (v .done ++ longer (v .path) (v .step) ∷ [])
