@@ -13,3 +13,6 @@ pub mod Listed
 pub mod Numbers
 pub mod Spreading
 pub mod Stepped
+pub mod InLine
+pub mod OverLines
+pub mod Reading

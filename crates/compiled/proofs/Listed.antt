@@ -47,7 +47,7 @@ set-append-right (x ∷ xs) ys i v =
     let z : suc (length xs) + i ≡ suc (length xs + i) = omega arith in
     rw z (ap (λ (l : List ℕ). x ∷ l) (set-append-right xs ys i v))
 
-listed-same : (f g : ℕ → List ℕ) (i n : ℕ) → ((k : ℕ) → i ≤ k → g k ≡ f k) → listed g i n ≡ listed f i n
+pub listed-same : (f g : ℕ → List ℕ) (i n : ℕ) → ((k : ℕ) → i ≤ k → g k ≡ f k) → listed g i n ≡ listed f i n
 listed-same f g i zero h = refl
 listed-same f g i (suc n) h = cc (h i (omega arith), listed-same f g (suc i) n (λ k l. h k (omega arith)))
 

@@ -31,7 +31,7 @@ steps-snoc at (x ∷ ss) s =
     let z : at + length (printStep x) + length (printAll printStep ss) ≡ at + length (printAll printStep (x ∷ ss)) = omega arith in
     rw (steps-snoc (at + length (printStep x)) ss s, z) (sym (append-assoc xs _ _))
 
-lists-snoc : (at : ℕ) (ps : List Path) (q : Path)
+pub lists-snoc : (at : ℕ) (ps : List Path) (q : Path)
     → listNames at (ps ++ q ∷ []) ≡ listNames at ps ++ stepNames (at + length (printList ps)) (q .steps)
 unfolding printList
 lists-snoc at [] q = rw (add-zero at) (append-nil (stepNames at (q .steps)))

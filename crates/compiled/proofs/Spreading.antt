@@ -125,9 +125,9 @@ module _ (ps : List Path) (s : Sized ps) where
           sym (eq-eqb (placeOf ns m) (suc k) (ap (placeOf ns) q ∙ place-once (names-once ps) k l))
       both m false e =
           sym (ne-eqb (placeOf ns m) (suc k) (λ p.
-            let q = place-says ns m k p .1 in
-            let z : _≡_ {A = Bool} true false = sym (same-refl m) ∙ ap (same m) (sym q) ∙ e in
-            true≢false z))
+          let q = place-says ns m k p .1 in
+          let z : _≡_ {A = Bool} true false = sym (same-refl m) ∙ ap (same m) (sym q) ∙ e in
+          true≢false z))
 
       test : (t : Test) → HasTest ns t → passes (nameAt ns k) t ≡ either (suc k) t
       test any h = refl

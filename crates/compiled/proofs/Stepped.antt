@@ -74,11 +74,11 @@ pub step-done : {d at len head next rows : List ℕ} {names p bit a n : ℕ} {at
 step-done e q =
     record {
       is = λ v. let i = entered v e in
-        record {
-          indexed = i .indexed;
-          count = i .names;
-          rows-are =
-              q
-              ∙ rw (v .built .rows-are, i .number, v .p-is, v .bit-is) (sym (rows-longer (v .done) (v .path) (v .step) (v .few) (few v)));
-        };
+          record {
+            indexed = i .indexed;
+            count = i .names;
+            rows-are =
+                q
+                ∙ rw (v .built .rows-are, i .number, v .p-is, v .bit-is) (sym (rows-longer (v .done) (v .path) (v .step) (v .few) (few v)));
+          };
     }

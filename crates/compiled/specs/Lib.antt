@@ -6,3 +6,4 @@ pub mod Sizes
 pub mod Compiled
 pub mod Built
 pub mod Spread
+pub mod Line

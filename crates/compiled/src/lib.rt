@@ -1,5 +1,6 @@
 // A sound path list, compiled for matching: tables by value, as specs/Compiled.antt has them.
 pub mod build;
+pub mod compile;
 pub mod find;
 pub mod rows;
 
