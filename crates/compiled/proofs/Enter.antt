@@ -1,5 +1,5 @@
--- The laws of `with_name`: `*` changes nothing; a name that is there has its place; a new name is stored after the others, and put before its
--- chain.
+-- The laws of `with_name`: `*` changes nothing; a name that is there has its place; a new name is stored after the others, and put before
+-- its chain.
 use mathlib.Core.Path.{_≡_, refl, sym, ap, _∙_}
 use mathlib.Core.List.{List, [], _∷_, _++_, map}
 use Prim.Native.Nat.{ℕ, zero, suc, _+_, _-_, _≤_, _<_}

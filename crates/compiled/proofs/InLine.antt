@@ -1,5 +1,5 @@
--- The laws of reading a line of a sound list. What stands at a place of its path: the steps left, and then the line's end. A path of no step
--- changes no table. The step that is read is the next one of the path, and where none is read none is left.
+-- The laws of reading a line of a sound list. What stands at a place of its path: the steps left, and then the line's end. A path of no
+-- step changes no table. The step that is read is the next one of the path, and where none is read none is left.
 use mathlib.Core.Path.{_≡_, refl, sym, ap, _∙_}
 use mathlib.Core.Bool.{Bool, true, false, cond}
 use mathlib.Core.List.{List, [], _∷_, _++_, append-assoc, append-nil, map}
@@ -49,7 +49,8 @@ some-name [] o = absurd (true-false (begins-append (0x2A ∷ []) []) (name-front
 some-name (x ∷ m) o = refl
 
 -- a test that stands at a place is read there
-test-stands : (d : List ℕ) (a n : ℕ) (x : Test) (t : List ℕ) → ProperTest x → drop a d ≡ printTest x ++ t → n ≡ testSize x → testIn d a n ≡ x
+test-stands : (d : List ℕ) (a n : ℕ) (x : Test) (t : List ℕ) → ProperTest x → drop a d ≡ printTest x ++ t → n ≡ testSize x
+    → testIn d a n ≡ x
 unfolding testIn
 test-stands d a n x t o e l = rw (e, l) (go x o)
   where
@@ -330,12 +331,13 @@ module _ {d at len head next rows : List ℕ} {names p place bit down : ℕ} (v 
           let y = next-step .end-is in
           let z = next-step .n-is in
           let e = length-append k w in
-          let s = ap length (next-step .stands) ∙ length-append (printStep (next-step .step)) (printAll printStep (next-step .later) ++ after) in
+          let t = printAll printStep (next-step .later) ++ after in
+          let s = ap length (next-step .stands) ∙ length-append (printStep (next-step .step)) t in
           let l = length-drop place d in
           let b = length-append before (printAll printStep (v .todo) ++ after) in
           let i = before-long in
           let j = ap length parts in
-          let t = test-long (next-step .step .test) in
+          let u = test-long (next-step .step .test) in
           (omega arith, omega arith)
         where
           test-long : (x : Test) → testSize x ≤ length (printTest x)

@@ -23,7 +23,8 @@ use Rattle.compiled.proofs.Listed.{listed-entry, listed-set}
 -- ---- names
 
 steps-snoc : (at : ℕ) (ss : List Step) (s : Step)
-    → stepNames at (ss ++ s ∷ []) ≡ stepNames at ss ++ testNames (at + length (printAll printStep ss) + length (printKind (s .kind))) (s .test)
+    → stepNames at (ss ++ s ∷ [])
+    ≡ stepNames at ss ++ testNames (at + length (printAll printStep ss) + length (printKind (s .kind))) (s .test)
 steps-snoc at [] s = rw (add-zero at) (append-nil (testNames (at + length (printKind (s .kind))) (s .test)))
 steps-snoc at (x ∷ ss) s =
     let xs = testNames (at + length (printKind (x .kind))) (x .test) in
@@ -103,7 +104,8 @@ module _ (done : List Path) (q : Path) (s : Step) where
       ∙ ap (λ (n : ℕ). getD (map f done ++ f q ∷ []) n 0) (sym (length-map done f))
       ∙ getD-append-seam (map f done) (f q) [] 0
 
-  column-set : (f : Path → ℕ) → length done < 32 → column f (done ++ longer q s ∷ []) ≡ set (column f (done ++ q ∷ [])) (length done) (f (longer q s))
+  column-set : (f : Path → ℕ) → length done < 32
+      → column f (done ++ longer q s ∷ []) ≡ set (column f (done ++ q ∷ [])) (length done) (f (longer q s))
   column-set f l =
       sym (column-snoc f done (longer q s) l)
       ∙ sym (set-set (column f done) (length done) (f q) (f (longer q s)))
@@ -135,7 +137,8 @@ module _ (done : List Path) (q : Path) (s : Step) where
     abbrev cell : ℕ
     cell = 32 * numberOf after (s .test) + length done
 
-    pub cell-is : getD (numberRows (done ++ q ∷ [])) cell 0 ≡ getD (numberRow before (done ++ q ∷ []) (numberOf after (s .test))) (length done) 0
+    pub cell-is : getD (numberRows (done ++ q ∷ [])) cell 0
+        ≡ getD (numberRow before (done ++ q ∷ []) (numberOf after (s .test))) (length done) 0
     unfolding numberRows
     cell-is =
         listed-entry (numberRow before (done ++ q ∷ [])) row-long 513 (numberOf after (s .test)) (length done) number-in l
@@ -157,11 +160,12 @@ module _ (done : List Path) (q : Path) (s : Step) where
         (getD (numberRow before (done ++ q ∷ []) (numberOf after (s .test))) (length done) 0 + 2 ^ length (q .steps))
         l others this 513 number-in)
       where
-        others : (j : ℕ) → (j ≡ numberOf after (s .test) → ⊥) → numberRow after (done ++ longer q s ∷ []) j ≡ numberRow before (done ++ q ∷ []) j
+        others : (j : ℕ) → (j ≡ numberOf after (s .test) → ⊥)
+            → numberRow after (done ++ longer q s ∷ []) j ≡ numberRow before (done ++ q ∷ []) j
         others j h =
+            let r = numberRow before (done ++ q ∷ []) j in
             row-longer l j
-            ∙ rw (ne-eqb (numberOf after (s .test)) j (λ e. h (sym e)), add-zero (getD (numberRow before (done ++ q ∷ []) j) (length done) 0))
-            (set-getD (numberRow before (done ++ q ∷ []) j) (length done) 0)
+            ∙ rw (ne-eqb (numberOf after (s .test)) j (λ e. h (sym e)), add-zero (getD r (length done) 0)) (set-getD r (length done) 0)
 
         this : numberRow after (done ++ longer q s ∷ []) (numberOf after (s .test))
             ≡ set (numberRow before (done ++ q ∷ []) (numberOf after (s .test))) (length done)

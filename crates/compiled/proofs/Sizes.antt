@@ -41,7 +41,9 @@ compiled-long ps s =
       descends = column-long _ ps (s .few);
       lasts = column-long _ ps (s .few);
       marks = column-long _ ps (s .few);
-      at = padded-long 512 (map (λ x. x .place) (namesOf ps)) (rw (length-map (namesOf ps) (λ x. x .place)) (names-few ps (s .few) (s .short)));
+      at =
+          padded-long 512 (map (λ x. x .place) (namesOf ps))
+          (rw (length-map (namesOf ps) (λ x. x .place)) (names-few ps (s .few) (s .short)));
       len =
           padded-long 512 (map (λ x. length (x .name)) (namesOf ps))
           (rw (length-map (namesOf ps) (λ x. length (x .name))) (names-few ps (s .few) (s .short)));

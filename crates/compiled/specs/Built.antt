@@ -1,5 +1,5 @@
--- The tables while a list is read: those of the names met so far, and rows by number. A step has a number, 0 for `*` and else the place of its
--- name; row k has the steps of number k. Then what is entered for a step, and what the tables of the paths read so far are.
+-- The tables while a list is read: those of the names met so far, and rows by number. A step has a number, 0 for `*` and else the place
+-- of its name; row k has the steps of number k. Then what is entered for a name, the tables of the paths read so far, and one more step.
 use mathlib.Core.Path.{_≡_}
 use mathlib.Core.List.{List, [], _∷_, _++_}
 use Prim.Native.Nat.{ℕ, zero, suc, _+_, _^_, _≤_, _<_}

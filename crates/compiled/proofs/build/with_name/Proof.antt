@@ -26,7 +26,8 @@ find-requires c κs = search needs
 returns-2 : tie.Need-returns-2
 returns-2 c =
     let s = c .before .before .before .before .before .before .before .before .before in
-    enter-there (s .args .names) (s .args .a) (s .args .n) (s .pre .1) (c .before .before .before .before .before .before .before .if1 .left) (c .before .find .ensures) (c .if2 .taken)
+    enter-there (s .args .names) (s .args .a) (s .args .n) (s .pre .1)
+    (c .before .before .before .before .before .before .before .if1 .left) (c .before .find .ensures) (c .if2 .taken)
 
 sub-hash : tie.Need-sub-hash
 sub-hash c = search needs
@@ -91,7 +92,9 @@ add-t31 c = search needs
 returns-3 : tie.Need-returns-3
 returns-3 c =
     let s = c .before .before .before .before .before .before .before .before .before .before .before .before in
-    enter-new (s .args .names) (s .args .a) (s .args .n) (s .pre .1) (c .before .before .before .before .before .before .before .before .before .before .if1 .left) (c .before .before .before .before .find .ensures) (c .before .before .before .if2 .left)
+    enter-new (s .args .names) (s .args .a) (s .args .n) (s .pre .1)
+    (c .before .before .before .before .before .before .before .before .before .before .if1 .left)
+    (c .before .before .before .before .find .ensures) (c .before .before .before .if2 .left)
     (s .pre .0) (c .before .hash .ensures .0)
 
 pub with-name-spec : {M : Type 1} → statement M

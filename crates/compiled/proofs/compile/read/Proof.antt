@@ -22,7 +22,8 @@ none-requires c κs = search reading
 
 returns-2 : tie.Need-returns-2
 returns-2 c =
-    read-refused (c .before .before .before .before .args .list .now) (c .before .before .answer .ensures) (λ q. miss (1 ∷ 2 ∷ 3 ∷ []) 0 tt (rw q at (c .before .match .keys2)))
+    read-refused (c .before .before .before .before .args .list .now) (c .before .before .answer .ensures)
+    (λ q. miss (1 ∷ 2 ∷ 3 ∷ []) 0 tt (rw q at (c .before .match .keys2)))
     (c .none .ensures)
 
 pub read-spec : {M : Type 1} → statement M
