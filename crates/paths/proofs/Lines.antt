@@ -52,7 +52,7 @@ end-long true = omega arith
 end-long false = omega arith
 
 -- no step stands there, and no name goes on there; nor does one before a step
-end-no-step : (m : Bool) (t : List ℕ) → stepAt (printEnd m ++ t) ≡ none
+pub end-no-step : (m : Bool) (t : List ℕ) → stepAt (printEnd m ++ t) ≡ none
 unfolding stepAt kindAt
 end-no-step true t = refl
 end-no-step false t = refl
@@ -69,7 +69,7 @@ step-no-name Descendant s = name-ends 0x2F _ (omega arith) refl
 
 -- ---- lines
 
-after-step : (m : Bool) (t : List ℕ) (x : Step) (xs : List Step) → AfterStep x (printAll printStep xs ++ (printEnd m ++ t))
+pub after-step : (m : Bool) (t : List ℕ) (x : Step) (xs : List Step) → AfterStep x (printAll printStep xs ++ (printEnd m ++ t))
 unfolding printStep
 after-step m t x xs = go (x .test) xs
   where

@@ -1,0 +1,292 @@
+-- The laws of reading a sound list line by line. A line's end; the tables of no path; a line's entries; the end, where all paths are read.
+use mathlib.Core.Path.{_≡_, refl, sym, ap, _∙_}
+use mathlib.Core.Bool.{Bool, true, false, cond}
+use mathlib.Core.List.{List, [], _∷_, _++_, append-assoc, append-nil, append-cancel-left, map}
+use mathlib.Core.Option.{Option, none, some}
+use Prim.Native.Nat.{ℕ, zero, suc, _+_, _-_, _*_, _≤_, _<_}
+use native.Mathlib.Nat.{zero-add, add-zero}
+use native.Mathlib.Numerals.{add-one}
+use native.Mathlib.Omega.{arith}
+use borrow.Author.Needs.{needs}
+use lib.ListN.{length, drop, getD, set, replicate, length-append, replicate-append-replicate}
+use lib.Seq.{drop-at}
+use lib.Dec.{eqb}
+use Rattle.paths.specs.Path.{Step, Path, All, more, Good, printStep, printAll, printLine, printList}
+use Rattle.paths.specs.Path.{none as nil}
+use Rattle.paths.specs.Reader.{endAt, printEnd}
+use Rattle.paths.specs.Place.{endPlaced, lineEndAt}
+use Rattle.paths.specs.Judge.{listAnswer, listPaths}
+use Rattle.paths.specs.declared.ListAnswer.the-variants.{Sound}
+use Rattle.paths.specs.declared.LineEnd.{LineEnd}
+use Rattle.paths.specs.declared.LineEnd.the-variants.{Ends, Fault}
+use Rattle.paths.proofs.Lines.{end-undoes, end-long, line-print, line-long}
+use Rattle.paths.proofs.Meaning.{paths-print}
+use Rattle.compiled.specs.Bits.{padded, column, stepBits, descends, lastBit, descendsOf, lastsOf, marksOf}
+use Rattle.compiled.specs.Names.{Named, namesOf, chainsOf}
+use Rattle.compiled.specs.Index.{Indexed, Once, first}
+use Rattle.compiled.specs.Sizes.{Sized}
+use Rattle.compiled.specs.Compiled.{joined, rowsOf, compiledOf}
+use Rattle.compiled.specs.Spread.{Spreadable, Spread}
+use Rattle.compiled.specs.Built.{listed, numberRow, numberRows, Built}
+use Rattle.compiled.specs.Line.{AtPath, AtLine, LineDone, tailOf}
+use Rattle.compiled.specs.declared.Compiled.{Compiled}
+use Rattle.compiled.specs.declared.build.Line.{Line}
+use Rattle.compiled.specs.declared.build.Tail.{Tail}
+use Rattle.compiled.proofs.Same.{all-map}
+use Rattle.compiled.proofs.Bits.{column-snoc}
+use Rattle.compiled.proofs.Spreading.{numbers-spreadable, numbers-spread}
+use Rattle.compiled.proofs.InLine.{print-append, print-parts, whole, path-few, sound-bytes}
+
+-- ---- `tail_at`
+
+module _ (d : List ℕ) (at : ℕ) {e : LineEnd} (q : e ≡ lineEndAt d at) where
+  pub tail-ends : {m : Bool} {n : ℕ} → e ≡ Ends m n → record { marked = m; next = n } ≡ tailOf (lineEndAt d at) at
+  tail-ends f = sym (ap (λ (x : LineEnd). tailOf x at) (sym q ∙ f))
+
+  pub tail-fault : e ≡ Fault → record { marked = false; next = at } ≡ tailOf (lineEndAt d at) at
+  tail-fault f = sym (ap (λ (x : LineEnd). tailOf x at) (sym q ∙ f))
+
+pub ruleset tails = (tail-ends, tail-fault, needs)
+
+-- ---- the tables of no path
+
+zero-rows : (f : ℕ → List ℕ) → ((k : ℕ) → f k ≡ replicate 32 0) → (i n : ℕ) → joined (listed f i n) ≡ replicate (32 * n) 0
+zero-rows f h i zero = refl
+zero-rows f h i (suc n) =
+    let z : 32 + 32 * n ≡ 32 * suc n = omega arith in
+    rw (h i, zero-rows f h (suc i) n) (replicate-append-replicate 32 (32 * n) 0 ∙ ap (λ (m : ℕ). replicate m 0) z)
+
+numbers-none : replicate 16416 0 ≡ numberRows []
+unfolding numberRows numberRow column padded
+numbers-none = sym (zero-rows (numberRow (namesOf []) []) (λ k. refl) 0 513)
+
+built-none : (d : List ℕ) → Built d (replicate 512 0) (replicate 512 0) (replicate 256 0) (replicate 512 0) (replicate 16416 0) 0 []
+unfolding namesOf chainsOf padded
+built-none d =
+    record {
+      indexed = record { few = omega arith; once = first; stand = nil; at-is = refl; len-is = refl; head-is = refl; next-is = refl };
+      count = refl;
+      rows-are = numbers-none;
+    }
+
+-- ---- the lines
+
+pub record Lining (d at len head next rows downs lasts marks : List ℕ) (names p place : ℕ) : Type 0 where
+  pub sound : listAnswer d ≡ Sound
+  pub done : List Path
+  pub left : List Path
+  pub all : listPaths d ≡ done ++ left
+  pub p-is : p ≡ length done
+  pub place-is : place ≡ length (printList done)
+  pub built : Built d at len head next rows names done
+  pub downs-are : downs ≡ descendsOf done
+  pub lasts-are : lasts ≡ lastsOf done
+  pub marks-are : marks ≡ marksOf done
+
+pub lines-start : {d : List ℕ} → listAnswer d ≡ Sound
+    → Lining d (replicate 512 0) (replicate 512 0) (replicate 256 0) (replicate 512 0) (replicate 16416 0)
+    (replicate 32 0) (replicate 32 0) (replicate 32 0) 0 0 0
+unfolding descendsOf lastsOf marksOf column padded printList
+lines-start {d} s =
+    record {
+      sound = s;
+      done = [];
+      left = listPaths d;
+      all = refl;
+      p-is = refl;
+      place-is = refl;
+      built = built-none d;
+      downs-are = refl;
+      lasts-are = refl;
+      marks-are = refl;
+    }
+
+same-front : {A : Type 0} (xs ys us vs : List A) → xs ++ us ≡ ys ++ vs → length xs ≡ length ys → xs ≡ ys
+same-front [] [] us vs e l = refl
+same-front [] (y ∷ ys) us vs e l = absurd (omega arith)
+same-front (x ∷ xs) [] us vs e l = absurd (omega arith)
+same-front (x ∷ xs) (y ∷ ys) us vs e l =
+    let h : x ≡ y = cc in
+    let t : xs ++ us ≡ ys ++ vs = cc in
+    cc (h, same-front xs ys us vs t (omega arith))
+
+-- the number of one more path is stored
+column-stored : (f : Path → ℕ) (done : List Path) (q : Path) → length done < 32 → {l : List ℕ} {k x : ℕ} → l ≡ column f done
+    → k ≡ length done → x ≡ f q → set l k x ≡ column f (done ++ q ∷ [])
+column-stored f done q h a b c = rw (a, b, c) (column-snoc f done q h)
+
+pub sound-sized : (d : List ℕ) → listAnswer d ≡ Sound → Sized (listPaths d)
+sound-sized d e =
+    let (p, g, f) = paths-print d e in
+    record { few = f; short = all-map (λ q h. h .within .steps) g; bytes = rw p (sound-bytes d e) }
+
+module _ {d at len head next rows downs lasts marks : List ℕ} {names p place : ℕ}
+    (v : Lining d at len head next rows downs lasts marks names p place) where
+  prints : printList (v .done ++ v .left) ≡ d
+  prints = rw (v .all) at (paths-print d (v .sound) .0)
+
+  place-in : length d ≡ place + length (printList (v .left))
+  unfolding printList
+  place-in =
+      sym (ap length prints)
+      ∙ ap length (print-append printLine (v .done) (v .left))
+      ∙ length-append (printList (v .done)) (printList (v .left))
+      ∙ ap (λ (n : ℕ). n + length (printList (v .left))) (sym (v .place-is))
+
+  -- a line is left
+  pub lines-line : place < length d → AtLine d at len head next rows names p place
+  unfolding printList
+  lines-line l = go (v .left) refl
+    where
+      go : (qs : List Path) → v .left ≡ qs → AtLine d at len head next rows names p place
+      go [] e = absurd (let a = place-in in let b : length (printList (v .left)) ≡ 0 = rw e in omega arith)
+      go (q ∷ rest) e =
+          record {
+            here =
+                record {
+                  sound = v .sound;
+                  done = v .done;
+                  path = q;
+                  rest = rest;
+                  all = v .all ∙ ap (λ (l : List Path). v .done ++ l) e;
+                  p-is = v .p-is;
+                };
+            place-is = v .place-is;
+            built = v .built;
+          }
+
+  -- its steps are entered
+  module _ {at′ len′ head′ next′ rows′ : List ℕ} {r : Line} (w : LineDone d at′ len′ head′ next′ rows′ p r) where
+    pub lines-few : p < 32
+    lines-few = path-few (w .here)
+
+    same-done : w .here .done ≡ v .done
+    same-done =
+        same-front (w .here .done) (v .done) (w .here .path ∷ w .here .rest) (v .left) (sym (w .here .all) ∙ v .all)
+        (sym (w .here .p-is) ∙ v .p-is)
+
+    abbrev path : Path
+    path = w .here .path
+
+    tail-is : lineEndAt d (r .end) ≡ Ends (path .marked) (r .end + length (printEnd (path .marked)))
+    unfolding lineEndAt
+    tail-is =
+        let a = printList (w .here .done) ++ printAll printStep (path .steps) in
+        let b = printEnd (path .marked) ++ printList (w .here .rest) in
+        let e : d ≡ a ++ b =
+        sym (whole (w .here))
+        ∙ print-parts (w .here .done) path (w .here .rest) (path .steps) [] (sym (append-nil (path .steps))) in
+        let l : length a ≡ r .end = length-append (printList (w .here .done)) (printAll printStep (path .steps)) ∙ sym (w .end-is) in
+        let f : drop (r .end) d ≡ b = ap (drop (r .end)) e ∙ drop-at a b (r .end) l in
+        let h : endAt (drop (r .end) d) ≡ some (path .marked) =
+        rw f (end-undoes .complete (path .marked) (printList (w .here .rest)) tt tt) in
+        ap (endPlaced (r .end)) h
+
+    module _ {t : Tail} (g : t ≡ tailOf (lineEndAt d (r .end)) (r .end)) where
+      tailed : t ≡ record { marked = path .marked; next = r .end + length (printEnd (path .marked)) }
+      tailed = g ∙ ap (λ (e : LineEnd). tailOf e (r .end)) tail-is
+
+      next-is : t .next ≡ length (printList (v .done ++ path ∷ []))
+      unfolding printList
+      next-is =
+          let a = ap (λ (x : Tail). x .next) tailed in
+          let b = w .end-is in
+          let c : printList (w .here .done ++ path ∷ [])
+          ≡ printList (w .here .done) ++ (printAll printStep (path .steps) ++ (printEnd (path .marked) ++ [])) =
+          print-append printLine (w .here .done) (path ∷ [])
+          ∙ ap (λ (l : List ℕ). printList (w .here .done) ++ l) (line-print path []) in
+          let e = ap length c in
+          let f = length-append (printList (w .here .done)) (printAll printStep (path .steps) ++ (printEnd (path .marked) ++ [])) in
+          let h = length-append (printAll printStep (path .steps)) (printEnd (path .marked) ++ []) in
+          let i = ap length (append-nil (printEnd (path .marked))) in
+          rw (← same-done) (omega arith)
+
+      pub lines-less : length d - t .next < length d - place
+      unfolding printList
+      lines-less =
+          let a = next-is in
+          let b = ap length (print-append printLine (v .done) (path ∷ [])) in
+          let c = length-append (printList (v .done)) (printList (path ∷ [])) in
+          let e = line-long path in
+          let f = ap length (append-nil (printLine path)) in
+          let h = v .place-is in
+          let i = place-in in
+          let j : length (printList (v .left)) ≡ length (printLine path) + length (printList (w .here .rest)) =
+          ap (λ (l : List Path). length (printList l)) left-is ∙ length-append (printLine path) (printList (w .here .rest)) in
+          omega arith
+        where
+          left-is : v .left ≡ path ∷ w .here .rest
+          left-is =
+              append-cancel-left (v .done) (v .left) (path ∷ w .here .rest)
+              (sym (v .all) ∙ w .here .all ∙ ap (λ (l : List Path). l ++ path ∷ w .here .rest) same-done)
+
+      pub lines-more : {x : ℕ} → x ≡ cond (t .marked) (r .last) 0
+          → Lining d at′ len′ head′ next′ rows′ (set downs p (r .down)) (set lasts p (r .last)) (set marks p x) (r .names) (p + 1) (t .next)
+      unfolding descendsOf lastsOf marksOf
+      lines-more {x} e =
+          let l : length (v .done) < 32 = rw (← v .p-is) lines-few in
+          let m = ap (λ (y : Tail). y .marked) tailed in
+          let q : x ≡ cond (path .marked) (lastBit path) 0 =
+          e ∙ ap (λ (b : Bool). cond b (r .last) 0) m ∙ ap (λ (n : ℕ). cond (path .marked) n 0) (w .last-is) in
+          record {
+            sound = v .sound;
+            done = v .done ++ path ∷ [];
+            left = w .here .rest;
+            all =
+                w .here .all
+                ∙ ap (λ (l : List Path). l ++ path ∷ w .here .rest) same-done
+                ∙ sym (append-assoc (v .done) (path ∷ []) (w .here .rest));
+            p-is = rw (length-append (v .done) (path ∷ [])) (ap (λ (n : ℕ). n + 1) (v .p-is));
+            place-is = next-is;
+            built = rw same-done at (w .built);
+            downs-are = column-stored _ (v .done) path l (v .downs-are) (v .p-is) (w .down-is);
+            lasts-are = column-stored _ (v .done) path l (v .lasts-are) (v .p-is) (w .last-is);
+            marks-are = column-stored _ (v .done) path l (v .marks-are) (v .p-is) q;
+          }
+
+  -- no line is left
+  module _ (l : length d ≤ place) where
+    all-done : v .done ≡ listPaths d
+    unfolding printList
+    all-done = sym (v .all ∙ ap (λ (qs : List Path). v .done ++ qs) (go (v .left) refl) ∙ append-nil (v .done))
+      where
+        go : (qs : List Path) → v .left ≡ qs → qs ≡ []
+        go [] e = refl
+        go (q ∷ qs) e =
+            let a = place-in in
+            let b : length (printList (v .left)) ≡ length (printLine q) + length (printList qs) =
+            rw e (length-append (printLine q) (printList qs)) in
+            absurd (let c = line-long q in omega arith)
+
+    sized : Sized (listPaths d)
+    sized = sound-sized d (v .sound)
+
+    rows-are : rows ≡ numberRows (listPaths d)
+    rows-are = v .built .rows-are ∙ ap numberRows all-done
+
+    pub lines-spreadable : Spreadable rows
+    lines-spreadable = rw rows-are (numbers-spreadable (listPaths d) sized)
+
+    pub lines-end : {rows′ : List ℕ} → Spread rows rows′
+        → record {
+          descends = downs;
+          lasts = lasts;
+          marks = marks;
+          names = names;
+          at = at;
+          len = len;
+          head = head;
+          next = next;
+          rows = rows′;
+        } ≡ compiledOf (listPaths d)
+    unfolding compiledOf
+    lines-end s =
+        let i : Indexed d at len head next (namesOf (listPaths d)) = rw all-done at (v .built .indexed) in
+        let c : names ≡ length (namesOf (listPaths d)) = rw all-done at (v .built .count) in
+        let x : downs ≡ descendsOf (listPaths d) = rw all-done at (v .downs-are) in
+        let y : lasts ≡ lastsOf (listPaths d) = rw all-done at (v .lasts-are) in
+        let z : marks ≡ marksOf (listPaths d) = rw all-done at (v .marks-are) in
+        let r = numbers-spread (listPaths d) sized (rw rows-are at s) in
+        cc (i .at-is, i .len-is, i .head-is, i .next-is)
+
+pub ruleset over-lines = (lines-start, lines-line, lines-few, lines-less, lines-more, lines-spreadable, lines-end, needs)

@@ -1,0 +1,200 @@
+-- The laws of the search for a name. `same`: what is left of both names is compared. `hash`. Tables of names: an entry stands for its name.
+-- `find`: what is left of the chain is searched.
+use mathlib.Core.Path.{_≡_, refl, sym, ap, _∙_}
+use mathlib.Core.Bool.{Bool, true, false}
+use mathlib.Core.List.{List, [], _∷_, _++_, map}
+use Prim.Native.Nat.{ℕ, zero, suc, _+_, _-_, _*_, _%_, _≤_, _<_}
+use native.Mathlib.Numerals.{add-one}
+use native.Mathlib.Omega.{arith}
+use borrow.Author.Needs.{needs}
+use borrow.Author.Tests.{eq-eqb, ne-eqb}
+use lib.ListN.{length, take, drop, getD, length-drop, drop-of-length-le}
+use lib.Seq.{length-take-le, getD-take, getD-drop, drop-cons}
+use Rattle.xml.specs.Productions.{same}
+use Rattle.paths.specs.Path.{All, none, more}
+use Rattle.compiled.specs.Names.{Named, placeOf, hashOf, chainsOf}
+use Rattle.compiled.specs.Bits.{padded}
+use Rattle.compiled.specs.Index.{Stands, Indexed, Tables, Found}
+use Rattle.compiled.proofs.Same.{same-equal, same-other}
+use Rattle.compiled.proofs.Places.{nameAt}
+use Rattle.compiled.proofs.Bits.{padded-get}
+use Rattle.compiled.proofs.Chains.{stops, chain, Linked, chains-linked, hash-below}
+
+-- ---- `same`
+
+pub record Comparing (d : List ℕ) (a n : ℕ) (m : List ℕ) (i : ℕ) : Type 0 where
+  pub long : n ≡ length m
+  pub inside : a + n ≤ length d
+  pub i-in : i ≤ n
+  pub goes : same (drop i (take n (drop a d))) (drop i m) ≡ same (take n (drop a d)) m
+
+module _ (d : List ℕ) (a n : ℕ) (m : List ℕ) (l : a + n ≤ length d) where
+  part-long : length (take n (drop a d)) ≡ n
+  part-long = length-take-le n (drop a d) (let z = length-drop a d in omega arith)
+
+  pub compare-length : (n ≡ length m → ⊥) → false ≡ same (take n (drop a d)) m
+  compare-length k = sym (same-other (take n (drop a d)) m (λ e. k (sym part-long ∙ ap length e)))
+
+  pub compare-start : n ≡ length m → Comparing d a n m 0
+  compare-start e = record { long = e; inside = l; i-in = omega arith; goes = refl }
+
+module _ {d : List ℕ} {a n : ℕ} {m : List ℕ} {i : ℕ} (v : Comparing d a n m i) where
+  part-step : i < n → drop i (take n (drop a d)) ≡ getD d (a + i) 0 ∷ drop (i + 1) (take n (drop a d))
+  part-step l =
+      let z = part-long d a n m (v .inside) in
+      rw (add-one i)
+      (drop-cons (take n (drop a d)) i 0 (omega arith)
+      ∙ ap (λ (x : ℕ). x ∷ drop (suc i) (take n (drop a d))) (getD-take n (drop a d) i 0 l ∙ getD-drop a d i 0))
+
+  name-step : i < n → drop i m ≡ getD m i 0 ∷ drop (i + 1) m
+  name-step l = rw (add-one i) (drop-cons m i 0 (let z = v .long in omega arith))
+
+  pub compare-other : i < n → (getD d (a + i) 0 ≡ getD m i 0 → ⊥) → false ≡ same (take n (drop a d)) m
+  compare-other l k = sym (rw (part-step l, name-step l, ne-eqb _ _ k)) ∙ v .goes
+
+  pub compare-more : i < n → getD d (a + i) 0 ≡ getD m i 0 → Comparing d a n m (i + 1)
+  compare-more l k =
+      record {
+        long = v .long;
+        inside = v .inside;
+        i-in = omega arith;
+        goes = sym (rw (part-step l, name-step l, eq-eqb _ _ k)) ∙ v .goes;
+      }
+
+  pub compare-end : n ≤ i → true ≡ same (take n (drop a d)) m
+  compare-end l =
+      let z = part-long d a n m (v .inside) in
+      let y = v .long in
+      let p : length (take n (drop a d)) ≤ i = omega arith in
+      let q : length m ≤ i = omega arith in
+      sym (rw (drop-of-length-le (take n (drop a d)) p, drop-of-length-le m q)) ∙ v .goes
+
+pub ruleset comparing = (compare-length, compare-start, compare-other, compare-more, compare-end, needs)
+
+-- ---- `hash`
+
+pub hash-nil : (n : List ℕ) → length n ≡ 0 → (0 ≡ hashOf n) × (0 < 256)
+unfolding hashOf
+hash-nil [] e = (refl, omega arith)
+hash-nil (x ∷ n) e = absurd (omega arith)
+
+pub hash-is : (n : List ℕ) {a b : ℕ} → a ≡ getD n 0 0 → b ≡ getD n (length n - 1) 0
+    → ((a * 7 + b * 3 + length n % 256 * 31) % 256 ≡ hashOf n) × ((a * 7 + b * 3 + length n % 256 * 31) % 256 < 256)
+unfolding hashOf
+hash-is n e h = (rw (e, h), omega arith)
+
+-- ---- tables of names
+
+-- entry i of the tables at and len is a part of the list: the name w
+pub record Entry (d at len : List ℕ) (i : ℕ) (w : List ℕ) : Type 0 where
+  pub inside : getD at i 0 + getD len i 0 ≤ length d
+  pub is : take (getD len i 0) (drop (getD at i 0) d) ≡ w
+
+module _ {d at len head next : List ℕ} {ns : List Named} (v : Indexed d at len head next ns) where
+  pub index-entry : (i : ℕ) → i < length ns → Entry d at len i (nameAt ns i)
+  index-entry i l = rw (v .at-is, v .len-is) (pad (go ns (v .stand) i l))
+    where
+      go : (ns : List Named) → All (Stands d) ns → (i : ℕ) → i < length ns
+          → Entry d (map (λ x. x .place) ns) (map (λ x. length (x .name)) ns) i (nameAt ns i)
+      go [] none i l = absurd (omega arith)
+      go (x ∷ ns) (more s a) zero l = record { inside = s .inside; is = s .is }
+      go (x ∷ ns) (more s a) (suc i) l = let e = go ns a i (omega arith) in record { inside = e .inside; is = e .is }
+
+      pad : {a l : List ℕ} {w : List ℕ} → Entry d a l i w → Entry d (padded 512 a) (padded 512 l) i w
+      pad {a} {l} {w} e =
+          record {
+            inside = rw (padded-get 512 a i, padded-get 512 l i) (e .inside);
+            is = rw (padded-get 512 a i, padded-get 512 l i) (e .is);
+          }
+
+  pub index-linked : Linked ns head next
+  index-linked = rw (v .head-is, v .next-is) (chains-linked (v .once) (v .few))
+
+-- ---- `find`
+
+pub tables-head : {d at len head next : List ℕ} → Tables d at len head next → (h : ℕ) → getD head h 0 ≤ 512
+tables-head t h = let a = index-linked (t .indexed) .top h in let b = t .indexed .few in omega arith
+
+-- from the place k on the chain goes to the place of n
+pub record Walking (ns : List Named) (next n : List ℕ) (k : ℕ) : Type 0 where
+  pub bound : ℕ
+  pub k-le : k ≤ bound
+  pub k-in : k ≤ length ns
+  pub goes : (f : ℕ) → bound ≤ f → chain ns next n f k ≡ placeOf ns n
+
+pub record Finding (d at len head next n : List ℕ) (k : ℕ) : Type 0 where
+  pub tables : Tables d at len head next
+  pub walk : (ns : List Named) → Indexed d at len head next ns → Walking ns next n k
+
+pub find-start : {d at len head next n : List ℕ} {h : ℕ} → Tables d at len head next → h ≡ hashOf n
+    → Finding d at len head next n (getD head h 0)
+find-start {head = head} {n = n} {h = h} t e =
+    record {
+      tables = t;
+      walk = λ ns v. let k = index-linked v in
+          record { bound = getD head h 0; k-le = omega arith; k-in = k .top h; goes = rw e (k .finds n) };
+    }
+
+module _ {d at len head next n : List ℕ} {k : ℕ} (v : Finding d at len head next n k) (l : 0 < k) where
+  here : Walking (v .tables .names) next n k
+  here = v .walk (v .tables .names) (v .tables .indexed)
+
+  pub find-room : k - 1 < 512
+  find-room = let a = here .k-in in let b = v .tables .indexed .few in omega arith
+
+  pub find-in : getD at (k - 1) 0 + getD len (k - 1) 0 ≤ length d
+  find-in = index-entry (v .tables .indexed) (k - 1) (let a = here .k-in in omega arith) .inside
+
+  pub find-less : getD next (k - 1) 0 < k
+  find-less =
+      let a = here .k-in in
+      let b = index-linked (v .tables .indexed) .down (k - 1) (omega arith) in
+      omega arith
+
+  module _ (ns : List Named) (x : Indexed d at len head next ns) {b : Bool}
+      (e : b ≡ same (take (getD len (k - 1) 0) (drop (getD at (k - 1) 0) d)) n) where
+    inside : k - 1 < length ns
+    inside = let a = v .walk ns x .k-in in omega arith
+
+    test : b ≡ same (nameAt ns (k - 1)) n
+    test = e ∙ ap (λ (w : List ℕ). same w n) (index-entry x (k - 1) inside .is)
+
+    link : (f : ℕ) → v .walk ns x .bound ≤ suc f → stops b k (chain ns next n f (getD next (k - 1) 0)) ≡ placeOf ns n
+    link f h = rw test (go k l (v .walk ns x .goes))
+      where
+        go : (k : ℕ) → 0 < k → ((f : ℕ) → v .walk ns x .bound ≤ f → chain ns next n f k ≡ placeOf ns n)
+            → stops (same (nameAt ns (k - 1)) n) k (chain ns next n f (getD next (k - 1) 0)) ≡ placeOf ns n
+        go zero l g = absurd (omega arith)
+        go (suc k) l g = rw (let z : suc k - 1 ≡ k = omega arith in z) (g (suc f) h)
+
+    stop-here : b ≡ true → k ≡ placeOf ns n
+    stop-here t = rw t at (link (v .walk ns x .bound) (omega arith))
+
+    step-on : b ≡ false → Walking ns next n (getD next (k - 1) 0)
+    step-on t =
+        let a = v .walk ns x .k-le in
+        let c = v .walk ns x .k-in in
+        let y = find-less in
+        record {
+          bound = v .walk ns x .bound - 1;
+          k-le = omega arith;
+          k-in = omega arith;
+          goes = λ f h. rw t at (link f (omega arith));
+        }
+
+  module _ {b : Bool} (e : b ≡ same (take (getD len (k - 1) 0) (drop (getD at (k - 1) 0) d)) n) where
+    pub find-here : b ≡ true → Found d at len head next n k
+    find-here t = record { is = λ ns x. stop-here ns x e t }
+
+    pub find-more : b ≡ false → Finding d at len head next n (getD next (k - 1) 0)
+    find-more t = record { tables = v .tables; walk = λ ns x. step-on ns x e t }
+
+pub find-end : {d at len head next n : List ℕ} {k : ℕ} → Finding d at len head next n k → k ≤ 0 → Found d at len head next n 0
+find-end {next = next} {n = n} {k = k} v l =
+    record {
+      is = λ ns x. let w = v .walk ns x in
+          let z : k ≡ 0 = omega arith in
+          sym (ap (chain ns next n (suc (w .bound))) z) ∙ w .goes (suc (w .bound)) (omega arith);
+    }
+
+pub ruleset finding = (find-start, find-room, find-in, find-less, find-end, needs)

@@ -1,0 +1,64 @@
+-- `fit_at` meets its contract. The loop's invariant: the first p numbers are those of the row. The measure is what is left of 32.
+use mathlib.Core.Path.{_≡_}
+use Prim.Native.Nat.{_-_, _*_}
+use Rattle.compiled.specs.Row.{rowOf}
+use Rattle.compiled.proofs.Entries.{copying, Copying}
+use Rattle.compiled.proofs.rows.fit_at.Statement.{statement}
+use Rattle.compiled.proofs.rows.fit_at.Tie as tie
+
+abbrev Inv-loop : tie.InvT-loop
+Inv-loop rows k base bits₀ p₀ bits p = (base ≡ 32 * rowOf k) × Copying rows base bits p
+
+abbrev μ-loop : tie.MeasureT-loop
+μ-loop rows k base bits₀ p₀ bits p = 32 - p
+
+row-start-requires : tie.Need-row-start-requires Inv-loop μ-loop
+row-start-requires c κs = search copying
+
+loop-holds : tie.Need-loop-holds Inv-loop μ-loop
+loop-holds c = search copying
+
+add-bits : tie.Need-add-bits Inv-loop μ-loop
+add-bits c = search copying
+
+mul-bits : tie.Need-mul-bits Inv-loop μ-loop
+mul-bits c = search copying
+
+element-copy-out-bits : tie.Need-element-copy-out-bits Inv-loop μ-loop
+element-copy-out-bits c = search copying
+
+mul-bits-2 : tie.Need-mul-bits-2 Inv-loop μ-loop
+mul-bits-2 c = search copying
+
+array-write-bits : tie.Need-array-write-bits Inv-loop μ-loop
+array-write-bits c = search copying
+
+add-p : tie.Need-add-p Inv-loop μ-loop
+add-p c = search copying
+
+loop-less : tie.Need-loop-less Inv-loop μ-loop
+loop-less c = search copying
+
+loop-again : tie.Need-loop-again Inv-loop μ-loop
+loop-again c = search copying
+
+returns : tie.Need-returns Inv-loop μ-loop
+returns c = search copying
+
+pub fit-at-spec : {M : Type 1} → statement M
+fit-at-spec =
+    tie.close
+    (tie.spec
+    Inv-loop
+    μ-loop
+    row-start-requires
+    loop-holds
+    add-bits
+    mul-bits
+    element-copy-out-bits
+    mul-bits-2
+    array-write-bits
+    add-p
+    loop-less
+    loop-again
+    returns)

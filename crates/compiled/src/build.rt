@@ -1,0 +1,172 @@
+// The tables of a sound list, entered step by step.
+ghost use mathlib.Core.Path.{_≡_};
+ghost use Prim.Native.Nat.{_+_, _<_, _≤_};
+ghost use lib.ListN.{length};
+ghost use mathlib.Core.Bool.{cond};
+ghost use Rattle.paths.specs.Place.{lineEndAt};
+ghost use Rattle.compiled.specs.Bits.{descends};
+ghost use Rattle.compiled.specs.Line.{AtLine, LineDone, tailOf};
+ghost use Rattle.compiled.specs.Built.{Held, Entered, AtStep, StepDone};
+use crate::find::find;
+use crate::find::hash;
+use crate::rows::add_bit;
+use paths::Kind;
+use paths::LineEnd;
+use paths::StepEnd;
+use paths::end_at;
+use paths::step_at;
+
+// How many names there are, and the number of the name entered.
+pub struct Numbered {
+    pub names: usize,
+    pub number: usize,
+}
+
+// The name of n bytes at a is entered where it is not there; no bytes are `*`, of number 0.
+fn with_name(
+    list: &[u8],
+    at: &mut [u16; 512],
+    len: &mut [u16; 512],
+    head: &mut [u16; 256],
+    next: &mut [u16; 512],
+    names: usize,
+    a: usize,
+    n: usize,
+) -> Numbered
+    requires { ⌜ (names < 512) × (a + n ≤ length (now list)) × (length (now list) ≤ 8192)
+        × Held (now list) (now at) (now len) (now head) (now next) names ⌝ }
+    ensures { λ r.
+        ⌜ Entered (now (list .entry)) (now (at .entry)) (now (len .entry)) (now (head .entry)) (now (next .entry)) names a n
+        (now (at .exit)) (now (len .exit)) (now (head .exit)) (now (next .exit)) r ⌝ }
+{
+    if n == 0 {
+        return Numbered { names, number: 0 };
+    }
+    let e = a + n;
+    let k = find(list, at, len, head, next, &list[a..e]);
+    if k != 0 {
+        return Numbered { names, number: k };
+    }
+    let h = hash(&list[a..e]);
+    at[names] = a as u16;
+    len[names] = n as u16;
+    next[names] = head[h];
+    head[h] = (names + 1) as u16;
+    Numbered {
+        names: names + 1,
+        number: names + 1,
+    }
+}
+
+// A step of path p is entered: its name, and its bit in the row of its number.
+fn add_step(
+    list: &[u8],
+    at: &mut [u16; 512],
+    len: &mut [u16; 512],
+    head: &mut [u16; 256],
+    next: &mut [u16; 512],
+    rows: &mut [u16; 16416],
+    names: usize,
+    p: usize,
+    bit: usize,
+    a: usize,
+    n: usize,
+) -> usize
+    requires { ⌜ AtStep (now list) (now at) (now len) (now head) (now next) (now rows) names p bit a n ⌝ }
+    ensures { λ r.
+        ⌜ StepDone (now (list .entry)) (now (at .entry)) (now (len .entry)) (now (head .entry)) (now (next .entry)) (now (rows .entry))
+        names p bit a n (now (at .exit)) (now (len .exit)) (now (head .exit)) (now (next .exit)) (now (rows .exit)) r ⌝ }
+{
+    let m = with_name(list, at, len, head, next, names, a, n);
+    add_bit(rows, m.number, p, bit as u16);
+    m.names
+}
+
+// The bit of a step, if it descends.
+fn down_bit(kind: Kind, bit: usize) -> usize
+    ensures { λ r. ⌜ (r ≡ cond (descends kind) bit 0) × (r ≤ bit) ⌝ }
+{
+    match kind {
+        Kind::Child => 0,
+        Kind::Descendant => bit,
+    }
+}
+
+// What a line has: how many names there are with its own; the place after its steps; the bit of the last step; those that descend.
+pub struct Line {
+    pub names: usize,
+    pub end: usize,
+    pub last: u16,
+    pub down: u16,
+}
+
+// The steps of path p, whose line begins at a place, are entered.
+pub fn enter_line(
+    list: &[u8],
+    at: &mut [u16; 512],
+    len: &mut [u16; 512],
+    head: &mut [u16; 256],
+    next: &mut [u16; 512],
+    rows: &mut [u16; 16416],
+    names: usize,
+    p: usize,
+    from: usize,
+) -> Line
+    requires { ⌜ AtLine (now list) (now at) (now len) (now head) (now next) (now rows) names p from ⌝ }
+    ensures { λ r.
+        ⌜ LineDone (now (list .entry)) (now (at .exit)) (now (len .exit)) (now (head .exit)) (now (next .exit)) (now (rows .exit)) p r ⌝ }
+{
+    let mut count = names;
+    let mut place = from;
+    let mut bit: usize = 1;
+    let mut down: usize = 0;
+    'steps: loop {
+        match step_at(list, place) {
+            StepEnd::Step {
+                kind,
+                name,
+                len: n,
+                end,
+            } => {
+                count = add_step(list, at, len, head, next, rows, count, p, bit, name, n);
+                down = down + down_bit(kind, bit);
+                bit = bit * 2;
+                place = end;
+            }
+            StepEnd::Fault => break 'steps,
+        }
+    }
+    Line {
+        names: count,
+        end: place,
+        last: (bit / 2) as u16,
+        down: down as u16,
+    }
+}
+
+// The mark of a line, and the place of the next one.
+pub struct Tail {
+    pub marked: bool,
+    pub next: usize,
+}
+
+pub fn tail_at(list: &[u8], at: usize) -> Tail
+    ensures { λ r. ⌜ r ≡ tailOf (lineEndAt (now (list .entry)) at) at ⌝ }
+{
+    match end_at(list, at) {
+        LineEnd::Ends { marked, next } => Tail { marked, next },
+        LineEnd::Fault => Tail {
+            marked: false,
+            next: at,
+        },
+    }
+}
+
+pub fn if_marked(marked: bool, last: u16) -> u16
+    ensures { λ r. ⌜ r ≡ cond marked last 0 ⌝ }
+{
+    if marked {
+        return last;
+    }
+    0
+}

@@ -1,0 +1,104 @@
+// A sound list, compiled line by line.
+ghost use mathlib.Core.Path.{_≡_};
+ghost use Rattle.paths.specs.Judge.{listAnswer, listPaths};
+ghost use mathlib.Core.List.{[]};
+ghost use Rattle.paths.specs.declared.ListAnswer.the-variants.{Sound};
+ghost use Rattle.compiled.specs.Compiled.{compiledOf};
+use crate::Compiled;
+use crate::build::enter_line;
+use crate::build::if_marked;
+use crate::build::tail_at;
+use crate::rows::spread;
+use paths::ListAnswer;
+use paths::answer;
+
+// The tables of the paths of a sound list.
+pub fn compile(list: &[u8]) -> Compiled
+    requires { ⌜ listAnswer (now list) ≡ Sound ⌝ }
+    ensures { λ r. ⌜ r ≡ compiledOf (listPaths (now (list .entry))) ⌝ }
+{
+    let mut descends = [0u16; 32];
+    let mut lasts = [0u16; 32];
+    let mut marks = [0u16; 32];
+    let mut at = [0u16; 512];
+    let mut len = [0u16; 512];
+    let mut head = [0u16; 256];
+    let mut next = [0u16; 512];
+    let mut rows = [0u16; 16416];
+    let mut names: usize = 0;
+    let mut p: usize = 0;
+    let mut place: usize = 0;
+    while place < list.len() {
+        let line = enter_line(
+            list,
+            &mut at,
+            &mut len,
+            &mut head,
+            &mut next,
+            &mut rows,
+            names,
+            p,
+            place,
+        );
+        let tail = tail_at(list, line.end);
+        descends[p] = line.down;
+        lasts[p] = line.last;
+        marks[p] = if_marked(tail.marked, line.last);
+        names = line.names;
+        place = tail.next;
+        p += 1;
+    }
+    spread(&mut rows);
+    Compiled {
+        descends,
+        lasts,
+        marks,
+        names,
+        at,
+        len,
+        head,
+        next,
+        rows,
+    }
+}
+
+// The tables of no path.
+fn none() -> Compiled
+    ensures { λ r. ⌜ r ≡ compiledOf [] ⌝ }
+{
+    Compiled {
+        descends: [0; 32],
+        lasts: [0; 32],
+        marks: [0; 32],
+        names: 0,
+        at: [0; 512],
+        len: [0; 512],
+        head: [0; 256],
+        next: [0; 512],
+        rows: [0; 16416],
+    }
+}
+
+// What is said of a list, and its paths compiled: none where it is refused.
+pub struct ListRead {
+    pub answer: ListAnswer,
+    pub compiled: Compiled,
+}
+
+pub fn read(list: &[u8]) -> ListRead
+    ensures { λ r. ⌜ r ≡ record { answer = listAnswer (now (list .entry)); compiled = compiledOf (listPaths (now (list .entry))) } ⌝ }
+{
+    let said = answer(list);
+    if let ListAnswer::Sound = said {
+        let compiled = compile(list);
+        return ListRead {
+            answer: said,
+            compiled,
+        };
+    }
+    let compiled = none();
+    ListRead {
+        answer: said,
+        compiled,
+    }
+}
