@@ -1,4 +1,5 @@
-// The tables of a sound list, entered step by step.
+// The tables of a sound list, entered step by step: a step's name, if it is not there yet, and its bit in the row of its name; for a line the
+// bits of its descendant steps and of its last, and its mark.
 ghost use mathlib.Core.Path.{_≡_};
 ghost use Prim.Native.Nat.{_+_, _<_, _≤_};
 ghost use lib.ListN.{length};
@@ -8,7 +9,7 @@ ghost use Rattle.compiled.specs.Bits.{descends};
 ghost use Rattle.compiled.specs.Line.{AtLine, LineDone, tailOf};
 ghost use Rattle.compiled.specs.Built.{Held, Entered, AtStep, StepDone};
 use crate::find::find;
-use crate::find::hash;
+use crate::hashing::hash;
 use crate::rows::add_bit;
 use paths::Kind;
 use paths::LineEnd;

@@ -1,4 +1,5 @@
-// A sound list, compiled line by line.
+// A list is judged, and a sound one compiled line by line. `read` takes any bytes; where the list is refused the tables are those of no
+// path.
 ghost use mathlib.Core.Path.{_≡_};
 ghost use Rattle.paths.specs.Judge.{listAnswer, listPaths};
 ghost use mathlib.Core.List.{[]};
@@ -13,7 +14,7 @@ use paths::ListAnswer;
 use paths::answer;
 
 // The tables of the paths of a sound list.
-pub fn compile(list: &[u8]) -> Compiled
+fn compile(list: &[u8]) -> Compiled
     requires { ⌜ listAnswer (now list) ≡ Sound ⌝ }
     ensures { λ r. ⌜ r ≡ compiledOf (listPaths (now (list .entry))) ⌝ }
 {

@@ -1,10 +1,11 @@
-// Where a name stands among the names of a compiled list: by the chain of the name's number, comparing bytes.
+// Where a name stands among the names of a compiled list: the chain of the name's number is gone through, and bytes are compared.
+// Names are equal when their bytes are.
 ghost use mathlib.Core.Path.{_≡_};
-ghost use Prim.Native.Nat.{_+_, _<_, _≤_};
+ghost use Prim.Native.Nat.{_+_, _≤_};
 ghost use lib.ListN.{length, take, drop};
 ghost use Rattle.xml.specs.Productions.{same as sameName};
-ghost use Rattle.compiled.specs.Names.{hashOf};
 ghost use Rattle.compiled.specs.Index.{Tables, Found};
+use crate::hashing::hash;
 
 // Whether the n bytes of the list at a are the name.
 fn same(list: &[u8], a: usize, n: usize, name: &[u8]) -> bool
@@ -22,23 +23,6 @@ fn same(list: &[u8], a: usize, n: usize, name: &[u8]) -> bool
         i += 1;
     }
     true
-}
-
-fn wide(b: u8) -> usize
-    ensures { λ r. ⌜ (r ≡ b) × (r < 256) ⌝ }
-{
-    b as usize
-}
-
-// The number of a name, by its first byte, its last and its length: below 256.
-pub fn hash(name: &[u8]) -> usize
-    ensures { λ r. ⌜ (r ≡ hashOf (now (name .entry))) × (r < 256) ⌝ }
-{
-    let n = name.len();
-    if n == 0 {
-        return 0;
-    }
-    (wide(name[0]) * 7 + wide(name[n - 1]) * 3 + n % 256 * 31) % 256
 }
 
 // Where a name stands among those of the tables, from 1; 0 where it does not.

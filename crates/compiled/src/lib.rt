@@ -1,8 +1,11 @@
-// A sound path list, compiled for matching: tables by value, as specs/Compiled.antt has them.
-pub mod build;
-pub mod compile;
-pub mod find;
-pub mod rows;
+// A sound path list, compiled for matching: tables by value, every entry of which is a function of the paths, as specs/Compiled.antt has
+// them. A list is read by `compile::read`; a name is looked up by `find::find`, and what it passes is its row, `fit::fit_at`.
+pub mod compile; // a list, judged and compiled
+pub mod find; // where a name stands among those of a list
+pub mod fit; // the row of a name
+mod hashing; // the number of a name
+mod rows; // the rows while they are made
+mod build; // the tables, step by step
 
 // For each path the bits of its descendant steps, that of its last step, and that again if it is marked: bit j for step j + 1. The distinct
 // names by their places in the list, and chains through them by a number of the name. A row of 32 for each name, the steps of each path

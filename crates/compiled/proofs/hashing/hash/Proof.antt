@@ -1,8 +1,8 @@
 -- `hash` meets its contract: the number is `hashOf`, and below 256.
 use borrow.Author.Needs.{needs}
 use Rattle.compiled.proofs.Search.{hash-nil, hash-is}
-use Rattle.compiled.proofs.find.hash.Statement.{statement}
-use Rattle.compiled.proofs.find.hash.Tie as tie
+use Rattle.compiled.proofs.hashing.hash.Statement.{statement}
+use Rattle.compiled.proofs.hashing.hash.Tie as tie
 
 returns : tie.Need-returns
 returns c =

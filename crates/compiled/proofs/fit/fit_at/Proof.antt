@@ -3,8 +3,8 @@ use mathlib.Core.Path.{_≡_}
 use Prim.Native.Nat.{_-_, _*_}
 use Rattle.compiled.specs.Row.{rowOf}
 use Rattle.compiled.proofs.Entries.{copying, Copying}
-use Rattle.compiled.proofs.rows.fit_at.Statement.{statement}
-use Rattle.compiled.proofs.rows.fit_at.Tie as tie
+use Rattle.compiled.proofs.fit.fit_at.Statement.{statement}
+use Rattle.compiled.proofs.fit.fit_at.Tie as tie
 
 abbrev Inv-loop : tie.InvT-loop
 Inv-loop rows k base bits₀ p₀ bits p = (base ≡ 32 * rowOf k) × Copying rows base bits p

@@ -3,8 +3,8 @@ use native.Mathlib.Omega.{arith}
 use borrow.Author.Tests.{lt-ltb, le-ltb}
 use borrow.Author.Needs.{needs}
 use Rattle.compiled.specs.Row.{rowOf}
-use Rattle.compiled.proofs.rows.row_start.Statement.{statement}
-use Rattle.compiled.proofs.rows.row_start.Tie as tie
+use Rattle.compiled.proofs.fit.row_start.Statement.{statement}
+use Rattle.compiled.proofs.fit.row_start.Tie as tie
 
 mul-result : tie.Need-mul-result
 mul-result c = search needs

@@ -1,0 +1,68 @@
+-- Worked examples of the compiled tables, computed: a list of three paths, what descends, the last steps and the marks, its distinct names
+-- with their places, and what names pass. Expected values are written from document 01's words, bit j for step j + 1.
+use mathlib.Core.Path.{_≡_, refl}
+use mathlib.Core.Bool.{true, false}
+use mathlib.Core.List.{List, [], _∷_, map}
+use lib.ListN.{take}
+use Rattle.xml.specs.Notation.{bytes}
+use Rattle.paths.specs.Path.{Test, any, named, Step, Path, printStep, printLine, printList}
+use Rattle.paths.specs.declared.Kind.the-variants.{Child, Descendant}
+use Rattle.compiled.specs.Bits.{padded, column, descendsOf, lastsOf, marksOf, fitOf, otherFit}
+use Rattle.compiled.specs.Names.{namesOf, placeOf}
+
+abbrev child : Test → Step
+child x = record { kind = Child; test = x }
+
+abbrev descendant : Test → Step
+descendant x = record { kind = Descendant; test = x }
+
+-- /g//v, //*/v marked, //n
+abbrev three : List Path
+three =
+    record { steps = child (named (bytes "g")) ∷ descendant (named (bytes "v")) ∷ []; marked = false }
+    ∷ record { steps = descendant any ∷ child (named (bytes "v")) ∷ []; marked = true }
+    ∷ record { steps = descendant (named (bytes "n")) ∷ []; marked = false }
+    ∷ []
+
+pub prints : printList three ≡ bytes "/g//v\n//*/v #\n//n\n"
+unfolding printList printLine printStep
+prints = refl
+
+-- the first four of 32
+pub descends : take 4 (descendsOf three) ≡ 2 ∷ 1 ∷ 1 ∷ 0 ∷ []
+unfolding descendsOf column padded
+descends = refl
+
+pub lasts : take 4 (lastsOf three) ≡ 2 ∷ 2 ∷ 1 ∷ 0 ∷ []
+unfolding lastsOf column padded
+lasts = refl
+
+pub marks : take 4 (marksOf three) ≡ 0 ∷ 2 ∷ 0 ∷ 0 ∷ []
+unfolding marksOf column padded
+marks = refl
+
+-- g at 1, v at 4 for the first time, n at 16
+pub names : map (λ x. x .name) (namesOf three) ≡ bytes "g" ∷ bytes "v" ∷ bytes "n" ∷ []
+unfolding namesOf printLine printStep
+names = refl
+
+pub places : map (λ x. x .place) (namesOf three) ≡ 1 ∷ 4 ∷ 16 ∷ []
+unfolding namesOf printLine printStep
+places = refl
+
+pub found : map (placeOf (namesOf three)) (bytes "g" ∷ bytes "v" ∷ bytes "n" ∷ bytes "x" ∷ []) ≡ 1 ∷ 2 ∷ 3 ∷ 0 ∷ []
+unfolding namesOf printLine printStep
+found = refl
+
+-- v passes the last steps of two paths and `*`; x, which no step has, passes `*` alone
+pub fits : take 4 (fitOf three (bytes "v")) ≡ 2 ∷ 3 ∷ 0 ∷ 0 ∷ []
+unfolding fitOf column padded
+fits = refl
+
+pub fits-none : take 4 (fitOf three (bytes "x")) ≡ 0 ∷ 1 ∷ 0 ∷ 0 ∷ []
+unfolding fitOf column padded
+fits-none = refl
+
+pub fits-other : take 4 (otherFit three) ≡ 0 ∷ 1 ∷ 0 ∷ 0 ∷ []
+unfolding otherFit column padded
+fits-other = refl
