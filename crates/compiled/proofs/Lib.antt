@@ -16,3 +16,5 @@ pub mod Stepped
 pub mod InLine
 pub mod OverLines
 pub mod Reading
+pub mod Lookup
+pub mod Examples

@@ -4,7 +4,8 @@ use mathlib.Core.Path.{_≡_, refl, sym, ap, _∙_}
 use mathlib.Core.List.{List, [], _∷_, _++_, map}
 use Prim.Native.Nat.{ℕ, zero, suc, _+_, _-_, _*_, _≤_, _<_}
 use native.Mathlib.Omega.{arith}
-use lib.ListN.{length, getD, take, drop, replicate, length-append, length-map, length-replicate, getD-replicate, replicate-append-replicate, List·getD-append}
+use lib.ListN.{length, getD, take, drop, replicate, length-append}
+use lib.ListN.{length-map, length-replicate, getD-replicate, replicate-append-replicate, List·getD-append}
 use lib.Seq.{take-at, drop-append-add, getD-append-add}
 use Rattle.paths.specs.Path.{Test, any, named, Path, All, none, more}
 use Rattle.compiled.specs.Bits.{passes, passesAny, fitOf, otherFit}

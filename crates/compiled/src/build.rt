@@ -1,4 +1,4 @@
-// The tables of a sound list, entered step by step.
+// The tables of a sound list, entered step by step: a name, a step, the steps of a line; and a line's end.
 ghost use mathlib.Core.Path.{_≡_};
 ghost use Prim.Native.Nat.{_+_, _<_, _≤_};
 ghost use lib.ListN.{length};
@@ -150,6 +150,7 @@ pub struct Tail {
     pub next: usize,
 }
 
+// The end of a line that is read to a place; no mark and the place itself where no line ends.
 pub fn tail_at(list: &[u8], at: usize) -> Tail
     ensures { λ r. ⌜ r ≡ tailOf (lineEndAt (now (list .entry)) at) at ⌝ }
 {
@@ -162,6 +163,7 @@ pub fn tail_at(list: &[u8], at: usize) -> Tail
     }
 }
 
+// The bit of a last step, if its path is marked.
 pub fn if_marked(marked: bool, last: u16) -> u16
     ensures { λ r. ⌜ r ≡ cond marked last 0 ⌝ }
 {

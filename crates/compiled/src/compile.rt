@@ -1,4 +1,4 @@
-// A sound list, compiled line by line.
+// A sound list, compiled line by line; and any list read: the answer, and the tables of its paths.
 ghost use mathlib.Core.Path.{_≡_};
 ghost use Rattle.paths.specs.Judge.{listAnswer, listPaths};
 ghost use mathlib.Core.List.{[]};
@@ -79,12 +79,13 @@ fn none() -> Compiled
     }
 }
 
-// What is said of a list, and its paths compiled: none where it is refused.
+// What is said of a list, and its paths compiled.
 pub struct ListRead {
     pub answer: ListAnswer,
     pub compiled: Compiled,
 }
 
+// A list that is not sound has no path.
 pub fn read(list: &[u8]) -> ListRead
     ensures { λ r. ⌜ r ≡ record { answer = listAnswer (now (list .entry)); compiled = compiledOf (listPaths (now (list .entry))) } ⌝ }
 {

@@ -24,6 +24,7 @@ fn same(list: &[u8], a: usize, n: usize, name: &[u8]) -> bool
     true
 }
 
+// A byte as a number.
 fn wide(b: u8) -> usize
     ensures { λ r. ⌜ (r ≡ b) × (r < 256) ⌝ }
 {

@@ -1,8 +1,8 @@
 // A sound path list, compiled for matching: tables by value, as specs/Compiled.antt has them.
-pub mod build;
-pub mod compile;
-pub mod find;
-pub mod rows;
+pub mod find; // where a name stands
+pub mod rows; // the rows of the names
+pub mod build; // names, steps and lines entered
+pub mod compile; // a list compiled
 
 // For each path the bits of its descendant steps, that of its last step, and that again if it is marked: bit j for step j + 1. The distinct
 // names by their places in the list, and chains through them by a number of the name. A row of 32 for each name, the steps of each path
