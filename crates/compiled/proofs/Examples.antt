@@ -1,4 +1,5 @@
--- A list worked out: `/a//b #` and `//*/a`. Bit 0 is the first step. Its names, its bits, the fits of `a`, `b` and `c`, and the number of `a`.
+-- A list worked out: `/a//b #` and `//*/a`. Bit 0 is the first step. In order: its names, its bits, the fits of `a`, `b` and `c`, and the
+-- number of `a`.
 use mathlib.Core.Path.{_≡_, refl}
 use mathlib.Core.Bool.{true, false}
 use mathlib.Core.List.{List, [], _∷_}
