@@ -4,4 +4,8 @@ pub mod Steps
 pub mod Lines
 pub mod Meaning
 pub mod Places
+pub mod Here
+pub mod Front
 pub mod Walk
+pub mod Examples
+pub mod OneAnswer

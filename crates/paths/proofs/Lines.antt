@@ -86,6 +86,10 @@ pub line-long : (p : Path) → 0 < length (printLine p)
 unfolding printLine
 line-long p = simp length-append (omega arith)
 
+pub with-end : (xs : List Step) (m : Bool) → 0 < length xs → withEnd xs (some m) ≡ some (record { steps = xs; marked = m })
+with-end [] m l = absurd (let z : 0 < 0 = l in omega arith)
+with-end (x ∷ xs) m l = refl
+
 pub line-undoes : Undoes printLine IsPath AnyRest lineAt
 unfolding lineAt steps
 line-undoes =
@@ -117,15 +121,11 @@ line-undoes =
         split [] q ok e = absurd (Option·none-ne-some p e)
         split (x ∷ xs) q ok e = ended s x xs (r .rest) q ok p o h e
 
-    whole : (xs : List Step) (m : Bool) → 0 < length xs → withEnd xs (some m) ≡ some (record { steps = xs; marked = m })
-    whole [] m l = absurd (let z : 0 < 0 = l in omega arith)
-    whole (x ∷ xs) m l = refl
-
     back : (p : Path) (t : List ℕ) → IsPath p → lineAt (printLine p ++ t) ≡ some p
     back p t ok =
         let t′ = printEnd (p .marked) ++ t in
         let r = run-whole step-undoes step-long t′ (after-step (p .marked) t) (p .steps) (ok .each) (end-no-step (p .marked) t) in
-        rw (line-print p t, r, end-undoes .complete (p .marked) t tt tt) (whole (p .steps) (p .marked) (ok .some))
+        rw (line-print p t, r, end-undoes .complete (p .marked) t tt tt) (with-end (p .steps) (p .marked) (ok .some))
 
 -- ---- sizes as a test
 

@@ -88,7 +88,7 @@ judge-fault [] n l h o e = absurd (h refl)
 judge-fault (b ∷ t) n l h o e = rw (lt-leb 32 n l, e)
 
 module _ (s : List ℕ) (l : length s ≤ 8192) where
-  short-answer : listAnswer s ≡ judge (lines s)
+  pub short-answer : listAnswer s ≡ judge (lines s)
   unfolding listAnswer
   short-answer = rw (le-ltb 8192 (length s) l)
 

@@ -7,7 +7,7 @@ use Prim.Native.Nat.{ℕ, _+_}
 use lib.Dec.{ltb, leb}
 use lib.ListN.{length}
 use Rattle.paths.specs.Path.{Step, Path, testSize, printLine}
-use Rattle.paths.specs.Reader.{Run, run, lineAt}
+use Rattle.paths.specs.Reader.{Run, readAll, lineAt}
 use Rattle.paths.specs.declared.ListAnswer.{ListAnswer}
 use Rattle.paths.specs.declared.ListAnswer.the-variants.{Sound, TooLong, Malformed, TooLarge}
 
@@ -27,7 +27,7 @@ unfoldable pub soundAt : List ℕ → Option Path
 soundAt s = smallOnly (lineAt s)
 
 unfoldable pub lines : List ℕ → Run Path
-lines = run printLine soundAt 0
+lines = readAll printLine soundAt 0
 
 -- what is said of line n, which is not sound
 abbrev pub faultOf : Option Path → ℕ → ListAnswer

@@ -27,10 +27,10 @@ next print none s later = record { all = []; rest = s }
 next print (some x) s later = cons x (later (pred (length (print x))))
 
 -- all that `read` finds, one after another, once k bytes are passed
-unfoldable pub run : {A : Type 0} → (A → List ℕ) → (List ℕ → Option A) → ℕ → List ℕ → Run A
-run print read k [] = record { all = []; rest = [] }
-run print read (suc k) (b ∷ s) = run print read k s
-run print read zero (b ∷ s) = next print (read (b ∷ s)) (b ∷ s) (λ k. run print read k s)
+unfoldable pub readAll : {A : Type 0} → (A → List ℕ) → (List ℕ → Option A) → ℕ → List ℕ → Run A
+readAll print read k [] = record { all = []; rest = [] }
+readAll print read (suc k) (b ∷ s) = readAll print read k s
+readAll print read zero (b ∷ s) = next print (read (b ∷ s)) (b ∷ s) (λ k. readAll print read k s)
 
 -- ---- a step: `/` or `//`, then `*` or the longest name
 
@@ -57,7 +57,7 @@ unfoldable pub stepAt : List ℕ → Option Step
 stepAt s = withTest s (kindAt s)
 
 unfoldable pub steps : List ℕ → Run Step
-steps = run printStep stepAt 0
+steps = readAll printStep stepAt 0
 
 -- ---- a line: one step or more, and its end with the mark
 

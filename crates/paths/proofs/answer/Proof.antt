@@ -1,8 +1,9 @@
 -- `answer` meets its contract. At a line's front the lines before are sound. Within a line its steps so far are counted, and `small` says
--- that none of their names is too long. The measure of both loops is what is left of the list. proofs/Walk.antt has the laws.
+-- that none of their names is too long. Both measures are what is left of the list. proofs/Front.antt and proofs/Walk.antt have the laws.
 use Prim.Native.Nat.{_-_}
 use lib.ListN.{length}
-use Rattle.paths.proofs.Walk.{AtLine, Walking, walk}
+use Rattle.paths.proofs.Front.{AtLine}
+use Rattle.paths.proofs.Walk.{Walking, walk}
 use Rattle.paths.proofs.answer.Statement.{statement}
 use Rattle.paths.proofs.answer.Tie as tie
 
