@@ -4,7 +4,7 @@ use mathlib.Core.Path.{_≡_, refl, sym, ap, _∙_}
 use mathlib.Core.Bool.{Bool, true, false}
 use mathlib.Core.List.{List, [], _∷_, _++_}
 use Prim.Native.Nat.{ℕ, zero, suc, _+_, _≤_, _<_}
-use native.Mathlib.Nat.{add-zero, zero-add, add-suc, suc-add}
+use native.Mathlib.Nat.{add-zero, zero-add}
 use native.Mathlib.Numerals.{add-one}
 use native.Mathlib.Omega.{arith}
 use borrow.Author.Tests.{eqb-true, eqb-false, ltb-true, ltb-false}
@@ -14,8 +14,9 @@ use lib.Dec.{eqb, ltb}
 use Rattle.xml.specs.Productions.{same}
 use Rattle.compiled.specs.Names.{Named, placeOf, hashOf, Chains, linked, linkedAll, chainsOf}
 use Rattle.compiled.specs.Index.{Once, first, another}
-use Rattle.compiled.proofs.Same.{same-equal, same-refl, same-other}
-use Rattle.compiled.proofs.Places.{nameOf, nameAt, name-left, name-right, place-old, place-new}
+use Rattle.compiled.proofs.Same.{same-equal, same-other}
+use Rattle.compiled.proofs.Places.{nameAt, name-left, name-right, place-old, place-new}
+use Rattle.compiled.proofs.Bits.{zeros}
 
 -- the place k, or what comes later
 abbrev pub stops : Bool → ℕ → ℕ → ℕ
@@ -39,11 +40,6 @@ pub record Linked (ns : List Named) (head next : List ℕ) : Type 0 where
   pub down : (k : ℕ) → k < length ns → getD next k 0 ≤ k
   pub most : (k : ℕ) → getD next k 0 ≤ length ns
   pub finds : (n : List ℕ) (f : ℕ) → getD head (hashOf n) 0 ≤ f → chain ns next n f (getD head (hashOf n) 0) ≡ placeOf ns n
-
-zeros : (n i : ℕ) → _≡_ {A = ℕ} (getD (replicate n 0) i 0) 0
-zeros zero i = refl
-zeros (suc n) zero = refl
-zeros (suc n) (suc i) = zeros n i
 
 linked-none : Linked [] (replicate 256 0) (replicate 512 0)
 linked-none =

@@ -7,12 +7,11 @@ use native.Mathlib.Numerals.{add-one}
 use native.Mathlib.Omega.{arith}
 use lib.ListN.{length, take, drop, getD, set, length-append, length-map, length-drop}
 use lib.Seq.{length-take-le}
-use Rattle.paths.specs.Path.{Test, any, named, All, none, more}
+use Rattle.paths.specs.Path.{named, none, more}
 use Rattle.compiled.specs.Bits.{padded}
-use Rattle.compiled.specs.Names.{Named, placeOf, hashOf, unless, firsts, testNames, chainsOf}
-use Rattle.compiled.specs.Index.{Stands, Once, another, Indexed, Found}
-use Rattle.compiled.specs.Built.{numberOf, testOf, testIn, Numbers, Entered}
-use Rattle.compiled.specs.declared.build.Numbered.{Numbered}
+use Rattle.compiled.specs.Names.{Named, placeOf, hashOf, unless}
+use Rattle.compiled.specs.Index.{Stands, another, Indexed, Found}
+use Rattle.compiled.specs.Built.{testOf, testIn, Numbers, Entered}
 use Rattle.compiled.proofs.Same.{all-append}
 use Rattle.compiled.proofs.Places.{place-new}
 use Rattle.compiled.proofs.Bits.{map-snoc, padded-snoc}

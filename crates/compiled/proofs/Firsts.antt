@@ -1,13 +1,13 @@
 -- The names of a list each once: every name of every step is one of them, and one more step adds its name where it is not there.
-use mathlib.Core.Path.{_≡_, refl, sym, ap, _∙_}
-use mathlib.Core.List.{List, [], _∷_, _++_, append-assoc, append-nil}
+use mathlib.Core.Path.{_≡_, refl, _∙_}
+use mathlib.Core.List.{List, [], _∷_, _++_}
 use Prim.Native.Nat.{ℕ, zero, suc, _+_, _*_, _≤_}
 use native.Mathlib.Omega.{arith}
 use lib.ListN.{length, length-append}
 use Rattle.paths.specs.Path.{Test, any, named, Step, Path, All, none, more, printKind, printStep, printLine}
 use Rattle.compiled.specs.Names.{Named, placeOf, unless, firsts, testNames, stepNames, listNames, namesOf}
 use Rattle.compiled.specs.Index.{Once, first, another}
-use Rattle.compiled.proofs.Same.{all-left, all-right, all-map}
+use Rattle.compiled.proofs.Same.{all-left, all-right}
 use Rattle.compiled.proofs.Places.{Has, has-left, has-right, place-kept}
 
 -- ---- names met

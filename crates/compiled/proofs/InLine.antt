@@ -1,11 +1,11 @@
 -- The laws of reading a line of a sound list. What stands at a place of its path: the steps left, and then the line's end. A path of no
 -- step changes no table. The step that is read is the next one of the path, and where none is read none is left.
 use mathlib.Core.Path.{_≡_, refl, sym, ap, _∙_}
-use mathlib.Core.Bool.{Bool, true, false, cond}
+use mathlib.Core.Bool.{Bool, cond}
 use mathlib.Core.List.{List, [], _∷_, _++_, append-assoc, append-nil, map}
-use mathlib.Core.Option.{Option, none, some}
+use mathlib.Core.Option.{none, some}
 use Prim.Native.Nat.{ℕ, zero, suc, _+_, _-_, _*_, _/_, _^_, _≤_, _<_}
-use native.Mathlib.Nat.{pow-zero, two-pow-succ, zero-add, add-zero}
+use native.Mathlib.Nat.{pow-zero, two-pow-succ, add-zero}
 use native.Mathlib.Numerals.{add-one}
 use native.Mathlib.Omega.{arith}
 use borrow.Author.Needs.{needs}
@@ -16,13 +16,12 @@ use Rattle.xml.specs.Language.{Language}
 use Rattle.xml.specs.Productions.{Name, isNameStart}
 use Rattle.xml.proofs.Bools.{true-false}
 use Rattle.xml.proofs.Character.{begins-append}
-use Rattle.paths.specs.Path.{Test, any, named, Step, Path, testSize, All, more, ProperTest, Proper, IsPath, Within, Good}
-use Rattle.paths.specs.Path.{none as nil}
+use Rattle.paths.specs.Path.{Test, any, named, Step, Path, testSize, All, more, ProperTest, Proper, Good}
 use Rattle.paths.specs.Path.{printKind, printTest, printStep, printAll, printLine, printList}
 use Rattle.paths.specs.Reader.{stepAt, printEnd}
 use Rattle.paths.specs.Place.{stepPlaced, stepEndAt}
 use Rattle.paths.specs.Answer.{Says, sound}
-use Rattle.paths.specs.Judge.{listAnswer, listPaths}
+use Rattle.paths.specs.Judge.{listAnswer}
 use Rattle.paths.specs.declared.Kind.{Kind}
 use Rattle.paths.specs.declared.ListAnswer.the-variants.{Sound}
 use Rattle.paths.specs.declared.StepEnd.{StepEnd}
@@ -32,11 +31,10 @@ use Rattle.paths.proofs.Steps.{step-undoes, step-long}
 use Rattle.paths.proofs.Lines.{line-print, end-no-step, after-step}
 use Rattle.paths.proofs.Meaning.{says, paths-print}
 use Rattle.compiled.specs.Bits.{bit, bitsOf, stepBits, column, descends, lastBit}
-use Rattle.compiled.specs.Names.{Named, namesOf, listNames, stepNames, firsts}
+use Rattle.compiled.specs.Names.{namesOf, listNames, firsts}
 use Rattle.compiled.specs.Compiled.{joined}
-use Rattle.compiled.specs.Built.{numberOf, listed, numberRow, numberRows, testOf, testIn, Built, longer, AtStep, StepDone}
+use Rattle.compiled.specs.Built.{numberOf, numberRow, numberRows, testOf, testIn, Built, AtStep, StepDone}
 use Rattle.compiled.specs.Line.{AtPath, AtLine, LineDone}
-use Rattle.compiled.specs.declared.build.Line.{Line}
 use Rattle.compiled.proofs.Same.{all-left, all-right, all-map}
 use Rattle.compiled.proofs.Bits.{bits-below, bits-snoc, power-16, map-snoc, column-get, column-snoc}
 use Rattle.compiled.proofs.Listed.{listed-same}

@@ -1,3 +1,5 @@
+-- Laws by part: names and their places, chains, bits and rows; the ways through the code; a list read and compiled; what a caller uses,
+-- worked examples, one answer.
 pub mod Same
 pub mod Places
 pub mod Firsts
@@ -16,5 +18,6 @@ pub mod Stepped
 pub mod InLine
 pub mod OverLines
 pub mod Reading
-pub mod OneAnswer
+pub mod Lookup
 pub mod Examples
+pub mod OneAnswer

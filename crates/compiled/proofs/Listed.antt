@@ -6,10 +6,10 @@ use Prim.Native.Nat.{ℕ, zero, suc, _+_, _-_, _*_, _≤_, _<_}
 use native.Mathlib.Nat.{add-zero, zero-add, add-suc, suc-add}
 use native.Mathlib.Omega.{arith}
 use borrow.Author.Tests.{eqb-true, eqb-false}
-use lib.ListN.{length, getD, take, drop, set}
+use lib.ListN.{length, getD, drop, set, replicate}
 use lib.Seq.{getD-take, getD-drop, set-append-left}
 use lib.Dec.{eqb}
-use Rattle.paths.specs.Path.{All, none, more}
+use Rattle.paths.specs.Path.{none, more}
 use Rattle.compiled.specs.Compiled.{joined}
 use Rattle.compiled.specs.Built.{listed}
 use Rattle.compiled.proofs.NameRows.{Rows, joined-long, joined-row}
@@ -38,6 +38,10 @@ module _ (f : ℕ → List ℕ) where
         ∙ sym (getD-take 32 (drop (32 * k) (joined (listed f 0 n))) p 0 h)
         ∙ ap (λ (r : List ℕ). getD r p 0)
         (joined-row (listed f 0 n) (listed-rows 0 n) k (rw (listed-many 0 n) l) ∙ listed-get 0 n k l ∙ ap f (zero-add k))
+
+pub listed-constant : (f : ℕ → List ℕ) (r : List ℕ) → ((k : ℕ) → f k ≡ r) → (i n : ℕ) → listed f i n ≡ replicate n r
+listed-constant f r h i zero = refl
+listed-constant f r h i (suc n) = cc (h i, listed-constant f r h (suc i) n)
 
 -- ---- a store
 

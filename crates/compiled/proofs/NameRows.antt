@@ -1,21 +1,20 @@
 -- The row of a name: the row at its place is its fit, and for a name that no step has the place is 0. First lists of rows of 32 joined to
 -- one list, and the rows taken out again.
 use mathlib.Core.Path.{_≡_, refl, sym, ap, _∙_}
-use mathlib.Core.Bool.{Bool, true, false}
 use mathlib.Core.List.{List, [], _∷_, _++_, map}
 use Prim.Native.Nat.{ℕ, zero, suc, _+_, _-_, _*_, _≤_, _<_}
 use native.Mathlib.Omega.{arith}
-use lib.ListN.{length, getD, take, drop, replicate, length-append, length-map, length-replicate, getD-replicate, List·getD-append}
+use lib.ListN.{length, getD, take, drop, replicate, length-append}
+use lib.ListN.{length-map, length-replicate, getD-replicate, replicate-append-replicate, List·getD-append}
 use lib.Seq.{take-at, drop-append-add, getD-append-add}
-use Rattle.xml.specs.Productions.{same}
-use Rattle.paths.specs.Path.{Test, any, named, Step, Path, All, none, more}
-use Rattle.compiled.specs.Bits.{stepBits, passes, passesAny, fitOf, otherFit, column}
+use Rattle.paths.specs.Path.{Test, any, named, Path, All, none, more}
+use Rattle.compiled.specs.Bits.{passes, passesAny, fitOf, otherFit}
 use Rattle.compiled.specs.Names.{Named, placeOf, namesOf}
 use Rattle.compiled.specs.Compiled.{joined, rowsOf}
 use Rattle.compiled.specs.Sizes.{Sized}
-use Rattle.compiled.proofs.Same.{same-equal, same-other, all-map, all-append}
-use Rattle.compiled.proofs.Places.{nameOf, nameAt, Has, place-least, place-says}
-use Rattle.compiled.proofs.Firsts.{HasTest, Steps, names-have, names-few}
+use Rattle.compiled.proofs.Same.{same-other, all-map, all-append}
+use Rattle.compiled.proofs.Places.{nameAt, place-says}
+use Rattle.compiled.proofs.Firsts.{HasTest, names-have, names-few}
 use Rattle.compiled.proofs.Bits.{column-long, column-alike}
 
 -- ---- rows joined
@@ -33,6 +32,12 @@ joined-row (r ∷ rs) (more e a) zero l = take-at r (joined rs) 32 e
 joined-row (r ∷ rs) (more e a) (suc k) l =
     let z : 32 * suc k ≡ length r + 32 * k = omega arith in
     rw (z, drop-append-add r (joined rs) (32 * k)) (joined-row rs a k (omega arith))
+
+pub joined-zeros : (n : ℕ) → joined (replicate n (replicate 32 0)) ≡ replicate (32 * n) 0
+joined-zeros zero = refl
+joined-zeros (suc n) =
+    let z : 32 + 32 * n ≡ 32 * suc n = omega arith in
+    rw (joined-zeros n) (replicate-append-replicate 32 (32 * n) 0 ∙ ap (λ (m : ℕ). replicate m 0) z)
 
 -- ---- the rows of a list
 

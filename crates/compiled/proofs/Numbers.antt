@@ -1,22 +1,22 @@
 -- The tables of the paths read so far, with one more step: its name is entered, and its bit is added to the row of its number.
 use mathlib.Core.Path.{_≡_, refl, sym, ap, _∙_}
-use mathlib.Core.Bool.{Bool, true, false, cond}
+use mathlib.Core.Bool.{Bool, cond}
 use mathlib.Core.List.{List, [], _∷_, _++_, append-assoc, append-nil, map}
-use Prim.Native.Nat.{ℕ, zero, suc, _+_, _*_, _^_, _≤_, _<_}
+use Prim.Native.Nat.{ℕ, _+_, _*_, _^_, _≤_, _<_}
 use native.Mathlib.Nat.{add-zero, zero-add}
 use native.Mathlib.Omega.{arith}
 use borrow.Author.Tests.{eq-eqb, ne-eqb}
 use lib.ListN.{length, getD, set, length-append, length-map}
 use lib.Seq.{set-set, set-getD, getD-append-seam}
 use lib.Dec.{eqb}
-use Rattle.paths.specs.Path.{Test, any, named, Step, Path, All, none, more}
+use Rattle.paths.specs.Path.{Test, any, named, Step, Path, All}
 use Rattle.paths.specs.Path.{printKind, printStep, printAll, printLine, printList}
 use Rattle.compiled.specs.Bits.{bitsOf, stepBits, column}
-use Rattle.compiled.specs.Names.{Named, placeOf, testNames, stepNames, listNames, firsts, namesOf}
-use Rattle.compiled.specs.Built.{numberOf, listed, numberRow, numberRows, longer}
+use Rattle.compiled.specs.Names.{Named, testNames, stepNames, listNames, firsts, namesOf}
+use Rattle.compiled.specs.Built.{numberOf, numberRow, numberRows, longer}
 use Rattle.compiled.proofs.Same.{all-map}
-use Rattle.compiled.proofs.Places.{Has, place-least}
-use Rattle.compiled.proofs.Firsts.{HasTest, Steps, firsts-append, firsts-kept, names-have, firsts-few, lists-few, steps-few}
+use Rattle.compiled.proofs.Places.{place-least}
+use Rattle.compiled.proofs.Firsts.{HasTest, firsts-append, firsts-kept, names-have, firsts-few, lists-few, steps-few}
 use Rattle.compiled.proofs.Bits.{bits-below, bits-snoc, map-snoc, column-long, column-get, column-snoc, column-alike}
 use Rattle.compiled.proofs.Listed.{listed-entry, listed-set}
 

@@ -1,17 +1,14 @@
 -- The laws of reading a sound list line by line. A line's end; the tables of no path; a line's entries; the end, where all paths are read.
 use mathlib.Core.Path.{_≡_, refl, sym, ap, _∙_}
-use mathlib.Core.Bool.{Bool, true, false, cond}
-use mathlib.Core.List.{List, [], _∷_, _++_, append-assoc, append-nil, append-cancel-left, map}
-use mathlib.Core.Option.{Option, none, some}
-use Prim.Native.Nat.{ℕ, zero, suc, _+_, _-_, _*_, _≤_, _<_}
-use native.Mathlib.Nat.{zero-add, add-zero}
-use native.Mathlib.Numerals.{add-one}
+use mathlib.Core.Bool.{Bool, false, cond}
+use mathlib.Core.List.{List, [], _∷_, _++_, append-assoc, append-nil, append-cancel-left}
+use mathlib.Core.Option.{some}
+use Prim.Native.Nat.{ℕ, _+_, _-_, _≤_, _<_}
 use native.Mathlib.Omega.{arith}
 use borrow.Author.Needs.{needs}
-use lib.ListN.{length, drop, getD, set, replicate, length-append, replicate-append-replicate}
+use lib.ListN.{length, drop, set, replicate, length-append}
 use lib.Seq.{drop-at}
-use lib.Dec.{eqb}
-use Rattle.paths.specs.Path.{Step, Path, All, more, Good, printStep, printAll, printLine, printList}
+use Rattle.paths.specs.Path.{Path, printStep, printAll, printLine, printList}
 use Rattle.paths.specs.Path.{none as nil}
 use Rattle.paths.specs.Reader.{endAt, printEnd}
 use Rattle.paths.specs.Place.{endPlaced, lineEndAt}
@@ -19,21 +16,22 @@ use Rattle.paths.specs.Judge.{listAnswer, listPaths}
 use Rattle.paths.specs.declared.ListAnswer.the-variants.{Sound}
 use Rattle.paths.specs.declared.LineEnd.{LineEnd}
 use Rattle.paths.specs.declared.LineEnd.the-variants.{Ends, Fault}
-use Rattle.paths.proofs.Lines.{end-undoes, end-long, line-print, line-long}
+use Rattle.paths.proofs.Lines.{end-undoes, line-print, line-long}
 use Rattle.paths.proofs.Meaning.{paths-print}
-use Rattle.compiled.specs.Bits.{padded, column, stepBits, descends, lastBit, descendsOf, lastsOf, marksOf}
-use Rattle.compiled.specs.Names.{Named, namesOf, chainsOf}
-use Rattle.compiled.specs.Index.{Indexed, Once, first}
+use Rattle.compiled.specs.Bits.{padded, column, descends, lastBit, descendsOf, lastsOf, marksOf}
+use Rattle.compiled.specs.Names.{namesOf, chainsOf}
+use Rattle.compiled.specs.Index.{Indexed, first}
 use Rattle.compiled.specs.Sizes.{Sized}
-use Rattle.compiled.specs.Compiled.{joined, rowsOf, compiledOf}
+use Rattle.compiled.specs.Compiled.{joined, compiledOf}
 use Rattle.compiled.specs.Spread.{Spreadable, Spread}
-use Rattle.compiled.specs.Built.{listed, numberRow, numberRows, Built}
-use Rattle.compiled.specs.Line.{AtPath, AtLine, LineDone, tailOf}
-use Rattle.compiled.specs.declared.Compiled.{Compiled}
+use Rattle.compiled.specs.Built.{numberRow, numberRows, Built}
+use Rattle.compiled.specs.Line.{AtLine, LineDone, tailOf}
 use Rattle.compiled.specs.declared.build.Line.{Line}
 use Rattle.compiled.specs.declared.build.Tail.{Tail}
 use Rattle.compiled.proofs.Same.{all-map}
 use Rattle.compiled.proofs.Bits.{column-snoc}
+use Rattle.compiled.proofs.NameRows.{joined-zeros}
+use Rattle.compiled.proofs.Listed.{listed-constant}
 use Rattle.compiled.proofs.Spreading.{numbers-spreadable, numbers-spread}
 use Rattle.compiled.proofs.InLine.{print-append, print-parts, whole, path-few, sound-bytes}
 
@@ -50,15 +48,10 @@ pub ruleset tails = (tail-ends, tail-fault, needs)
 
 -- ---- the tables of no path
 
-zero-rows : (f : ℕ → List ℕ) → ((k : ℕ) → f k ≡ replicate 32 0) → (i n : ℕ) → joined (listed f i n) ≡ replicate (32 * n) 0
-zero-rows f h i zero = refl
-zero-rows f h i (suc n) =
-    let z : 32 + 32 * n ≡ 32 * suc n = omega arith in
-    rw (h i, zero-rows f h (suc i) n) (replicate-append-replicate 32 (32 * n) 0 ∙ ap (λ (m : ℕ). replicate m 0) z)
-
 numbers-none : replicate 16416 0 ≡ numberRows []
 unfolding numberRows numberRow column padded
-numbers-none = sym (zero-rows (numberRow (namesOf []) []) (λ k. refl) 0 513)
+numbers-none =
+    sym (ap joined (listed-constant (numberRow (namesOf []) []) (replicate 32 0) (λ k. refl) 0 513) ∙ joined-zeros 513)
 
 built-none : (d : List ℕ) → Built d (replicate 512 0) (replicate 512 0) (replicate 256 0) (replicate 512 0) (replicate 16416 0) 0 []
 unfolding namesOf chainsOf padded

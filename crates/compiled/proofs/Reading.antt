@@ -1,28 +1,22 @@
 -- The laws of `read`: the tables of no path are zeros, a refused list has no path, and a sound list is compiled.
-use mathlib.Core.Path.{_≡_, refl, sym, ap, _∙_}
-use mathlib.Core.List.{List, [], _∷_, _++_}
-use Prim.Native.Nat.{ℕ, zero, suc, _+_, _*_}
-use native.Mathlib.Omega.{arith}
+use mathlib.Core.Path.{_≡_, refl, sym, _∙_}
+use mathlib.Core.List.{List, []}
+use Prim.Native.Nat.{ℕ}
 use borrow.Author.Needs.{needs}
-use lib.ListN.{replicate, replicate-append-replicate}
+use lib.ListN.{replicate}
 use Rattle.paths.specs.Judge.{listAnswer, listPaths}
 use Rattle.paths.specs.declared.ListAnswer.{ListAnswer}
 use Rattle.paths.specs.declared.ListAnswer.the-variants.{Sound, TooLong, Malformed, TooLarge}
 use Rattle.compiled.specs.Bits.{padded, column, descendsOf, lastsOf, marksOf, otherFit}
 use Rattle.compiled.specs.Names.{namesOf, chainsOf}
-use Rattle.compiled.specs.Compiled.{joined, rowsOf, compiledOf}
+use Rattle.compiled.specs.Compiled.{rowsOf, compiledOf}
 use Rattle.compiled.specs.declared.Compiled.{Compiled}
 use Rattle.compiled.specs.declared.compile.ListRead.{ListRead}
-
-zero-rows : (n : ℕ) → joined (replicate n (replicate 32 0)) ≡ replicate (32 * n) 0
-zero-rows zero = refl
-zero-rows (suc n) =
-    let z : 32 + 32 * n ≡ 32 * suc n = omega arith in
-    rw (zero-rows n) (replicate-append-replicate 32 (32 * n) 0 ∙ ap (λ (m : ℕ). replicate m 0) z)
+use Rattle.compiled.proofs.NameRows.{joined-zeros}
 
 rows-none : replicate 16416 0 ≡ rowsOf []
 unfolding rowsOf otherFit column padded namesOf
-rows-none = sym (zero-rows 513)
+rows-none = sym (joined-zeros 513)
 
 pub compiled-none : record {
   descends = replicate 32 0;

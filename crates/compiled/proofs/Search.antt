@@ -2,7 +2,7 @@
 -- `find`: what is left of the chain is searched.
 use mathlib.Core.Path.{_≡_, refl, sym, ap, _∙_}
 use mathlib.Core.Bool.{Bool, true, false}
-use mathlib.Core.List.{List, [], _∷_, _++_, map}
+use mathlib.Core.List.{List, [], _∷_, map}
 use Prim.Native.Nat.{ℕ, zero, suc, _+_, _-_, _*_, _%_, _≤_, _<_}
 use native.Mathlib.Numerals.{add-one}
 use native.Mathlib.Omega.{arith}
@@ -12,13 +12,13 @@ use lib.ListN.{length, take, drop, getD, length-drop, drop-of-length-le}
 use lib.Seq.{length-take-le, getD-take, getD-drop, drop-cons}
 use Rattle.xml.specs.Productions.{same}
 use Rattle.paths.specs.Path.{All, none, more}
-use Rattle.compiled.specs.Names.{Named, placeOf, hashOf, chainsOf}
+use Rattle.compiled.specs.Names.{Named, placeOf, hashOf}
 use Rattle.compiled.specs.Bits.{padded}
 use Rattle.compiled.specs.Index.{Stands, Indexed, Tables, Found}
-use Rattle.compiled.proofs.Same.{same-equal, same-other}
+use Rattle.compiled.proofs.Same.{same-other}
 use Rattle.compiled.proofs.Places.{nameAt}
 use Rattle.compiled.proofs.Bits.{padded-get}
-use Rattle.compiled.proofs.Chains.{stops, chain, Linked, chains-linked, hash-below}
+use Rattle.compiled.proofs.Chains.{stops, chain, Linked, chains-linked}
 
 -- ---- `same`
 

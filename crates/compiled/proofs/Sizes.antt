@@ -1,17 +1,16 @@
 -- The tables of a compiled list fit their arrays: each has its array's length, and each number fits 16 bits. In order: lengths; bits below
 -- 65,536; places below 8,192 and lengths at most 8,192; chains through at most 512 names.
-use mathlib.Core.Path.{_≡_, refl, sym, ap, _∙_}
+use mathlib.Core.Path.{_≡_, refl}
 use mathlib.Core.Bool.{Bool, true, false, cond}
-use mathlib.Core.List.{List, [], _∷_, _++_, map}
-use Prim.Native.Nat.{ℕ, zero, suc, _+_, _-_, _*_, _^_, _≤_, _<_}
+use mathlib.Core.List.{List, [], _∷_, map}
+use Prim.Native.Nat.{ℕ, zero, suc, _-_, _^_, _≤_, _<_}
 use native.Mathlib.Omega.{arith}
 use native.Mathlib.Nat.{pow-le-pow-right}
-use lib.ListN.{length, getD, replicate, length-map}
-use Rattle.paths.specs.Path.{Path, All, none, more, printList}
+use lib.ListN.{length, replicate, length-map}
+use Rattle.paths.specs.Path.{Path, All, none, more}
 use Rattle.compiled.specs.Bits.{column, padded, lastBit, descendsOf, lastsOf, marksOf, fitOf, otherFit}
-use Rattle.compiled.specs.Names.{Named, namesOf, chainsOf}
+use Rattle.compiled.specs.Names.{Named, namesOf}
 use Rattle.compiled.specs.Sizes.{Sized}
-use Rattle.compiled.specs.Index.{Stands}
 use Rattle.compiled.specs.Compiled.{joined, rowsOf, compiledOf}
 use Rattle.compiled.specs.declared.Compiled.{Compiled}
 use Rattle.compiled.proofs.Same.{all-map, all-append}

@@ -1,26 +1,25 @@
 -- The last pass over the rows: those before i are done. And rows by number become the rows of the compiled list.
 use mathlib.Core.Path.{_≡_, refl, sym, ap, _∙_}
 use mathlib.Core.Bool.{Bool, true, false, _&&_, _||_, true≢false}
-use mathlib.Core.List.{List, [], _∷_, _++_, map}
+use mathlib.Core.List.{List, [], _∷_, map}
 use Prim.Native.Nat.{ℕ, zero, suc, _+_, _-_, _*_, _/_, _%_, _≤_, _<_}
-use native.Mathlib.Nat.{div-lt-iff-lt-mul}
 use native.Mathlib.Omega.{arith}
 use borrow.Author.Needs.{needs}
 use borrow.Author.Tests.{eqb-true, eqb-false, eq-eqb, ne-eqb, ltb-true, ltb-false}
-use lib.ListN.{length, getD, take, drop, set, replicate, length-set, length-map, length-append, List·getD-eq-default, getD-replicate}
-use lib.Seq.{getD-set-same, getD-set-other, getD-take, getD-drop, ext-getD, getD-append-add}
+use lib.ListN.{length, getD, drop, set, length-set}
+use lib.Seq.{getD-set-same, getD-set-other, getD-take, getD-drop, ext-getD}
 use lib.Dec.{eqb, ltb}
 use Rattle.xml.specs.Productions.{same}
 use Rattle.paths.specs.Path.{Test, any, named, Step, Path, All, none, more}
-use Rattle.compiled.specs.Bits.{bitsOf, stepBits, column, passes, passesAny, fitOf, otherFit}
+use Rattle.compiled.specs.Bits.{stepBits, column, passes, passesAny, fitOf, otherFit}
 use Rattle.compiled.specs.Names.{Named, placeOf, namesOf}
 use Rattle.compiled.specs.Compiled.{rowsOf}
 use Rattle.compiled.specs.Sizes.{Sized}
 use Rattle.compiled.specs.Built.{numberOf, numberRow, numberRows}
 use Rattle.compiled.specs.Spread.{Spreadable, Spread}
-use Rattle.compiled.proofs.Same.{same-equal, same-refl, same-other, all-map}
-use Rattle.compiled.proofs.Places.{nameAt, Has, place-least, place-says, place-once}
-use Rattle.compiled.proofs.Firsts.{HasTest, Steps, names-have, names-once, names-few}
+use Rattle.compiled.proofs.Same.{same-equal, same-refl, all-map}
+use Rattle.compiled.proofs.Places.{nameAt, place-least, place-says, place-once}
+use Rattle.compiled.proofs.Firsts.{HasTest, names-have, names-once, names-few}
 use Rattle.compiled.proofs.Bits.{bits-both, column-long, column-get, column-alike}
 use Rattle.compiled.proofs.NameRows.{rowList, rows-long, rows-get, name-row, past-row}
 use Rattle.compiled.proofs.Sizes.{rows-below}

@@ -1,14 +1,14 @@
 -- Each name of a list stands in its bytes at its place. So the tables of a compiled list are those of its names.
-use mathlib.Core.Path.{_≡_, refl, sym, ap, _∙_}
+use mathlib.Core.Path.{_≡_, refl}
 use mathlib.Core.List.{List, [], _∷_, _++_, append-assoc}
-use Prim.Native.Nat.{ℕ, _+_, _≤_}
+use Prim.Native.Nat.{ℕ, _+_}
 use native.Mathlib.Omega.{arith}
-use lib.ListN.{length, take, drop, length-append}
+use lib.ListN.{length, length-append}
 use lib.Seq.{take-at, drop-at}
 use Rattle.paths.specs.Path.{Test, any, named, Step, Path, All, none, more}
 use Rattle.paths.specs.Path.{printKind, printTest, printStep, printAll, printMark, printLine, printList}
 use Rattle.xml.specs.Notation.{bytes}
-use Rattle.compiled.specs.Names.{Named, testNames, stepNames, listNames, namesOf, chainsOf}
+use Rattle.compiled.specs.Names.{testNames, stepNames, listNames, namesOf}
 use Rattle.compiled.specs.Sizes.{Sized}
 use Rattle.compiled.specs.Index.{Stands, Indexed}
 use Rattle.compiled.specs.Compiled.{compiledOf}

@@ -1,20 +1,17 @@
 -- The laws of `add_step`: there is room for one more name, its bit fits, and the tables are those with the step.
-use mathlib.Core.Path.{_≡_, refl, sym, ap, _∙_}
-use mathlib.Core.List.{List, [], _∷_, _++_, map}
-use Prim.Native.Nat.{ℕ, zero, suc, _+_, _*_, _^_, _≤_, _<_}
+use mathlib.Core.Path.{_≡_, refl, sym, _∙_}
+use mathlib.Core.List.{List, [], _∷_, _++_}
+use Prim.Native.Nat.{ℕ, _+_, _*_, _^_, _≤_, _<_}
 use native.Mathlib.Nat.{pow-le-pow-right}
 use native.Mathlib.Omega.{arith}
-use lib.ListN.{length, getD, set, length-append, length-map}
-use lib.Dec.{eqb}
-use Rattle.paths.specs.Path.{Step, Path, All, none, more}
-use Rattle.compiled.specs.Bits.{stepBits}
-use Rattle.compiled.specs.Names.{Named, testNames, listNames, stepNames, firsts, namesOf}
-use Rattle.compiled.specs.Built.{numberOf, numberRow, numberRows, testIn, Held, Numbers, Entered, Built, longer, AtStep, StepDone}
+use lib.ListN.{length, getD, set, length-append}
+use Rattle.paths.specs.Path.{none, more}
+use Rattle.compiled.specs.Names.{namesOf}
+use Rattle.compiled.specs.Built.{Held, Numbers, Entered, longer, AtStep, StepDone}
 use Rattle.compiled.specs.declared.build.Numbered.{Numbered}
 use Rattle.compiled.proofs.Same.{all-append}
 use Rattle.compiled.proofs.Firsts.{names-few}
-use Rattle.compiled.proofs.Bits.{bits-below}
-use Rattle.compiled.proofs.Numbers.{names-longer, names-room, number-in, cell-is, last-cell, rows-longer}
+use Rattle.compiled.proofs.Numbers.{names-longer, names-room, number-in, last-cell, rows-longer}
 
 module _ {d at len head next rows : List ℕ} {names p bit a n : ℕ} (v : AtStep d at len head next rows names p bit a n) where
   pub step-held : Held d at len head next names

@@ -3,7 +3,7 @@
 use mathlib.Core.Path.{_≡_}
 use mathlib.Core.List.{List, [], _∷_, _++_}
 use Prim.Native.Nat.{ℕ, zero, suc, _+_, _^_, _≤_, _<_}
-use lib.ListN.{length, take, drop, getD}
+use lib.ListN.{length, take, drop}
 use lib.Dec.{eqb}
 use Rattle.paths.specs.Path.{Test, any, named, Step, Path, All, printKind, printStep, printAll, printList}
 use Rattle.compiled.specs.Bits.{stepBits, column}

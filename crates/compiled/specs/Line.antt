@@ -1,6 +1,6 @@
 -- Where the reading of a sound list is: at a path; at a path's line, with the tables of the paths before; and after the line's steps.
 use mathlib.Core.Path.{_≡_}
-use mathlib.Core.Bool.{Bool, true, false, cond}
+use mathlib.Core.Bool.{false}
 use mathlib.Core.List.{List, [], _∷_, _++_}
 use Prim.Native.Nat.{ℕ, _+_}
 use lib.ListN.{length}

@@ -1,7 +1,7 @@
 -- The distinct names of a list with their places in its bytes, in the order of their first place; where a name stands among them; and
 -- chains through them by a number of the name, so that a name is found without going through all.
-use mathlib.Core.Bool.{Bool, true, false, cond}
-use mathlib.Core.List.{List, [], _∷_, _++_, map}
+use mathlib.Core.Bool.{Bool, true, false}
+use mathlib.Core.List.{List, [], _∷_, _++_}
 use Prim.Native.Nat.{ℕ, zero, suc, _+_, _-_, _*_, _%_}
 use lib.ListN.{length, getD, set, replicate}
 use Rattle.xml.specs.Productions.{same}

@@ -1,5 +1,5 @@
 -- The sizes of document 01 that the tables stand on: 32 lines, 16 steps a line, 8,192 bytes.
-use Prim.Native.Nat.{ℕ, _≤_}
+use Prim.Native.Nat.{_≤_}
 use mathlib.Core.List.{List}
 use lib.ListN.{length}
 use Rattle.paths.specs.Path.{Path, All, printList}

@@ -151,6 +151,7 @@ pub struct Tail {
     pub next: usize,
 }
 
+// The end of a line that is read to a place; no mark and the place itself where no line ends.
 pub fn tail_at(list: &[u8], at: usize) -> Tail
     ensures { λ r. ⌜ r ≡ tailOf (lineEndAt (now (list .entry)) at) at ⌝ }
 {
@@ -163,6 +164,7 @@ pub fn tail_at(list: &[u8], at: usize) -> Tail
     }
 }
 
+// The bit of a last step, if its path is marked.
 pub fn if_marked(marked: bool, last: u16) -> u16
     ensures { λ r. ⌜ r ≡ cond marked last 0 ⌝ }
 {

@@ -86,6 +86,7 @@ pub struct ListRead {
     pub compiled: Compiled,
 }
 
+// Any list.
 pub fn read(list: &[u8]) -> ListRead
     ensures { λ r. ⌜ r ≡ record { answer = listAnswer (now (list .entry)); compiled = compiledOf (listPaths (now (list .entry))) } ⌝ }
 {
