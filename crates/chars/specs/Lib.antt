@@ -1,4 +1,5 @@
--- Definitions by part of the crate: classes, blocks, the check, white space, names; and what their answers say.
+-- Definitions by part of the crate: classes, blocks, the check, white space, names;
+-- and what their answers say.
 pub mod Class
 pub mod Block
 pub mod Check

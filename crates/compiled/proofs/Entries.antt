@@ -1,4 +1,5 @@
--- Entries of a list are a part of it. `fit_at`: the first p numbers are copied. And the row found for a name is the name's fit.
+-- Entries of a list are a part of it. `fit_at`: the first p numbers are copied.
+-- And the row found for a name is the name's fit.
 use mathlib.Core.Path.{_≡_, refl, sym, ap, _∙_}
 use mathlib.Core.List.{List, [], _∷_, _++_}
 use Prim.Native.Nat.{ℕ, zero, suc, _+_, _*_, _≤_, _<_}

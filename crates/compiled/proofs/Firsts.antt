@@ -1,4 +1,5 @@
--- The names of a list each once: every name of every step is one of them, and one more step adds its name where it is not there.
+-- The names of a list each once:
+-- every name of every step is one of them, and one more step adds its name where it is not there.
 use mathlib.Core.Path.{_≡_, refl, _∙_}
 use mathlib.Core.List.{List, [], _∷_, _++_}
 use Prim.Native.Nat.{ℕ, zero, suc, _+_, _*_, _≤_}

@@ -1,4 +1,5 @@
--- Rows listed by a function and joined to one list: an entry, and what a store at an entry makes of the function.
+-- Rows listed by a function and joined to one list:
+-- an entry, and what a store at an entry makes of the function.
 use mathlib.Core.Path.{_≡_, refl, sym, ap, _∙_}
 use mathlib.Core.Bool.{Bool, true, false}
 use mathlib.Core.List.{List, [], _∷_, _++_}

@@ -1,4 +1,5 @@
--- What a caller uses: the tables of a sound list are those that `find` asks for, and the row of the place found is the name's fit.
+-- What a caller uses:
+-- the tables of a sound list are those that `find` asks for, and the row of the place found is the name's fit.
 use mathlib.Core.Path.{_≡_}
 use mathlib.Core.List.{List}
 use Prim.Native.Nat.{ℕ}

@@ -1,4 +1,5 @@
--- The laws of reading a sound list line by line. A line's end; the tables of no path; a line's entries; the end, where all paths are read.
+-- The laws of reading a sound list line by line. A line's end; the tables of no path;
+-- a line's entries; the end, where all paths are read.
 use mathlib.Core.Path.{_≡_, refl, sym, ap, _∙_}
 use mathlib.Core.Bool.{Bool, false, cond}
 use mathlib.Core.List.{List, [], _∷_, _++_, append-assoc, append-nil, append-cancel-left}

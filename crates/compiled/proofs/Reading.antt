@@ -1,4 +1,5 @@
--- The laws of `read`: the tables of no path are zeros, a refused list has no path, and a sound list is compiled.
+-- The laws of `read`:
+-- the tables of no path are zeros, a refused list has no path, and a sound list is compiled.
 use mathlib.Core.Path.{_≡_, refl, sym, _∙_}
 use mathlib.Core.List.{List, []}
 use Prim.Native.Nat.{ℕ}

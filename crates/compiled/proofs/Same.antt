@@ -1,4 +1,5 @@
--- Equal names: `same` is equality. Then laws of All over two lists joined.
+-- Equal names: `same` is equality.
+-- Then laws of All over two lists joined.
 use mathlib.Core.Path.{_≡_, refl}
 use mathlib.Core.Bool.{Bool, true, false, false≢true}
 use mathlib.Core.List.{List, [], _∷_, _++_}

@@ -1,4 +1,5 @@
--- The last pass over the rows: those before i are done. And rows by number become the rows of the compiled list.
+-- The last pass over the rows: those before i are done.
+-- And rows by number become the rows of the compiled list.
 use mathlib.Core.Path.{_≡_, refl, sym, ap, _∙_}
 use mathlib.Core.Bool.{Bool, true, false, _&&_, _||_, true≢false}
 use mathlib.Core.List.{List, [], _∷_, map}

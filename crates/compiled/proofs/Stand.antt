@@ -1,4 +1,5 @@
--- Each name of a list stands in its bytes at its place. So the tables of a compiled list are those of its names.
+-- Each name of a list stands in its bytes at its place.
+-- So the tables of a compiled list are those of its names.
 use mathlib.Core.Path.{_≡_, refl}
 use mathlib.Core.List.{List, [], _∷_, _++_, append-assoc}
 use Prim.Native.Nat.{ℕ, _+_}

@@ -1,4 +1,5 @@
--- The laws of `add_step`: there is room for one more name, its bit fits, and the tables are those with the step.
+-- The laws of `add_step`:
+-- there is room for one more name, its bit fits, and the tables are those with the step.
 use mathlib.Core.Path.{_≡_, refl, sym, _∙_}
 use mathlib.Core.List.{List, [], _∷_, _++_}
 use Prim.Native.Nat.{ℕ, _+_, _*_, _^_, _≤_, _<_}

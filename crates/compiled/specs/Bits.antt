@@ -1,4 +1,5 @@
--- What the matcher asks of a list of paths, as numbers of 16 bits: bit j for step j + 1 of a path, one number for each of 32 paths.
+-- What the matcher asks of a list of paths, as numbers of 16 bits:
+-- bit j for step j + 1 of a path, one number for each of 32 paths.
 use mathlib.Core.Bool.{Bool, true, false, cond}
 use mathlib.Core.List.{List, [], _∷_, _++_, map}
 use Prim.Native.Nat.{ℕ, _+_, _-_, _*_, _^_}

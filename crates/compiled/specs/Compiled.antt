@@ -1,4 +1,5 @@
--- The compiled list, every entry of every table: a function of the paths. And the answer on a list with it.
+-- The compiled list, every entry of every table:
+-- a function of the paths. And the answer on a list with it.
 use mathlib.Core.List.{List, [], _∷_, _++_, map}
 use Prim.Native.Nat.{ℕ, _-_}
 use lib.ListN.{length, replicate}

@@ -1,4 +1,5 @@
--- What the tables of names stand for: names by their places in a list, each once, with the chains through them; and what a search says.
+-- What the tables of names stand for: names by their places in a list, each once, with the chains through them;
+-- and what a search says.
 use mathlib.Core.Path.{_≡_}
 use mathlib.Core.List.{List, [], _∷_, _++_, map}
 use Prim.Native.Nat.{ℕ, _+_, _≤_}

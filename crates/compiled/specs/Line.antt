@@ -1,4 +1,5 @@
--- Where the reading of a sound list is: at a path; at a path's line, with the tables of the paths before; and after the line's steps.
+-- Where the reading of a sound list is: at a path;
+-- at a path's line, with the tables of the paths before; and after the line's steps.
 use mathlib.Core.Path.{_≡_}
 use mathlib.Core.Bool.{false}
 use mathlib.Core.List.{List, [], _∷_, _++_}

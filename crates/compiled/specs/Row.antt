@@ -1,4 +1,5 @@
--- A row of the rows: 32 entries from 32 times its number on. A number past the last row, 512, is read as 0.
+-- A row of the rows: 32 entries from 32 times its number on.
+-- A number past the last row, 512, is read as 0.
 use mathlib.Core.Bool.{cond}
 use mathlib.Core.List.{List, [], _∷_}
 use Prim.Native.Nat.{ℕ, zero, suc, _*_}

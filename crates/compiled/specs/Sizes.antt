@@ -1,4 +1,5 @@
--- The sizes of document 01 that the tables stand on: 32 lines, 16 steps a line, 8,192 bytes.
+-- The sizes of document 01 that the tables stand on:
+-- 32 lines, 16 steps a line, 8,192 bytes.
 use Prim.Native.Nat.{_≤_}
 use mathlib.Core.List.{List}
 use lib.ListN.{length}

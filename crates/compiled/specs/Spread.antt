@@ -1,4 +1,5 @@
--- Row 0 added to every other row: what the last pass over the rows needs, and what it does.
+-- Row 0 added to every other row:
+-- what the last pass over the rows needs, and what it does.
 use mathlib.Core.Path.{_≡_}
 use mathlib.Core.List.{List}
 use Prim.Native.Nat.{ℕ, _+_, _%_, _≤_, _<_}

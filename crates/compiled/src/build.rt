@@ -1,5 +1,5 @@
-// The tables of a sound list, entered step by step: a step's name, if it is not there yet, and its bit in the row of its name; for a line the
-// bits of its descendant steps and of its last, and its mark.
+// The tables of a sound list, entered step by step: a step's name, if it is not there yet, and its bit in the row of its name; for a line
+// the bits of its descendant steps and of its last, and its mark.
 ghost use mathlib.Core.Path.{_≡_};
 ghost use Prim.Native.Nat.{_+_, _<_, _≤_};
 ghost use lib.ListN.{length};

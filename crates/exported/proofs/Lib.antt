@@ -1,3 +1,4 @@
--- Laws: the number for each case, and one answer.
+-- Laws:
+-- the number for each case, and one answer.
 pub mod Numbers
 pub mod OneAnswer

@@ -1,2 +1,3 @@
--- Definitions: the numbers that callers in Rust and C get.
+-- Definitions:
+-- the numbers that callers in Rust and C get.
 pub mod Numbers

@@ -1,3 +1,5 @@
+-- Laws: printing and reading undo each other, from kinds to lists; the answer is the one that is said; places; the walk over a list;
+-- worked examples; one answer.
 pub mod Print
 pub mod Names
 pub mod Steps

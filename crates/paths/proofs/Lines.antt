@@ -1,4 +1,5 @@
--- The readers of lines give back what was printed. In order: a line's end; lines; sizes as a test; sound lines, and runs of them.
+-- The readers of lines give back what was printed. In order: a line's end;
+-- lines; sizes as a test; sound lines, and runs of them.
 use mathlib.Core.Path.{_≡_, refl, sym, ap, _∙_}
 use mathlib.Core.Bool.{Bool, true, false, cond}
 use mathlib.Core.List.{List, [], _∷_, _++_, append-assoc}

@@ -1,4 +1,5 @@
--- What the functions find at places is what the definitions say. In order: a text at a place; a test; a step; a line's end.
+-- What the functions find at places is what the definitions say.
+-- In order: a text at a place; a test; a step; a line's end.
 use mathlib.Core.Path.{_≡_, refl, sym, ap, _∙_}
 use mathlib.Core.Bool.{Bool, true, false}
 use mathlib.Core.List.{List, _++_}

@@ -1,4 +1,5 @@
--- The readers of steps give back what was printed. In order: `/` and `//`; tests; steps, and runs of them.
+-- The readers of steps give back what was printed. In order:
+-- `/` and `//`; tests; steps, and runs of them.
 use mathlib.Core.Path.{_≡_, refl, sym, ap, _∙_}
 use mathlib.Core.Bool.{Bool, true, false, cond, false≢true}
 use mathlib.Core.List.{List, [], _∷_, _++_, append-assoc}

@@ -1,4 +1,5 @@
--- What is answered on a list, in the order of document 01, "The path list"; and the numbers of its answers.
+-- What is answered on a list, in the order of document 01, "The path list";
+-- and the numbers of its answers.
 use mathlib.Core.Path.{_≡_}
 use mathlib.Core.List.{List, [], _++_}
 use Prim.Native.Nat.{ℕ, _+_, _≤_, _<_}

@@ -1,4 +1,5 @@
--- What stands at a place of a list, in places: a test, a step, a line's end. Nothing stands past the end.
+-- What stands at a place of a list, in places:
+-- a test, a step, a line's end. Nothing stands past the end.
 use mathlib.Core.Bool.{Bool}
 use mathlib.Core.List.{List}
 use mathlib.Core.Option.{Option, none, some}

@@ -1,4 +1,5 @@
--- Laws by file: places; the ways through the code; the test by the rows; what an answer says; examples; one answer.
+-- Laws by file: places; the ways through the code; the test by the rows;
+-- what an answer says; examples; one answer.
 pub mod Place
 pub mod Rows
 pub mod Formed

@@ -1,4 +1,5 @@
--- `add_step` meets its contract: there is room for one more name, the bit fits its cell, and the tables are those with the step.
+-- `add_step` meets its contract:
+-- there is room for one more name, the bit fits its cell, and the tables are those with the step.
 use Rattle.compiled.proofs.Stepped.{step-held, step-names, step-inside, step-bytes, step-path}
 use Rattle.compiled.proofs.Stepped.{step-bit, step-number, step-fits, step-done}
 use Rattle.compiled.proofs.build.add_step.Statement.{statement}

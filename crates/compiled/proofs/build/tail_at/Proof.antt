@@ -1,4 +1,5 @@
--- `tail_at` meets its contract: the two ways are those of `tailOf`.
+-- `tail_at` meets its contract:
+-- the two ways are those of `tailOf`.
 use borrow.Author.Needs.{needs}
 use Rattle.compiled.proofs.OverLines.{tails}
 use Rattle.compiled.proofs.build.tail_at.Statement.{statement}

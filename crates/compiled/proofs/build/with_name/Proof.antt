@@ -1,4 +1,5 @@
--- `with_name` meets its contract: no bytes are `*`; a name that is found keeps its place; a new one is stored after the others.
+-- `with_name` meets its contract: no bytes are `*`;
+-- a name that is found keeps its place; a new one is stored after the others.
 use borrow.Author.Needs.{needs}
 use Rattle.compiled.proofs.Enter.{enter-any, enter-there, enter-new}
 use Rattle.compiled.proofs.build.with_name.Statement.{statement}

@@ -1,4 +1,5 @@
--- `none` meets its contract: the tables of no path are zeros.
+-- `none` meets its contract:
+-- the tables of no path are zeros.
 use Rattle.compiled.proofs.Reading.{reading}
 use Rattle.compiled.proofs.compile.none.Statement.{statement}
 use Rattle.compiled.proofs.compile.none.Tie as tie

@@ -1,4 +1,5 @@
--- `read` meets its contract: a sound list is compiled, and any other has no path.
+-- `read` meets its contract:
+-- a sound list is compiled, and any other has no path.
 use mathlib.Core.List.{[], _∷_}
 use types.Run.{miss}
 use Rattle.compiled.proofs.Reading.{read-refused, reading}

@@ -1,4 +1,5 @@
--- `fit_at` meets its contract. The loop's invariant: the first p numbers are those of the row. The measure is what is left of 32.
+-- `fit_at` meets its contract. The loop's invariant:
+-- the first p numbers are those of the row. The measure is what is left of 32.
 use mathlib.Core.Path.{_≡_}
 use Prim.Native.Nat.{_-_, _*_}
 use Rattle.compiled.specs.Row.{rowOf}

@@ -1,4 +1,5 @@
--- `row_start` meets its contract: a number below 513 is its own row.
+-- `row_start` meets its contract:
+-- a number below 513 is its own row.
 use native.Mathlib.Omega.{arith}
 use borrow.Author.Tests.{lt-ltb, le-ltb}
 use borrow.Author.Needs.{needs}

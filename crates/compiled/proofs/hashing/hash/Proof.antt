@@ -1,4 +1,5 @@
--- `hash` meets its contract: the number is `hashOf`, and below 256.
+-- `hash` meets its contract:
+-- the number is `hashOf`, and below 256.
 use borrow.Author.Needs.{needs}
 use Rattle.compiled.proofs.Search.{hash-nil, hash-is}
 use Rattle.compiled.proofs.hashing.hash.Statement.{statement}
