@@ -3,7 +3,7 @@
 use mathlib.Core.Path.{_≡_, refl, sym, ap, _∙_}
 use mathlib.Core.Bool.{Bool, true, false}
 use mathlib.Core.List.{List, [], _∷_, _++_}
-use Prim.Native.Nat.{ℕ, zero, suc, _+_, _≤_, _<_}
+use Prim.Native.Nat.{ℕ, zero, suc, _+_, _≤_, _<_, _*_, _%_}
 use native.Mathlib.Nat.{add-zero, zero-add}
 use native.Mathlib.Numerals.{add-one}
 use native.Mathlib.Omega.{arith}
@@ -12,7 +12,7 @@ use lib.ListN.{length, getD, set, replicate, length-append, length-set, length-r
 use lib.Seq.{getD-set-same, getD-set-other}
 use lib.Dec.{eqb, ltb}
 use Rattle.xml.specs.Productions.{same}
-use Rattle.compiled.specs.Names.{Named, placeOf, hashOf, Chains, linked, linkedAll, chainsOf}
+use Rattle.compiled.specs.Names.{Named, placeOf, hashFrom, hashOf, Chains, linked, linkedAll, chainsOf}
 use Rattle.compiled.specs.Index.{Once, first, another}
 use Rattle.compiled.proofs.Same.{same-equal, same-other}
 use Rattle.compiled.proofs.Places.{nameAt, name-left, name-right, place-old, place-new}
@@ -29,9 +29,13 @@ chain ns next n zero k = 0
 chain ns next n (suc f) zero = 0
 chain ns next n (suc f) (suc k) = stops (same (nameAt ns k) n) (suc k) (chain ns next n f (getD next k 0))
 
+from-below : (h : ℕ) (n : List ℕ) → h < 256 → hashFrom h n < 256
+from-below h [] l = l
+from-below h (b ∷ n) l = from-below ((h * 31 + b) % 256) n (omega arith)
+
 pub hash-below : (n : List ℕ) → hashOf n < 256
 unfolding hashOf
-hash-below n = omega arith
+hash-below n = from-below 0 n (omega arith)
 
 pub record Linked (ns : List Named) (head next : List ℕ) : Type 0 where
   pub head-long : length head ≡ 256

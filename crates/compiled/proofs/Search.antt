@@ -12,7 +12,8 @@ use lib.ListN.{length, take, drop, getD, length-drop, drop-of-length-le}
 use lib.Seq.{length-take-le, getD-take, getD-drop, drop-cons}
 use Rattle.xml.specs.Productions.{same}
 use Rattle.paths.specs.Path.{All, none, more}
-use Rattle.compiled.specs.Names.{Named, placeOf, hashOf}
+use Rattle.utf8.proofs.Place.{drop-step, drop-end}
+use Rattle.compiled.specs.Names.{Named, placeOf, hashFrom, hashOf}
 use Rattle.compiled.specs.Bits.{padded}
 use Rattle.compiled.specs.Index.{Stands, Indexed, Tables, Found}
 use Rattle.compiled.proofs.Same.{same-other}
@@ -73,15 +74,25 @@ pub ruleset comparing = (compare-length, compare-start, compare-other, compare-m
 
 -- ---- `hash`
 
-pub hash-nil : (n : List ℕ) → length n ≡ 0 → (0 ≡ hashOf n) × (0 < 256)
-unfolding hashOf
-hash-nil [] e = (refl, omega arith)
-hash-nil (x ∷ n) e = absurd (omega arith)
+-- what is left of the name is gone through
+pub record Hashing (n : List ℕ) (h i : ℕ) : Type 0 where
+  pub below : h < 256
+  pub inside : i ≤ length n
+  pub same : hashFrom h (drop i n) ≡ hashOf n
 
-pub hash-is : (n : List ℕ) {a b : ℕ} → a ≡ getD n 0 0 → b ≡ getD n (length n - 1) 0
-    → ((a * 7 + b * 3 + length n % 256 * 31) % 256 ≡ hashOf n) × ((a * 7 + b * 3 + length n % 256 * 31) % 256 < 256)
+pub hash-start : {n : List ℕ} → Hashing n 0 0
 unfolding hashOf
-hash-is n e h = (rw (e, h), omega arith)
+hash-start = record { below = omega arith; inside = omega arith; same = refl }
+
+module _ {n : List ℕ} {h i : ℕ} (v : Hashing n h i) where
+  pub hash-on : {b : ℕ} → i < length n → b ≡ getD n i 0 → Hashing n ((h * 31 + b) % 256) (i + 1)
+  hash-on {b} l e =
+      record { below = omega arith; inside = omega arith; same = rw e (sym (rw (drop-step n i l)) ∙ v .same) }
+
+  pub hash-end : length n ≤ i → h ≡ hashOf n
+  hash-end l = sym (rw (drop-end n i l)) ∙ v .same
+
+pub ruleset hashes = (hash-start, hash-on, hash-end, needs)
 
 -- ---- tables of names
 

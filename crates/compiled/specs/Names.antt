@@ -49,9 +49,13 @@ namesOf ps = firsts [] (listNames 0 ps)
 
 -- ---- chains
 
--- a number below 256 for a name
+-- a number below 256 for a name, by all of its bytes
+abbrev pub hashFrom : ℕ → List ℕ → ℕ
+hashFrom h [] = h
+hashFrom h (b ∷ n) = hashFrom ((h * 31 + b) % 256) n
+
 unfoldable pub hashOf : List ℕ → ℕ
-hashOf n = (getD n 0 0 * 7 + getD n (length n - 1) 0 * 3 + length n % 256 * 31) % 256
+hashOf n = hashFrom 0 n
 
 -- the first name of each chain, and the next one after each name: places from 1, and 0 for none
 pub record Chains : Type 0 where

@@ -18,14 +18,14 @@ fn compile(list: &[u8]) -> Compiled
     requires { ⌜ listAnswer (now list) ≡ Sound ⌝ }
     ensures { λ r. ⌜ r ≡ compiledOf (listPaths (now (list .entry))) ⌝ }
 {
-    let mut descends = [0u16; 32];
-    let mut lasts = [0u16; 32];
-    let mut marks = [0u16; 32];
-    let mut at = [0u16; 512];
-    let mut len = [0u16; 512];
-    let mut head = [0u16; 256];
-    let mut next = [0u16; 512];
-    let mut rows = [0u16; 16416];
+    let mut descends = [0u16; Compiled::PATHS];
+    let mut lasts = [0u16; Compiled::PATHS];
+    let mut marks = [0u16; Compiled::PATHS];
+    let mut at = [0u16; Compiled::NAMES];
+    let mut len = [0u16; Compiled::NAMES];
+    let mut head = [0u16; Compiled::HEADS];
+    let mut next = [0u16; Compiled::NAMES];
+    let mut rows = [0u16; Compiled::ENTRIES];
     let mut names: usize = 0;
     let mut p: usize = 0;
     let mut place: usize = 0;
@@ -68,15 +68,15 @@ fn none() -> Compiled
     ensures { λ r. ⌜ r ≡ compiledOf [] ⌝ }
 {
     Compiled {
-        descends: [0; 32],
-        lasts: [0; 32],
-        marks: [0; 32],
+        descends: [0; Compiled::PATHS],
+        lasts: [0; Compiled::PATHS],
+        marks: [0; Compiled::PATHS],
         names: 0,
-        at: [0; 512],
-        len: [0; 512],
-        head: [0; 256],
-        next: [0; 512],
-        rows: [0; 16416],
+        at: [0; Compiled::NAMES],
+        len: [0; Compiled::NAMES],
+        head: [0; Compiled::HEADS],
+        next: [0; Compiled::NAMES],
+        rows: [0; Compiled::ENTRIES],
     }
 }
 

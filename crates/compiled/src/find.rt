@@ -5,6 +5,7 @@ ghost use Prim.Native.Nat.{_+_, _≤_};
 ghost use lib.ListN.{length, take, drop};
 ghost use Rattle.xml.specs.Productions.{same as sameName};
 ghost use Rattle.compiled.specs.Index.{Tables, Found};
+use crate::Compiled;
 use crate::hashing::hash;
 
 // Whether the n bytes of the list at a are the name.
@@ -28,10 +29,10 @@ fn same(list: &[u8], a: usize, n: usize, name: &[u8]) -> bool
 // Where a name stands among those of the tables, from 1; 0 where it does not.
 pub fn find(
     list: &[u8],
-    at: &[u16; 512],
-    len: &[u16; 512],
-    head: &[u16; 256],
-    next: &[u16; 512],
+    at: &[u16; Compiled::NAMES],
+    len: &[u16; Compiled::NAMES],
+    head: &[u16; Compiled::HEADS],
+    next: &[u16; Compiled::NAMES],
     name: &[u8],
 ) -> usize
     requires { ⌜ Tables (now list) (now at) (now len) (now head) (now next) ⌝ }

@@ -3,10 +3,11 @@
 ghost use mathlib.Core.Path.{_≡_};
 ghost use Prim.Native.Nat.{_*_, _≤_};
 ghost use Rattle.compiled.specs.Row.{rowOf, rowIn};
+use crate::Compiled;
 
 // The steps of each path that pass a name.
 pub struct Fit {
-    pub bits: [u16; 32],
+    pub bits: [u16; Compiled::PATHS],
 }
 
 // The place of a row's first number; row 0 stands for those past the last.
@@ -14,19 +15,19 @@ fn row_start(k: usize) -> usize
     ensures { λ r. ⌜ (r ≡ 32 * rowOf k) × (r ≤ 16384) ⌝ }
 {
     if k < 513 {
-        return 32 * k;
+        return Compiled::PATHS * k;
     }
     0
 }
 
 // Row k: that of the name at place k, and row 0 for k past the rows.
-pub fn fit_at(rows: &[u16; 16416], k: usize) -> Fit
+pub fn fit_at(rows: &[u16; Compiled::ENTRIES], k: usize) -> Fit
     ensures { λ r. ⌜ r .bits ≡ rowIn (now (rows .entry)) k ⌝ }
 {
     let base = row_start(k);
-    let mut bits = [0u16; 32];
+    let mut bits = [0u16; Compiled::PATHS];
     let mut p: usize = 0;
-    while p < 32 {
+    while p < Compiled::PATHS {
         bits[p] = rows[base + p];
         p += 1;
     }

@@ -11,23 +11,24 @@ mod build; // the tables, step by step
 // names by their places in the list, and chains through them by a number of the name. A row of 32 for each name, the steps of each path
 // that pass it: row 0 for a name that no step has, row k + 1 for name k.
 pub struct Compiled {
-    pub descends: [u16; 32],
-    pub lasts: [u16; 32],
-    pub marks: [u16; 32],
+    pub descends: [u16; Compiled::PATHS],
+    pub lasts: [u16; Compiled::PATHS],
+    pub marks: [u16; Compiled::PATHS],
     pub names: usize,
-    pub at: [u16; 512],
-    pub len: [u16; 512],
-    pub head: [u16; 256],
-    pub next: [u16; 512],
-    pub rows: [u16; 16416],
+    pub at: [u16; Compiled::NAMES],
+    pub len: [u16; Compiled::NAMES],
+    pub head: [u16; Compiled::HEADS],
+    pub next: [u16; Compiled::NAMES],
+    pub rows: [u16; Compiled::ENTRIES],
 }
 
+// How many paths, names and chains there are at most, and how many entries the rows have: 32 for each name and for any other.
 impl Compiled {
     pub const PATHS: usize = 32;
-
-    pub const STEPS: usize = 16;
 
     pub const NAMES: usize = 512;
 
     pub const HEADS: usize = 256;
+
+    pub const ENTRIES: usize = 16416;
 }

@@ -39,6 +39,17 @@ pub enum ListAnswer {
     TooLarge(usize),
 }
 
+// The sizes of document 01 for a list: bytes, lines, steps a line, bytes of a name.
+impl ListAnswer {
+    pub const BYTES: usize = 8192;
+
+    pub const LINES: usize = 32;
+
+    pub const STEPS: usize = 16;
+
+    pub const NAME: usize = 255;
+}
+
 // The text stands at a place.
 fn stands(list: &[u8], at: usize, text: &[u8]) -> bool
     ensures { λ r. ⌜ r ≡ begins (now (text .entry)) (drop at (now (list .entry))) ⌝ }
@@ -118,7 +129,7 @@ pub fn end_at(list: &[u8], at: usize) -> LineEnd
 pub fn answer(list: &[u8]) -> ListAnswer
     ensures { λ r. ⌜ r ≡ listAnswer (now (list .entry)) ⌝ }
 {
-    if list.len() > 8192 {
+    if list.len() > ListAnswer::BYTES {
         return ListAnswer::TooLong;
     }
     let mut at: usize = 0;
@@ -127,7 +138,7 @@ pub fn answer(list: &[u8]) -> ListAnswer
         if at >= list.len() {
             break 'lines ListAnswer::Sound;
         }
-        if line > 32 {
+        if line > ListAnswer::LINES {
             break 'lines ListAnswer::TooLarge(line);
         }
         let mut count: usize = 0;
@@ -141,7 +152,7 @@ pub fn answer(list: &[u8]) -> ListAnswer
                     end,
                 } => {
                     count += 1;
-                    small = small & (len <= 255);
+                    small = small & (len <= ListAnswer::NAME);
                     at = end;
                 }
                 StepEnd::Fault => break 'steps,
@@ -156,7 +167,7 @@ pub fn answer(list: &[u8]) -> ListAnswer
             }
             LineEnd::Fault => break 'lines ListAnswer::Malformed(line),
         }
-        if !((count <= 16) & small) {
+        if !((count <= ListAnswer::STEPS) & small) {
             break 'lines ListAnswer::TooLarge(line);
         }
         line += 1;

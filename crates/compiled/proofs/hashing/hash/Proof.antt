@@ -1,62 +1,57 @@
--- `hash` meets its contract:
--- the number is `hashOf`, and below 256.
+-- `hash` meets its contract. The loop's invariant: from h on, what is left of the name makes the number of the whole name.
+-- The measure is what is left of the name.
+use Prim.Native.Nat.{_-_}
+use lib.ListN.{length}
 use borrow.Author.Needs.{needs}
-use Rattle.compiled.proofs.Search.{hash-nil, hash-is}
+use Rattle.compiled.proofs.Search.{Hashing, hash-on, hashes}
 use Rattle.compiled.proofs.hashing.hash.Statement.{statement}
 use Rattle.compiled.proofs.hashing.hash.Tie as tie
 
-returns : tie.Need-returns
-returns c =
-    hash-nil (c .before .before .args .name .now) (c .if1 .taken)
+abbrev Inv-loop : tie.InvT-loop
+Inv-loop name h₀ i₀ h i = Hashing name h i
 
-shared-slice-read-wide : tie.Need-shared-slice-read-wide
-shared-slice-read-wide c = search needs
+abbrev μ-loop : tie.MeasureT-loop
+μ-loop name h₀ i₀ h i = length name - i
 
-wide-requires : tie.Need-wide-requires
-wide-requires c κs = search needs
+loop-holds : tie.Need-loop-holds Inv-loop μ-loop
+loop-holds c = search hashes
 
-mul-result : tie.Need-mul-result
-mul-result c = search needs
+mul-h : tie.Need-mul-h Inv-loop μ-loop
+mul-h c = search hashes
 
-sub-wide : tie.Need-sub-wide
-sub-wide c = search needs
+shared-slice-read-wide : tie.Need-shared-slice-read-wide Inv-loop μ-loop
+shared-slice-read-wide c = search hashes
 
-shared-slice-read-wide-2 : tie.Need-shared-slice-read-wide-2
-shared-slice-read-wide-2 c = search needs
+wide-requires : tie.Need-wide-requires Inv-loop μ-loop
+wide-requires c κs = search hashes
 
-wide-requires-2 : tie.Need-wide-requires-2
-wide-requires-2 c κs = search needs
+add-h : tie.Need-add-h Inv-loop μ-loop
+add-h c = search hashes
 
-mul-result-2 : tie.Need-mul-result-2
-mul-result-2 c = search needs
+add-i : tie.Need-add-i Inv-loop μ-loop
+add-i c = search hashes
 
-add-result : tie.Need-add-result
-add-result c = search needs
+loop-less : tie.Need-loop-less Inv-loop μ-loop
+loop-less c = search hashes
 
-mul-result-3 : tie.Need-mul-result-3
-mul-result-3 c = search needs
+loop-again : tie.Need-loop-again Inv-loop μ-loop
+loop-again c = hash-on (c .before .before .before .loop .inv) (search needs) (c .wide .ensures .0)
 
-add-result-2 : tie.Need-add-result-2
-add-result-2 c = search needs
-
-returns-2 : tie.Need-returns-2
-returns-2 c =
-    let name = c .before .before .before .before .before .before .args .name .now in
-    hash-is name (c .before .before .wide .ensures .0) (c .wide2 .ensures .0)
+returns : tie.Need-returns Inv-loop μ-loop
+returns c = search hashes
 
 pub hash-spec : {M : Type 1} → statement M
 hash-spec =
     tie.close
     (tie.spec
-    returns
+    Inv-loop
+    μ-loop
+    loop-holds
+    mul-h
     shared-slice-read-wide
     wide-requires
-    mul-result
-    sub-wide
-    shared-slice-read-wide-2
-    wide-requires-2
-    mul-result-2
-    add-result
-    mul-result-3
-    add-result-2
-    returns-2)
+    add-h
+    add-i
+    loop-less
+    loop-again
+    returns)
