@@ -6,9 +6,9 @@ ghost use Prim.Native.Nat.{_<_};
 ghost use lib.ListN.{length};
 ghost use Rattle.chars.specs.Class.{classTable};
 use crate::out;
-use chars::check::Checked;
 use chars::name::Reading;
 use chars::table::Classes;
+use chars::whole::Checked;
 use utf8::Sequence;
 
 const LAST: u32 = 0x110010;
@@ -28,7 +28,7 @@ fn is_sequence(s: &[u8], c: u32) -> bool {
 }
 
 fn is_allowed(s: &[u8]) -> bool {
-    match chars::check::check(s) {
+    match chars::whole::check(s) {
         Checked::All => true,
         Checked::BadAt(_) => false,
     }

@@ -2,7 +2,7 @@
 // is folded into one number for each kind; a second number has the same texts with a control byte at the end of each.
 ghost use Prim.Native.Nat.{_<_};
 use crate::out;
-use chars::check::Checked;
+use chars::whole::Checked;
 use std::num::wrapping_add_usize;
 
 const LENGTHS: usize = 201;
@@ -44,7 +44,7 @@ fn restore(s: &mut [u8], at: usize, n: usize) {
 
 // What the check says of s: 0, or one more than the place.
 fn answer(s: &[u8]) -> usize {
-    match chars::check::check(s) {
+    match chars::whole::check(s) {
         Checked::All => 0,
         Checked::BadAt(o) => o % 0x10000 + 1,
     }

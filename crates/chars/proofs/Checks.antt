@@ -22,7 +22,7 @@ use Rattle.chars.specs.Check.{checkOf, isHigh}
 use Rattle.utf8.specs.Sequence.{sequenceAt}
 use Rattle.utf8.specs.declared.Sequence.{Sequence}
 use Rattle.utf8.specs.declared.Sequence.the-variants.{Point, Bad}
-use Rattle.chars.specs.declared.check.Checked.the-variants.{All, BadAt}
+use Rattle.chars.specs.declared.whole.Checked.the-variants.{All, BadAt}
 use Rattle.utf8.proofs.Place.{drop-step, drop-end}
 use Rattle.chars.proofs.Plain.{other-plain, other-low}
 use Rattle.chars.proofs.Runs.{point-starts, bad-starts, point-wide, Running, run-start, run-stands, run-whole, run-less, run-on}

@@ -12,8 +12,8 @@ use Rattle.utf8.proofs.Examples.{Row, _at_gives_, answers, expected}
 use Rattle.chars.specs.Check.{checkOf}
 use Rattle.chars.specs.Space.{spaceEnd}
 use Rattle.chars.specs.Name.{nameOf, nameAt}
-use Rattle.chars.specs.declared.check.Checked.{Checked}
-use Rattle.chars.specs.declared.check.Checked.the-variants.{All, BadAt}
+use Rattle.chars.specs.declared.whole.Checked.{Checked}
+use Rattle.chars.specs.declared.whole.Checked.the-variants.{All, BadAt}
 use Rattle.chars.specs.declared.name.Reading.{Reading}
 use Rattle.chars.specs.declared.name.Reading.the-variants.{Ends, Fault}
 

@@ -21,8 +21,8 @@ use Rattle.chars.specs.Check.{checkedBy, checkOf}
 use Rattle.chars.specs.Name.{nameOf, readingAt, nameAt}
 use Rattle.chars.specs.Space.{spaceEnd}
 use Rattle.chars.specs.Meaning.{CheckSays, numberOf, NameSays, SpaceSays}
-use Rattle.chars.specs.declared.check.Checked.{Checked}
-use Rattle.chars.specs.declared.check.Checked.the-variants.{All, BadAt}
+use Rattle.chars.specs.declared.whole.Checked.{Checked}
+use Rattle.chars.specs.declared.whole.Checked.the-variants.{All, BadAt}
 use Rattle.chars.specs.declared.name.Reading.{Reading}
 use Rattle.chars.specs.declared.name.Reading.the-variants.{Ends, Fault}
 use Rattle.utf8.proofs.Place.{drop-step, drop-end}

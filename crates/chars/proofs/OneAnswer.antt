@@ -9,7 +9,7 @@ use Rattle.chars.specs.Class.{classOf, classTable}
 use Rattle.chars.specs.Check.{checkOf}
 use Rattle.chars.specs.Space.{spaceEnd}
 use Rattle.chars.specs.Name.{nameAt}
-use Rattle.chars.specs.declared.check.Checked.{Checked}
+use Rattle.chars.specs.declared.whole.Checked.{Checked}
 use Rattle.chars.specs.declared.name.Reading.{Reading}
 
 both : {A : Type 0} {x r r′ : A} → r ≡ x → r′ ≡ x → r ≡ r′
@@ -27,7 +27,7 @@ classes-one r r′ = both
 pub class-of-one : (c r r′ : ℕ) → r ≡ classOf c → r′ ≡ classOf c → r ≡ r′
 class-of-one c r r′ = both
 
--- `check::check`
+-- `whole::check`
 pub check-one : (s : List ℕ) (r r′ : Checked) → r ≡ checkOf s → r′ ≡ checkOf s → r ≡ r′
 check-one s r r′ = both
 

@@ -7,8 +7,8 @@ use lib.Dec.{leb}
 use lib.ListN.{length}
 use Rattle.xml.specs.Character.{run}
 use Rattle.xml.specs.Productions.{isChar}
-use Rattle.chars.specs.declared.check.Checked.{Checked}
-use Rattle.chars.specs.declared.check.Checked.the-variants.{All, BadAt}
+use Rattle.chars.specs.declared.whole.Checked.{Checked}
+use Rattle.chars.specs.declared.whole.Checked.the-variants.{All, BadAt}
 
 -- of n bytes, the Chars at the front left t
 abbrev pub checkedBy : ℕ → List ℕ → Checked

@@ -6,8 +6,8 @@ use Prim.Native.Nat.{ℕ, _≤_, _<_}
 use lib.ListN.{length, drop}
 use Rattle.xml.specs.Notation.{Reads, char, _∗}
 use Rattle.xml.specs.Productions.{Char, isSpace, NameChar, Name}
-use Rattle.chars.specs.declared.check.Checked.{Checked}
-use Rattle.chars.specs.declared.check.Checked.the-variants.{All, BadAt}
+use Rattle.chars.specs.declared.whole.Checked.{Checked}
+use Rattle.chars.specs.declared.whole.Checked.the-variants.{All, BadAt}
 use Rattle.chars.specs.declared.name.Reading.{Reading}
 use Rattle.chars.specs.declared.name.Reading.the-variants.{Ends, Fault}
 

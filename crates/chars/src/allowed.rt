@@ -1,4 +1,4 @@
-// The characters that XML allows: production [2]. Whether a document's bytes are such characters is asked in check.rt, which goes by this
+// The characters that XML allows: production [2]. Whether a document's bytes are such characters is asked in whole.rt, which goes by this
 // function where a byte is not ASCII.
 ghost use mathlib.Core.Path.{_≡_};
 ghost use Rattle.xml.specs.Productions.{isChar as isCharOf};

@@ -4,6 +4,6 @@ pub mod allowed; // the characters that XML allows
 pub mod table; // the table of name classes below U+0300
 pub mod class; // the name class of a code point
 mod block; // plain bytes, passed in blocks
-pub mod check; // the whole document: all characters, or where the first bad sequence begins
+pub mod whole; // the whole document: all characters, or where the first bad sequence begins
 pub mod space; // runs of white space
 pub mod name; // names

@@ -6,8 +6,8 @@ use Prim.Native.Nat.{ℕ}
 use lib.ListN.{length}
 use borrow.Author.Needs.{needs}
 use Rattle.chars.specs.Check.{checkOf}
-use Rattle.chars.specs.declared.check.Checked.{Checked}
-use Rattle.chars.specs.declared.check.Checked.the-variants.{All, BadAt}
+use Rattle.chars.specs.declared.whole.Checked.{Checked}
+use Rattle.chars.specs.declared.whole.Checked.the-variants.{All, BadAt}
 use Rattle.exported.specs.Numbers.{soundOf, checkEnd}
 
 module _ (d : List ℕ) {r : Checked} (q : r ≡ checkOf d) where

@@ -4,8 +4,8 @@ use mathlib.Core.List.{List}
 use Prim.Native.Nat.{ℕ}
 use lib.ListN.{length}
 use Rattle.chars.specs.Check.{checkOf}
-use Rattle.chars.specs.declared.check.Checked.{Checked}
-use Rattle.chars.specs.declared.check.Checked.the-variants.{All, BadAt}
+use Rattle.chars.specs.declared.whole.Checked.{Checked}
+use Rattle.chars.specs.declared.whole.Checked.the-variants.{All, BadAt}
 
 -- of n bytes, how many are sound
 abbrev pub soundOf : ℕ → Checked → ℕ

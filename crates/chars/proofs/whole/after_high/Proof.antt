@@ -6,8 +6,8 @@ use borrow.Author.Needs.{needs}
 use Rattle.chars.specs.Check.{isHigh}
 use Rattle.chars.proofs.Checks.{high-bad, highing}
 use Rattle.chars.proofs.Runs.{Running}
-use Rattle.chars.proofs.check.after_high.Statement.{statement}
-use Rattle.chars.proofs.check.after_high.Tie as tie
+use Rattle.chars.proofs.whole.after_high.Statement.{statement}
+use Rattle.chars.proofs.whole.after_high.Tie as tie
 
 abbrev Inv-loop : tie.InvT-loop
 Inv-loop s at i₀ i = Running isHigh s at i

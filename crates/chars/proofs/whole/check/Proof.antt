@@ -3,8 +3,8 @@
 use Prim.Native.Nat.{_-_}
 use lib.ListN.{length}
 use Rattle.chars.proofs.Checks.{checking, Checking}
-use Rattle.chars.proofs.check.check.Statement.{statement}
-use Rattle.chars.proofs.check.check.Tie as tie
+use Rattle.chars.proofs.whole.check.Statement.{statement}
+use Rattle.chars.proofs.whole.check.Tie as tie
 
 abbrev Inv-loop : tie.InvT-loop
 Inv-loop s i₀ i = Checking s i
