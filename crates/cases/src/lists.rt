@@ -1,16 +1,11 @@
 // Path lists: some with each byte replaced in turn and cut off after each, the answers folded into a number; and lists at the sizes and
 // past them.
+use crate::offsets::put;
 use crate::out;
 use paths::ListAnswer;
 use std::num::wrapping_add_usize;
 
 // ---- texts that are changed
-
-fn put(s: &mut [u8], at: usize, b: u8) {
-    if at < s.len() {
-        s[at] = b;
-    }
-}
 
 fn get(s: &[u8], at: usize) -> u8 {
     if at < s.len() { s[at] } else { 0 }

@@ -18,7 +18,8 @@ fn plain(i: usize) -> u8 {
     }
 }
 
-fn put(s: &mut [u8], at: usize, b: u8) {
+// Puts a byte at a place, if the slice has it.
+pub fn put(s: &mut [u8], at: usize, b: u8) {
     if at < s.len() {
         s[at] = b;
     }
