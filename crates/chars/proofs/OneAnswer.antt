@@ -4,6 +4,8 @@ use mathlib.Core.Path.{_≡_, sym, _∙_}
 use mathlib.Core.Bool.{Bool}
 use mathlib.Core.List.{List}
 use Prim.Native.Nat.{ℕ}
+use lib.ListN.{drop}
+use Rattle.xml.specs.Character.{begins}
 use Rattle.xml.specs.Productions.{isChar, isSpace}
 use Rattle.chars.specs.Class.{classOf, classTable}
 use Rattle.chars.specs.Check.{checkOf}
@@ -30,6 +32,10 @@ class-of-one c r r′ = both
 -- `whole::check`
 pub check-one : (s : List ℕ) (r r′ : Checked) → r ≡ checkOf s → r′ ≡ checkOf s → r ≡ r′
 check-one s r r′ = both
+
+-- `text::stands`
+pub stands-one : (s : List ℕ) (at : ℕ) (w : List ℕ) (r r′ : Bool) → r ≡ begins w (drop at s) → r′ ≡ begins w (drop at s) → r ≡ r′
+stands-one s at w r r′ = both
 
 -- `space::is_space`
 pub is-space-one : (b : ℕ) (r r′ : Bool) → r ≡ isSpace b → r′ ≡ isSpace b → r ≡ r′

@@ -22,7 +22,7 @@ space-four b =
 
 -- ---- the run
 
-space-ascii : Ascii isSpace
+pub space-ascii : Ascii isSpace
 unfolding isSpace
 space-ascii =
     record {

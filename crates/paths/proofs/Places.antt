@@ -1,5 +1,5 @@
 -- What the functions find at places is what the definitions say.
--- In order: a text at a place; a test; a step; a line's end.
+-- In order: a text that ends inside; a test; a step; a line's end.
 use mathlib.Core.Path.{_≡_, refl, sym, ap, _∙_}
 use mathlib.Core.Bool.{Bool, true, false}
 use mathlib.Core.List.{List, _++_}
@@ -7,14 +7,12 @@ use mathlib.Core.Option.{Option, none, some}
 use Prim.Native.Nat.{ℕ, _+_, _-_, _≤_, _<_}
 use native.Mathlib.Omega.{arith}
 use borrow.Author.Needs.{needs}
-use borrow.Author.Tests.{eq-eqb, ne-eqb}
-use lib.ListN.{length, getD, take, drop, length-append, length-drop}
+use lib.ListN.{length, take, drop, length-append, length-drop}
 use lib.Seq.{drop-drop, length-take-le}
 use Rattle.xml.specs.Notation.{bytes}
 use Rattle.xml.specs.Character.{begins}
 use Rattle.xml.proofs.Character.{begins-split}
 use Rattle.utf8.specs.Place.{endsAt}
-use Rattle.utf8.proofs.Place.{drop-step, drop-end}
 use Rattle.chars.specs.Name.{nameOf, nameAt, readingAt}
 use Rattle.chars.specs.declared.name.Reading.{Reading}
 use Rattle.chars.specs.declared.name.Reading.the-variants.{Ends, Fault}
@@ -26,37 +24,6 @@ use Rattle.paths.specs.declared.Kind.the-variants.{Child, Descendant}
 use Rattle.paths.specs.declared.StepEnd.{StepEnd}
 use Rattle.paths.specs.declared.StepEnd.the-variants.{Step as StepTo, Fault as NoStep}
 use Rattle.paths.specs.declared.LineEnd.the-variants.{Ends as LineEnds, Fault as NoEnd}
-
--- ---- a text at a place
-
--- the first k bytes of w stand at the place at of d, and i is the place after them
-pub record Standing (d : List ℕ) (at : ℕ) (w : List ℕ) (i k : ℕ) : Type 0 where
-  pub inside : k ≤ length w
-  pub same : begins (drop k w) (drop i d) ≡ begins w (drop at d)
-
-pub stand-start : {d : List ℕ} {at : ℕ} {w : List ℕ} → Standing d at w at 0
-stand-start = record { inside = omega arith; same = refl }
-
-module _ {d : List ℕ} {at : ℕ} {w : List ℕ} {i k : ℕ} (v : Standing d at w i k) where
-  pub stand-whole : length w ≤ k → true ≡ begins w (drop at d)
-  stand-whole h = rw (drop-end w k h) at (v .same)
-
-  module _ (h : k < length w) where
-    pub stand-short : length d ≤ i → false ≡ begins w (drop at d)
-    stand-short l = rw (drop-step w k h, drop-end d i l) at (v .same)
-
-    module _ (l : i < length d) where
-      pub stand-other : (getD d i 0 ≡ getD w k 0 → ⊥) → false ≡ begins w (drop at d)
-      stand-other n = rw (drop-step w k h, drop-step d i l, ne-eqb (getD d i 0) (getD w k 0) n) at (v .same)
-
-      pub stand-on : getD d i 0 ≡ getD w k 0 → Standing d at w (i + 1) (k + 1)
-      stand-on e =
-          record {
-            inside = omega arith;
-            same = rw (drop-step w k h, drop-step d i l, eq-eqb (getD d i 0) (getD w k 0) e) at (v .same);
-          }
-
-pub ruleset standing = (stand-start, stand-whole, stand-short, stand-other, stand-on, needs)
 
 -- a text that stands at a place ends inside
 pub room : (d : List ℕ) (at : ℕ) (w : List ℕ) {x : Bool} → x ≡ begins w (drop at d) → x ≡ true → 0 < length w → at + length w ≤ length d

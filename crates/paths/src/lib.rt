@@ -1,12 +1,11 @@
 // The path list: steps and line ends at places, and the list judged line by line. What a list means is in specs/Path.antt, and what is
 // answered in specs/Answer.antt.
 ghost use mathlib.Core.Path.{_≡_};
-ghost use lib.ListN.{drop};
-ghost use Rattle.xml.specs.Character.{begins};
 ghost use Rattle.paths.specs.Place.{testEndAt, stepEndAt, lineEndAt};
 ghost use Rattle.paths.specs.Judge.{listAnswer};
 use chars::name::Reading;
 use chars::name::name;
+use chars::text::stands;
 
 // How a step stands to the step before: one place below, or any number of places from one on.
 pub enum Kind {
@@ -48,25 +47,6 @@ impl ListAnswer {
     pub const STEPS: usize = 16;
 
     pub const NAME: usize = 255;
-}
-
-// The text stands at a place.
-fn stands(list: &[u8], at: usize, text: &[u8]) -> bool
-    ensures { λ r. ⌜ r ≡ begins (now (text .entry)) (drop at (now (list .entry))) ⌝ }
-{
-    let mut i = at;
-    let mut k: usize = 0;
-    while k < text.len() {
-        if i >= list.len() {
-            return false;
-        }
-        if list[i] != text[k] {
-            return false;
-        }
-        i += 1;
-        k += 1;
-    }
-    true
 }
 
 // The step of a kind whose `*` or name stands at a place.

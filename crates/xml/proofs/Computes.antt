@@ -22,19 +22,9 @@ use Rattle.xml.specs.Character.{character}
 use Rattle.xml.specs.Computes.{strip, after, each, keep, member, repeat, rests, derives}
 use Rattle.xml.specs.Judged.{every, judged}
 use Rattle.xml.proofs.Bools.{and-left, and-right}
+use Rattle.xml.proofs.Same.{same-equal, same-refl}
 use Rattle.xml.proofs.Character.{character-utf8, character-some}
 use Rattle.xml.proofs.Language.{reads-language, language-reads, reads-suffix}
-
-same-equal : (s t : List ℕ) → same s t ≡ true → s ≡ t
-same-equal [] [] h = refl
-same-equal [] (y ∷ t) h = absurd (false≢true h)
-same-equal (x ∷ s) [] h = absurd (false≢true h)
-same-equal (x ∷ s) (y ∷ t) h =
-    rw (eqb-true x y (and-left (eqb x y) _ h), same-equal s t (and-right (eqb x y) _ h))
-
-equal-same : (s : List ℕ) → same s s ≡ true
-equal-same [] = refl
-equal-same (x ∷ s) = rw (eq-eqb x x refl, equal-same s)
 
 member-in : (t : List ℕ) (ts : List (List ℕ)) → member t ts ≡ true → In t ts
 unfolding member
@@ -47,7 +37,7 @@ member-in t (u ∷ us) h = go (same t u) refl (member-in t us) h
 
 in-member : {t : List ℕ} {ts : List (List ℕ)} → In t ts → member t ts ≡ true
 unfolding member
-in-member {t} (here {x = u} e) = rw (← e, equal-same)
+in-member {t} (here {x = u} e) = rw (← e, same-refl)
 in-member (there i) = rw (in-member i, or-true)
 
 absent : (t : List ℕ) (ts : List (List ℕ)) → (In t ts → ⊥) → not (member t ts) ≡ true

@@ -1,6 +1,7 @@
 -- What follows from the definitions: UTF-8 by the table and by its rule, characters and runs of them, the notation's ordinary meaning, the
 -- notation computed, and worked examples of every production.
 pub mod Bools
+pub mod Same
 pub mod Utf8
 pub mod Character
 pub mod Run

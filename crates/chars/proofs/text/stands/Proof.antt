@@ -2,15 +2,15 @@
 -- The measure is what is left of the text.
 use Prim.Native.Nat.{_-_}
 use lib.ListN.{length}
-use Rattle.paths.proofs.Places.{standing, Standing}
-use Rattle.paths.proofs.stands.Statement.{statement}
-use Rattle.paths.proofs.stands.Tie as tie
+use Rattle.chars.proofs.Texts.{standing, Standing}
+use Rattle.chars.proofs.text.stands.Statement.{statement}
+use Rattle.chars.proofs.text.stands.Tie as tie
 
 abbrev Inv-loop : tie.InvT-loop
-Inv-loop list at text i₀ k₀ i k = Standing list at text i k
+Inv-loop s at text i₀ k₀ i k = Standing s at text i k
 
 abbrev μ-loop : tie.MeasureT-loop
-μ-loop list at text i₀ k₀ i k = length text - k
+μ-loop s at text i₀ k₀ i k = length text - k
 
 loop-holds : tie.Need-loop-holds Inv-loop μ-loop
 loop-holds c = search standing
