@@ -14,7 +14,7 @@ use lib.Dec.{eqb, ltb}
 use Rattle.xml.specs.Productions.{same}
 use Rattle.compiled.specs.Names.{Named, placeOf, hashFrom, hashOf, Chains, linked, linkedAll, chainsOf}
 use Rattle.compiled.specs.Index.{Once, first, another}
-use Rattle.compiled.proofs.Same.{same-equal, same-other}
+use Rattle.xml.proofs.Same.{same-equal, same-other}
 use Rattle.compiled.proofs.Places.{nameAt, name-left, name-right, place-old, place-new}
 use Rattle.compiled.proofs.Bits.{zeros}
 

@@ -12,7 +12,7 @@ use Rattle.compiled.specs.Bits.{padded}
 use Rattle.compiled.specs.Names.{Named, placeOf, hashOf, unless}
 use Rattle.compiled.specs.Index.{Stands, another, Indexed, Found}
 use Rattle.compiled.specs.Built.{testOf, testIn, Numbers, Entered}
-use Rattle.compiled.proofs.Same.{all-append}
+use Rattle.compiled.proofs.Alls.{all-append}
 use Rattle.compiled.proofs.Places.{place-new}
 use Rattle.compiled.proofs.Bits.{map-snoc, padded-snoc}
 use Rattle.compiled.proofs.Chains.{chains-snoc}

@@ -35,7 +35,7 @@ use Rattle.compiled.specs.Names.{namesOf, listNames, firsts}
 use Rattle.compiled.specs.Compiled.{joined}
 use Rattle.compiled.specs.Built.{numberOf, numberRow, numberRows, testOf, testIn, Built, AtStep, StepDone}
 use Rattle.compiled.specs.Line.{AtPath, AtLine, LineDone}
-use Rattle.compiled.proofs.Same.{all-left, all-right, all-map}
+use Rattle.compiled.proofs.Alls.{all-left, all-right, all-map}
 use Rattle.compiled.proofs.Bits.{bits-below, bits-snoc, power-16, map-snoc, column-get, column-snoc}
 use Rattle.compiled.proofs.Listed.{listed-same}
 use Rattle.compiled.proofs.Numbers.{lists-snoc}

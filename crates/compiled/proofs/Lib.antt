@@ -1,6 +1,6 @@
 -- Laws by part: names and their places, chains, bits and rows; the ways through the code; a list read and compiled; what a caller uses,
 -- worked examples, one answer.
-pub mod Same
+pub mod Alls
 pub mod Places
 pub mod Firsts
 pub mod Chains
@@ -9,7 +9,6 @@ pub mod NameRows
 pub mod Stand
 pub mod Sizes
 pub mod Search
-pub mod Entries
 pub mod Enter
 pub mod Listed
 pub mod Numbers

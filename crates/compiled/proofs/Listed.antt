@@ -15,30 +15,31 @@ use Rattle.compiled.specs.Compiled.{joined}
 use Rattle.compiled.specs.Built.{listed}
 use Rattle.compiled.proofs.NameRows.{Rows, joined-long, joined-row}
 
-module _ (f : ℕ → List ℕ) where
-  listed-many : (i n : ℕ) → length (listed f i n) ≡ n
+module _ {A : Type 0} (f : ℕ → A) where
+  pub listed-many : (i n : ℕ) → length (listed f i n) ≡ n
   listed-many i zero = refl
   listed-many i (suc n) = ap suc (listed-many (suc i) n)
 
-  listed-get : (i n k : ℕ) → k < n → getD (listed f i n) k [] ≡ f (i + k)
-  listed-get i zero k l = absurd (omega arith)
-  listed-get i (suc n) zero l = ap f (sym (add-zero i))
-  listed-get i (suc n) (suc k) l = listed-get (suc i) n k (omega arith) ∙ ap f (suc-add i k ∙ sym (add-suc i k))
+  pub listed-get : (x : A) (i n k : ℕ) → k < n → getD (listed f i n) k x ≡ f (i + k)
+  listed-get x i zero k l = absurd (omega arith)
+  listed-get x i (suc n) zero l = ap f (sym (add-zero i))
+  listed-get x i (suc n) (suc k) l = listed-get x (suc i) n k (omega arith) ∙ ap f (suc-add i k ∙ sym (add-suc i k))
 
+module _ (f : ℕ → List ℕ) where
   module _ (each : (k : ℕ) → length (f k) ≡ 32) where
     listed-rows : (i n : ℕ) → Rows (listed f i n)
     listed-rows i zero = none
     listed-rows i (suc n) = more (each i) (listed-rows (suc i) n)
 
     pub listed-long : (n : ℕ) → length (joined (listed f 0 n)) ≡ 32 * n
-    listed-long n = joined-long (listed f 0 n) (listed-rows 0 n) ∙ ap (λ (m : ℕ). 32 * m) (listed-many 0 n)
+    listed-long n = joined-long (listed f 0 n) (listed-rows 0 n) ∙ ap (λ (m : ℕ). 32 * m) (listed-many f 0 n)
 
     pub listed-entry : (n k p : ℕ) → k < n → p < 32 → getD (joined (listed f 0 n)) (32 * k + p) 0 ≡ getD (f k) p 0
     listed-entry n k p l h =
         sym (getD-drop (32 * k) (joined (listed f 0 n)) p 0)
         ∙ sym (getD-take 32 (drop (32 * k) (joined (listed f 0 n))) p 0 h)
         ∙ ap (λ (r : List ℕ). getD r p 0)
-        (joined-row (listed f 0 n) (listed-rows 0 n) k (rw (listed-many 0 n) l) ∙ listed-get 0 n k l ∙ ap f (zero-add k))
+        (joined-row (listed f 0 n) (listed-rows 0 n) k (rw (listed-many f 0 n) l) ∙ listed-get f [] 0 n k l ∙ ap f (zero-add k))
 
 pub listed-constant : (f : ℕ → List ℕ) (r : List ℕ) → ((k : ℕ) → f k ≡ r) → (i n : ℕ) → listed f i n ≡ replicate n r
 listed-constant f r h i zero = refl

@@ -12,7 +12,8 @@ use Rattle.compiled.specs.Bits.{passes, passesAny, fitOf, otherFit}
 use Rattle.compiled.specs.Names.{Named, placeOf, namesOf}
 use Rattle.compiled.specs.Compiled.{joined, rowsOf}
 use Rattle.compiled.specs.Sizes.{Sized}
-use Rattle.compiled.proofs.Same.{same-other, all-map, all-append}
+use Rattle.xml.proofs.Same.{same-other}
+use Rattle.compiled.proofs.Alls.{all-map, all-append}
 use Rattle.compiled.proofs.Places.{nameAt, place-says}
 use Rattle.compiled.proofs.Firsts.{HasTest, names-have, names-few}
 use Rattle.compiled.proofs.Bits.{column-long, column-alike}

@@ -15,7 +15,7 @@ use Rattle.paths.specs.Path.{printKind, printStep, printAll, printLine, printLi
 use Rattle.compiled.specs.Bits.{bitsOf, stepBits, column}
 use Rattle.compiled.specs.Names.{Named, testNames, stepNames, listNames, firsts, namesOf}
 use Rattle.compiled.specs.Built.{numberOf, numberRow, numberRows, longer}
-use Rattle.compiled.proofs.Same.{all-map}
+use Rattle.compiled.proofs.Alls.{all-map}
 use Rattle.compiled.proofs.Places.{place-least}
 use Rattle.compiled.proofs.Firsts.{HasTest, firsts-append, firsts-kept, names-have, firsts-few, lists-few, steps-few}
 use Rattle.compiled.proofs.Bits.{bits-below, bits-snoc, map-snoc, column-long, column-get, column-snoc, column-alike}

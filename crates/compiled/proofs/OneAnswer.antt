@@ -1,14 +1,12 @@
 -- Two results that a public function's contract allows are equal: one theorem for each function, over its contract as the source states it.
--- What is lent to `read`, `find` and `fit_at` cannot be changed by them, so the result is all that they hand back.
+-- What is lent to `read` and `find` cannot be changed by them, so the result is all that they hand back.
 use mathlib.Core.Path.{_≡_, sym, _∙_}
 use mathlib.Core.List.{List}
 use Prim.Native.Nat.{ℕ}
 use Rattle.paths.specs.Judge.{listAnswer, listPaths}
 use Rattle.compiled.specs.Compiled.{compiledOf}
 use Rattle.compiled.specs.Index.{Tables, Found}
-use Rattle.compiled.specs.Row.{rowIn}
 use Rattle.compiled.specs.declared.compile.ListRead.{ListRead}
-use Rattle.compiled.specs.declared.fit.Fit.{Fit}
 
 abbrev readOf : List ℕ → ListRead
 readOf d = record { answer = listAnswer d; compiled = compiledOf (listPaths d) }
@@ -21,10 +19,3 @@ read-one d r r′ p q = p ∙ sym q
 pub find-one : (d at len head next n : List ℕ) (r r′ : ℕ) → Tables d at len head next
     → Found d at len head next n r → Found d at len head next n r′ → r ≡ r′
 find-one d at len head next n r r′ t p q = p .is (t .names) (t .indexed) ∙ sym (q .is (t .names) (t .indexed))
-
--- `fit::fit_at`
-pub fit-at-one : (rows : List ℕ) (k : ℕ) (r r′ : Fit) → r .bits ≡ rowIn rows k → r′ .bits ≡ rowIn rows k → r ≡ r′
-fit-at-one rows k r r′ p q = same (p ∙ sym q)
-  where
-    same : {a b : List ℕ} → a ≡ b → _≡_ {A = Fit} (record { bits = a }) (record { bits = b })
-    same e = rw e

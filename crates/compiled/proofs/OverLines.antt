@@ -29,7 +29,7 @@ use Rattle.compiled.specs.Built.{numberRow, numberRows, Built}
 use Rattle.compiled.specs.Line.{AtLine, LineDone, tailOf}
 use Rattle.compiled.specs.declared.build.Line.{Line}
 use Rattle.compiled.specs.declared.build.Tail.{Tail}
-use Rattle.compiled.proofs.Same.{all-map}
+use Rattle.compiled.proofs.Alls.{all-map}
 use Rattle.compiled.proofs.Bits.{column-snoc}
 use Rattle.compiled.proofs.NameRows.{joined-zeros}
 use Rattle.compiled.proofs.Listed.{listed-constant}

@@ -11,7 +11,7 @@ use lib.Dec.{ltb}
 use Rattle.xml.specs.Productions.{same}
 use Rattle.compiled.specs.Names.{Named, placed, placeOf}
 use Rattle.compiled.specs.Index.{Once, first, another}
-use Rattle.compiled.proofs.Same.{same-equal, same-refl}
+use Rattle.xml.proofs.Same.{same-equal, same-refl}
 
 abbrev pub nameOf : Named → List ℕ
 nameOf x = x .name

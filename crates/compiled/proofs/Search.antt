@@ -1,76 +1,38 @@
--- The laws of the search for a name. `same`: what is left of both names is compared. `hash`. Tables of names: an entry stands for its name.
+-- The laws of the search for a name. `same`: lengths, and then bytes. `hash`. Tables of names: an entry stands for its name.
 -- `find`: what is left of the chain is searched.
 use mathlib.Core.Path.{_≡_, refl, sym, ap, _∙_}
 use mathlib.Core.Bool.{Bool, true, false}
 use mathlib.Core.List.{List, [], _∷_, map}
 use Prim.Native.Nat.{ℕ, zero, suc, _+_, _-_, _*_, _%_, _≤_, _<_}
-use native.Mathlib.Numerals.{add-one}
 use native.Mathlib.Omega.{arith}
 use borrow.Author.Needs.{needs}
-use borrow.Author.Tests.{eq-eqb, ne-eqb}
-use lib.ListN.{length, take, drop, getD, length-drop, drop-of-length-le}
-use lib.Seq.{length-take-le, getD-take, getD-drop, drop-cons}
+use lib.ListN.{length, take, drop, getD, length-drop}
+use lib.Seq.{length-take-le}
+use Rattle.xml.specs.Character.{begins}
 use Rattle.xml.specs.Productions.{same}
 use Rattle.paths.specs.Path.{All, none, more}
 use Rattle.utf8.proofs.Place.{drop-step, drop-end}
 use Rattle.compiled.specs.Names.{Named, placeOf, hashFrom, hashOf}
 use Rattle.compiled.specs.Bits.{padded}
 use Rattle.compiled.specs.Index.{Stands, Indexed, Tables, Found}
-use Rattle.compiled.proofs.Same.{same-other}
+use Rattle.xml.proofs.Same.{same-other, begins-same}
 use Rattle.compiled.proofs.Places.{nameAt}
 use Rattle.compiled.proofs.Bits.{padded-get}
 use Rattle.compiled.proofs.Chains.{stops, chain, Linked, chains-linked}
 
 -- ---- `same`
 
-pub record Comparing (d : List ℕ) (a n : ℕ) (m : List ℕ) (i : ℕ) : Type 0 where
-  pub long : n ≡ length m
-  pub inside : a + n ≤ length d
-  pub i-in : i ≤ n
-  pub goes : same (drop i (take n (drop a d))) (drop i m) ≡ same (take n (drop a d)) m
+module _ (d : List ℕ) (a n : ℕ) (m : List ℕ) where
+  pub compare-length : a + n ≤ length d → (n ≡ length m → ⊥) → false ≡ same (take n (drop a d)) m
+  compare-length l k = sym (same-other (take n (drop a d)) m (λ e. k (sym long ∙ ap length e)))
+    where
+      long : length (take n (drop a d)) ≡ n
+      long = length-take-le n (drop a d) (let z = length-drop a d in omega arith)
 
-module _ (d : List ℕ) (a n : ℕ) (m : List ℕ) (l : a + n ≤ length d) where
-  part-long : length (take n (drop a d)) ≡ n
-  part-long = length-take-le n (drop a d) (let z = length-drop a d in omega arith)
+  pub compare-bytes : n ≡ length m → {b : Bool} → b ≡ begins m (drop a d) → b ≡ same (take n (drop a d)) m
+  compare-bytes e t = t ∙ begins-same m (drop a d) ∙ ap (λ (k : ℕ). same (take k (drop a d)) m) (sym e)
 
-  pub compare-length : (n ≡ length m → ⊥) → false ≡ same (take n (drop a d)) m
-  compare-length k = sym (same-other (take n (drop a d)) m (λ e. k (sym part-long ∙ ap length e)))
-
-  pub compare-start : n ≡ length m → Comparing d a n m 0
-  compare-start e = record { long = e; inside = l; i-in = omega arith; goes = refl }
-
-module _ {d : List ℕ} {a n : ℕ} {m : List ℕ} {i : ℕ} (v : Comparing d a n m i) where
-  part-step : i < n → drop i (take n (drop a d)) ≡ getD d (a + i) 0 ∷ drop (i + 1) (take n (drop a d))
-  part-step l =
-      let z = part-long d a n m (v .inside) in
-      rw (add-one i)
-      (drop-cons (take n (drop a d)) i 0 (omega arith)
-      ∙ ap (λ (x : ℕ). x ∷ drop (suc i) (take n (drop a d))) (getD-take n (drop a d) i 0 l ∙ getD-drop a d i 0))
-
-  name-step : i < n → drop i m ≡ getD m i 0 ∷ drop (i + 1) m
-  name-step l = rw (add-one i) (drop-cons m i 0 (let z = v .long in omega arith))
-
-  pub compare-other : i < n → (getD d (a + i) 0 ≡ getD m i 0 → ⊥) → false ≡ same (take n (drop a d)) m
-  compare-other l k = sym (rw (part-step l, name-step l, ne-eqb _ _ k)) ∙ v .goes
-
-  pub compare-more : i < n → getD d (a + i) 0 ≡ getD m i 0 → Comparing d a n m (i + 1)
-  compare-more l k =
-      record {
-        long = v .long;
-        inside = v .inside;
-        i-in = omega arith;
-        goes = sym (rw (part-step l, name-step l, eq-eqb _ _ k)) ∙ v .goes;
-      }
-
-  pub compare-end : n ≤ i → true ≡ same (take n (drop a d)) m
-  compare-end l =
-      let z = part-long d a n m (v .inside) in
-      let y = v .long in
-      let p : length (take n (drop a d)) ≤ i = omega arith in
-      let q : length m ≤ i = omega arith in
-      sym (rw (drop-of-length-le (take n (drop a d)) p, drop-of-length-le m q)) ∙ v .goes
-
-pub ruleset comparing = (compare-length, compare-start, compare-other, compare-more, compare-end, needs)
+pub ruleset comparing = (compare-length, compare-bytes, needs)
 
 -- ---- `hash`
 

@@ -13,7 +13,7 @@ use Rattle.compiled.specs.Names.{Named, namesOf}
 use Rattle.compiled.specs.Sizes.{Sized}
 use Rattle.compiled.specs.Compiled.{joined, rowsOf, compiledOf}
 use Rattle.compiled.specs.declared.Compiled.{Compiled}
-use Rattle.compiled.proofs.Same.{all-map, all-append}
+use Rattle.compiled.proofs.Alls.{all-map, all-append}
 use Rattle.compiled.proofs.Firsts.{names-few, names-once}
 use Rattle.compiled.proofs.Bits.{step-bits-below, padded-long, column-long, column-below}
 use Rattle.compiled.proofs.Bits.{Below, below-all, below-padded, all-mapped}

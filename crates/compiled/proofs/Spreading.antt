@@ -18,7 +18,8 @@ use Rattle.compiled.specs.Compiled.{rowsOf}
 use Rattle.compiled.specs.Sizes.{Sized}
 use Rattle.compiled.specs.Built.{numberOf, numberRow, numberRows}
 use Rattle.compiled.specs.Spread.{Spreadable, Spread}
-use Rattle.compiled.proofs.Same.{same-equal, same-refl, all-map}
+use Rattle.xml.proofs.Same.{same-equal, same-refl}
+use Rattle.compiled.proofs.Alls.{all-map}
 use Rattle.compiled.proofs.Places.{nameAt, place-least, place-says, place-once}
 use Rattle.compiled.proofs.Firsts.{HasTest, names-have, names-once, names-few}
 use Rattle.compiled.proofs.Bits.{bits-both, column-long, column-get, column-alike}

@@ -13,7 +13,7 @@ use Rattle.compiled.specs.Names.{testNames, stepNames, listNames, namesO
 use Rattle.compiled.specs.Sizes.{Sized}
 use Rattle.compiled.specs.Index.{Stands, Indexed}
 use Rattle.compiled.specs.Compiled.{compiledOf}
-use Rattle.compiled.proofs.Same.{all-append}
+use Rattle.compiled.proofs.Alls.{all-append}
 use Rattle.compiled.proofs.Firsts.{names-all, names-once, names-few}
 
 -- what is printed before, what the names stand in, what is printed after

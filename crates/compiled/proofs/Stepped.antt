@@ -10,7 +10,7 @@ use Rattle.paths.specs.Path.{none, more}
 use Rattle.compiled.specs.Names.{namesOf}
 use Rattle.compiled.specs.Built.{Held, Numbers, Entered, longer, AtStep, StepDone}
 use Rattle.compiled.specs.declared.build.Numbered.{Numbered}
-use Rattle.compiled.proofs.Same.{all-append}
+use Rattle.compiled.proofs.Alls.{all-append}
 use Rattle.compiled.proofs.Firsts.{names-few}
 use Rattle.compiled.proofs.Numbers.{names-longer, names-room, number-in, last-cell, rows-longer}
 

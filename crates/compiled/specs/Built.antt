@@ -46,7 +46,7 @@ pub record Entered (d at len head next : List ℕ) (names a n : ℕ) (at′ len�
 -- ---- rows by number
 
 -- f i, f (i + 1), .. : n of them
-abbrev pub listed : (ℕ → List ℕ) → ℕ → ℕ → List (List ℕ)
+abbrev pub listed : {A : Type 0} → (ℕ → A) → ℕ → ℕ → List A
 listed f i zero = []
 listed f i (suc n) = f i ∷ listed f (suc i) n
 

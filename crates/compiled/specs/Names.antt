@@ -2,7 +2,7 @@
 -- chains through them by a number of the name, so that a name is found without going through all.
 use mathlib.Core.Bool.{Bool, true, false}
 use mathlib.Core.List.{List, [], _∷_, _++_}
-use Prim.Native.Nat.{ℕ, zero, suc, _+_, _-_, _*_, _%_}
+use Prim.Native.Nat.{ℕ, zero, suc, _+_, _*_, _%_}
 use lib.ListN.{length, getD, set, replicate}
 use Rattle.xml.specs.Productions.{same}
 use Rattle.paths.specs.Path.{Test, any, named, Step, Path, printKind, printStep, printLine}

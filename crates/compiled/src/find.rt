@@ -7,6 +7,7 @@ ghost use Rattle.xml.specs.Productions.{same as sameName};
 ghost use Rattle.compiled.specs.Index.{Tables, Found};
 use crate::Compiled;
 use crate::hashing::hash;
+use chars::text::stands;
 
 // Whether the n bytes of the list at a are the name.
 fn same(list: &[u8], a: usize, n: usize, name: &[u8]) -> bool
@@ -16,14 +17,7 @@ fn same(list: &[u8], a: usize, n: usize, name: &[u8]) -> bool
     if n != name.len() {
         return false;
     }
-    let mut i: usize = 0;
-    while i < n {
-        if list[a + i] != name[i] {
-            return false;
-        }
-        i += 1;
-    }
-    true
+    stands(list, a, name)
 }
 
 // Where a name stands among those of the tables, from 1; 0 where it does not.

@@ -1,8 +1,7 @@
 // A sound path list, compiled for matching: tables by value, every entry of which is a function of the paths, as specs/Compiled.antt has
-// them. A list is read by `compile::read`; a name is looked up by `find::find`, and what it passes is its row, `fit::fit_at`.
+// them. A list is read by `compile::read`; a name is looked up by `find::find`, and what it passes stands in its row.
 pub mod compile; // a list, judged and compiled
 pub mod find; // where a name stands among those of a list
-pub mod fit; // the row of a name
 mod hashing; // the number of a name
 mod rows; // the rows while they are made
 mod build; // the tables, step by step

@@ -1,59 +1,17 @@
--- `same` meets its contract. The loop's invariant: what is left of both names from i on compares as the whole names do.
--- The measure is what is left of n.
-use Prim.Native.Nat.{_-_}
-use Rattle.compiled.proofs.Search.{comparing, Comparing}
+-- `same` meets its contract:
+-- names of two lengths differ, and else their bytes are compared.
+use Rattle.compiled.proofs.Search.{comparing}
 use Rattle.compiled.proofs.find.same.Statement.{statement}
 use Rattle.compiled.proofs.find.same.Tie as tie
 
-abbrev Inv-loop : tie.InvT-loop
-Inv-loop list a n name i₀ i = Comparing list a n name i
-
-abbrev μ-loop : tie.MeasureT-loop
-μ-loop list a n name i₀ i = n - i
-
-returns : tie.Need-returns Inv-loop μ-loop
+returns : tie.Need-returns
 returns c = search comparing
 
-loop-holds : tie.Need-loop-holds Inv-loop μ-loop
-loop-holds c = search comparing
+stands-requires : tie.Need-stands-requires
+stands-requires c κs = search comparing
 
-add-if2 : tie.Need-add-if2 Inv-loop μ-loop
-add-if2 c = search comparing
-
-shared-slice-read-if2 : tie.Need-shared-slice-read-if2 Inv-loop μ-loop
-shared-slice-read-if2 c = search comparing
-
-shared-slice-read-if2-2 : tie.Need-shared-slice-read-if2-2 Inv-loop μ-loop
-shared-slice-read-if2-2 c = search comparing
-
-returns-2 : tie.Need-returns-2 Inv-loop μ-loop
+returns-2 : tie.Need-returns-2
 returns-2 c = search comparing
 
-add-i : tie.Need-add-i Inv-loop μ-loop
-add-i c = search comparing
-
-loop-less : tie.Need-loop-less Inv-loop μ-loop
-loop-less c = search comparing
-
-loop-again : tie.Need-loop-again Inv-loop μ-loop
-loop-again c = search comparing
-
-returns-3 : tie.Need-returns-3 Inv-loop μ-loop
-returns-3 c = search comparing
-
 pub same-spec : {M : Type 1} → statement M
-same-spec =
-    tie.close
-    (tie.spec
-    Inv-loop
-    μ-loop
-    returns
-    loop-holds
-    add-if2
-    shared-slice-read-if2
-    shared-slice-read-if2-2
-    returns-2
-    add-i
-    loop-less
-    loop-again
-    returns-3)
+same-spec = tie.close (tie.spec returns stands-requires returns-2)

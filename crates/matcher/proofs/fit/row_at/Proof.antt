@@ -1,14 +1,12 @@
--- `fit_at` meets its contract. The loop's invariant:
+-- `row_at` meets its contract. The loop's invariant:
 -- the first p numbers are those of the row. The measure is what is left of 32.
-use mathlib.Core.Path.{_≡_}
-use Prim.Native.Nat.{_-_, _*_}
-use Rattle.compiled.specs.Row.{rowOf}
-use Rattle.compiled.proofs.Entries.{copying, Copying}
-use Rattle.compiled.proofs.fit.fit_at.Statement.{statement}
-use Rattle.compiled.proofs.fit.fit_at.Tie as tie
+use Prim.Native.Nat.{_-_}
+use Rattle.matcher.proofs.Rows.{copying, Copying}
+use Rattle.matcher.proofs.fit.row_at.Statement.{statement}
+use Rattle.matcher.proofs.fit.row_at.Tie as tie
 
 abbrev Inv-loop : tie.InvT-loop
-Inv-loop rows k base bits₀ p₀ bits p = (base ≡ 32 * rowOf k) × Copying rows base bits p
+Inv-loop rows k base bits₀ p₀ bits p = Copying rows k base bits p
 
 abbrev μ-loop : tie.MeasureT-loop
 μ-loop rows k base bits₀ p₀ bits p = 32 - p
@@ -46,8 +44,8 @@ loop-again c = search copying
 returns : tie.Need-returns Inv-loop μ-loop
 returns c = search copying
 
-pub fit-at-spec : {M : Type 1} → statement M
-fit-at-spec =
+pub row-at-spec : {M : Type 1} → statement M
+row-at-spec =
     tie.close
     (tie.spec
     Inv-loop

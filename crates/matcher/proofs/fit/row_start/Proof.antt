@@ -3,9 +3,9 @@
 use native.Mathlib.Omega.{arith}
 use borrow.Author.Tests.{lt-ltb, le-ltb}
 use borrow.Author.Needs.{needs}
-use Rattle.compiled.specs.Row.{rowOf}
-use Rattle.compiled.proofs.fit.row_start.Statement.{statement}
-use Rattle.compiled.proofs.fit.row_start.Tie as tie
+use Rattle.matcher.specs.Row.{rowOf}
+use Rattle.matcher.proofs.fit.row_start.Statement.{statement}
+use Rattle.matcher.proofs.fit.row_start.Tie as tie
 
 mul-result : tie.Need-mul-result
 mul-result c = search needs

@@ -1,0 +1,93 @@
+-- The ways through `deeper` and `verdict_on`. `deeper`: the bits of the first p paths are carried. `verdict_on`: the hits of the first p
+-- paths are joined, those that are last steps and those that are last steps of marked paths.
+use mathlib.Core.Path.{_≡_, refl, sym, ap, ap₂, _∙_}
+use mathlib.Core.Bool.{Bool, true, false}
+use mathlib.Core.List.{List}
+use Prim.Native.Nat.{ℕ, zero, suc, _+_, _≤_, _<_}
+use native.Mathlib.Numerals.{add-one}
+use native.Mathlib.Omega.{arith}
+use borrow.Author.Needs.{needs}
+use lib.Bits.{bitAnd, bitOr}
+use lib.ListN.{getD, set, replicate}
+use Rattle.matcher.specs.Says.{decided}
+use Rattle.matcher.specs.State.{carried, carriedAt, deeperOf, joined, nonzero, hitAt, anyHit, verdictBy}
+use Rattle.matcher.specs.declared.Verdict.the-variants.{Unselected, Selected, Marked}
+use Rattle.matcher.specs.declared.fit.Fit.{Fit}
+use Rattle.matcher.specs.declared.state.MatchState.{MatchState}
+use Rattle.matcher.proofs.Fill.{Filled, fill-start, fill-more, fill-end}
+
+-- ---- `deeper`
+
+pub record Carried (state passes descends bits : List ℕ) (p : ℕ) : Type 0 where
+  pub filled : Filled (carriedAt state passes descends) bits p
+
+pub carry-start : (state passes descends : List ℕ) → Carried state passes descends (replicate 32 0) 0
+carry-start state passes descends = record { filled = fill-start (carriedAt state passes descends) }
+
+pub carry-more : {state passes descends bits : List ℕ} {p : ℕ} → Carried state passes descends bits p → p < 32
+    → {x : ℕ} → x ≡ carried (getD state p 0) (getD passes p 0) (getD descends p 0)
+    → Carried state passes descends (set bits p x) (p + 1)
+unfolding carriedAt
+carry-more v l e = record { filled = fill-more (v .filled) l e }
+
+pub carry-end : (m : MatchState) (f : Fit) {bits : List ℕ} {p : ℕ} → Carried (m .bits) (f .passes) (f .descends) bits p → 32 ≤ p
+    → _≡_ {A = MatchState} (record { bits = bits }) (deeperOf m f)
+unfolding deeperOf
+carry-end m f v l = rw (fill-end (v .filled) l)
+
+pub ruleset carrying = (carry-start, carry-more, carry-end, needs)
+
+-- ---- `verdict_on`
+
+pub record Joining (state passes lasts marks : List ℕ) (selected marked p : ℕ) : Type 0 where
+  pub p-in : p ≤ 32
+  pub selected-is : selected ≡ joined (hitAt state passes lasts) p
+  pub marked-is : marked ≡ joined (hitAt state passes marks) p
+
+pub join-start : (state passes lasts marks : List ℕ) → Joining state passes lasts marks 0 0 0
+join-start state passes lasts marks = record { p-in = omega arith; selected-is = refl; marked-is = refl }
+
+module _ {state passes lasts marks : List ℕ} {selected marked p : ℕ} (v : Joining state passes lasts marks selected marked p) where
+  joined-more : (among : List ℕ) {x : ℕ} → x ≡ joined (hitAt state passes among) p
+      → bitOr x (bitAnd (bitAnd (getD state p 0) (getD passes p 0)) (getD among p 0)) ≡ joined (hitAt state passes among) (p + 1)
+  unfolding hitAt
+  joined-more among e = rw (add-one p, e)
+
+  pub join-more : p < 32
+      → Joining state passes lasts marks
+      (bitOr selected (bitAnd (bitAnd (getD state p 0) (getD passes p 0)) (getD lasts p 0)))
+      (bitOr marked (bitAnd (bitAnd (getD state p 0) (getD passes p 0)) (getD marks p 0)))
+      (p + 1)
+  join-more l =
+      record { p-in = omega arith; selected-is = joined-more lasts (v .selected-is); marked-is = joined-more marks (v .marked-is) }
+
+nonzero-not : (n : ℕ) → (n ≡ 0 → ⊥) → nonzero n ≡ true
+nonzero-not zero h = absurd (h refl)
+nonzero-not (suc n) h = refl
+
+nonzero-zero : (n : ℕ) → n ≡ 0 → nonzero n ≡ false
+nonzero-zero zero h = refl
+nonzero-zero (suc n) h = absurd (omega arith)
+
+module _ (m : MatchState) (f : Fit) {selected marked p : ℕ}
+    (v : Joining (m .bits) (f .passes) (f .lasts) (f .marks) selected marked p) (l : 32 ≤ p) where
+  hit-is : (among : List ℕ) {x : ℕ} → x ≡ joined (hitAt (m .bits) (f .passes) among) p → nonzero x ≡ anyHit (m .bits) (f .passes) among
+  unfolding anyHit
+  hit-is among e =
+      let z : p ≡ 32 = let y = v .p-in in omega arith in
+      ap nonzero (e ∙ ap (joined (hitAt (m .bits) (f .passes) among)) z)
+
+  whole : {b c : Bool} → nonzero marked ≡ b → nonzero selected ≡ c → decided b c ≡ verdictBy m f
+  unfolding verdictBy
+  whole q r = ap₂ decided (sym q ∙ hit-is (f .marks) (v .marked-is)) (sym r ∙ hit-is (f .lasts) (v .selected-is))
+
+  pub join-marked : (marked ≡ 0 → ⊥) → Marked ≡ verdictBy m f
+  join-marked h = whole (nonzero-not marked h) refl
+
+  pub join-selected : marked ≡ 0 → (selected ≡ 0 → ⊥) → Selected ≡ verdictBy m f
+  join-selected e h = whole (nonzero-zero marked e) (nonzero-not selected h)
+
+  pub join-none : marked ≡ 0 → selected ≡ 0 → Unselected ≡ verdictBy m f
+  join-none e h = whole (nonzero-zero marked e) (nonzero-zero selected h)
+
+pub ruleset joining = (join-start, join-more, join-marked, join-selected, join-none, needs)

@@ -1,0 +1,8 @@
+-- Definitions, in the order to read them: what a path selects; a test of it; what a list says of an element. Then the matcher on numbers:
+-- an element's fit, states, the verdict.
+pub mod Select
+pub mod Test
+pub mod Says
+pub mod Fit
+pub mod Row
+pub mod State
