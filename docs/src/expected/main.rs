@@ -1,14 +1,23 @@
-// Makes the expected output of the program crates/cases: the same cases, answered by ordinary Rust (plain/), which shares nothing with the
-// Rattle source.
+// Makes the expected output of the programs crates/cases and crates/walks: the same cases, answered by ordinary Rust (plain/), which shares
+// nothing with the Rattle source.
 //
-//     rustc -O -o expected docs/src/expected/main.rs && ./expected > crates/cases/stdout
+//     rustc -O -o expected docs/src/expected/main.rs
+//     ./expected cases > crates/cases/stdout
+//     ./expected walks > crates/walks/stdout
 
 mod chars;
 mod paths;
 #[path = "../plain/mod.rs"]
 mod plain;
+mod walks;
 
 fn main() {
-    chars::print();
-    paths::print();
+    match std::env::args().nth(1).as_deref() {
+        Some("cases") => {
+            chars::print();
+            paths::print();
+        }
+        Some("walks") => walks::print(),
+        _ => panic!("cases or walks"),
+    }
 }

@@ -1,0 +1,35 @@
+-- `main` ends: the measure is how many rounds are left. Nothing is kept over its turns.
+-- Its calls ask for nothing.
+use Prim.Native.Nat.{_-_}
+use borrow.Author.Needs.{needs}
+use Rattle.walks.proofs.main.Statement.{statement}
+use Rattle.walks.proofs.main.Tie as tie
+
+abbrev Inv-loop : tie.InvT-loop
+Inv-loop r₀ r = Unit {0}
+
+abbrev μ-loop : tie.MeasureT-loop
+μ-loop r₀ r = 400 - r
+
+loop-holds : tie.Need-loop-holds Inv-loop μ-loop
+loop-holds c = search needs
+
+round-requires : tie.Need-round-requires Inv-loop μ-loop
+round-requires c κs = search needs
+
+add-r : tie.Need-add-r Inv-loop μ-loop
+add-r c = search needs
+
+loop-less : tie.Need-loop-less Inv-loop μ-loop
+loop-less c = search needs
+
+loop-again : tie.Need-loop-again Inv-loop μ-loop
+loop-again c = search needs
+
+returns : tie.Need-returns Inv-loop μ-loop
+returns c = search needs
+
+pub main-spec : {M : Type 1} → statement M
+main-spec =
+    tie.close
+    (tie.spec Inv-loop μ-loop loop-holds round-requires add-r loop-less loop-again returns)
