@@ -1,4 +1,4 @@
-// What crates/exported hands out, behind a safe function. Nothing checks the declaration against the Rattle source.
+// What the static library of crates/exported hands out, behind a safe function. Nothing checks the declaration against the Rattle source.
 
 extern "C" {
     fn choughbell_check(s: *const u8, len: usize) -> usize;
