@@ -1,0 +1,73 @@
+-- What a reader says in the grammar's words: it decides a production, both ways, wherever only characters are left. In order: a reader
+-- that decides; text; what an end tag and a tag hold; unique names. proofs/ shows it for each reader.
+use mathlib.Core.Path.{_≡_}
+use mathlib.Core.Bool.{Bool, true, false}
+use mathlib.Core.List.{List, [], _∷_, _++_}
+use mathlib.Core.Option.{Option, some}
+use mathlib.Core.Logic.{_⊎_}
+use Prim.Native.Nat.{ℕ}
+use Rattle.xml.specs.Notation.{Rule, Reads, Star, _∣_, text, opt}
+use Rattle.xml.specs.Productions.{Char, CharData, S, Name, Eq, AttValue}
+use Rattle.readers.specs.Named.{Piece, Tag}
+
+-- only characters of [2] are left
+abbrev pub Chars : List ℕ → Type 0
+Chars s = Star (Reads Char) s []
+
+pub record Decides (r : Rule) (f : List ℕ → Option (List ℕ)) : Type 0 where
+  pub sound : {s t : List ℕ} → Chars s → f s ≡ some t → Reads r s t
+  pub complete : {s t : List ℕ} → Chars s → Reads r s t → f s ≡ some t
+
+-- text goes up to the next `<`, `&` or the end
+pub record TextIs (s t : List ℕ) : Type 0 where
+  pub reads : Reads CharData s t
+  pub stops : (t ≡ []) ⊎ ((u : List ℕ) × Reads (text "<" ∣ text "&") t u)
+
+-- ---- end tags: '</' Name S? '>'
+
+pub record EndTagIs (s : List ℕ) (v : Piece) : Type 0 where
+  pub from : List ℕ
+  pub to : List ℕ
+  pub last : List ℕ
+  pub opens : Reads (text "</") s from
+  pub named : Reads Name from to
+  pub name-is : from ≡ v .name ++ to
+  pub blank : Reads (opt S) to last
+  pub closes : Reads (text ">") last (v .rest)
+
+-- ---- tags: '<' Name (S Attribute)* S? and then '>' or '/>'
+
+-- any number of S Attribute, with the attributes' names
+pub data Attributes : List (List ℕ) → List ℕ → List ℕ → Type 0 where
+  done : {s : List ℕ} → Attributes [] s s
+  more : {n : List ℕ} {ns : List (List ℕ)} {s a b c e t : List ℕ}
+      → Reads S s a → Reads Name a b → a ≡ n ++ b → Reads Eq b c → Reads AttValue c e → Attributes ns e t → Attributes (n ∷ ns) s t
+
+abbrev pub tagEnd : Bool → Rule
+tagEnd true = text "/>"
+tagEnd false = text ">"
+
+pub record TagIs (s : List ℕ) (v : Tag) : Type 0 where
+  pub from : List ℕ
+  pub to : List ℕ
+  pub after : List ℕ
+  pub last : List ℕ
+  pub opens : Reads (text "<") s from
+  pub named : Reads Name from to
+  pub name-is : from ≡ v .name ++ to
+  pub attributes : Attributes (v .attributes) to after
+  pub blank : Reads (opt S) after last
+  pub head-is : s ≡ v .head ++ last
+  pub closes : Reads (tagEnd (v .empty)) last (v .rest)
+
+-- ---- WFC Unique Att Spec: no attribute name stands twice in a tag
+
+-- n is none of the names
+abbrev pub Other : List ℕ → List (List ℕ) → Type 0
+Other n [] = Unit {0}
+Other n (m ∷ ns) = (n ≡ m → ⊥) × Other n ns
+
+-- each name is another than all later ones
+abbrev pub Unique : List (List ℕ) → Type 0
+Unique [] = Unit {0}
+Unique (n ∷ ns) = Other n ns × Unique ns
