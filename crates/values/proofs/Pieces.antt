@@ -1,0 +1,120 @@
+-- Pieces of a value, between quotes q: what is no mark is passed. Then the loop; its invariant: what the pieces leave from i on is what
+-- they leave from the start, and a mark stands at i, or i is the end. At `&` a reference is read, and at any other mark the pieces end.
+-- Last, a value in its quotes.
+use mathlib.Core.Path.{_≡_, refl, sym, ap, _∙_}
+use mathlib.Core.Bool.{Bool, true, false, cond}
+use mathlib.Core.List.{List, [], _∷_}
+use mathlib.Core.Option.{none, some}
+use Prim.Native.Nat.{ℕ, _+_, _-_, _≤_, _<_}
+use native.Mathlib.Omega.{arith}
+use borrow.Author.Needs.{needs}
+use lib.ListN.{length, getD, drop, length-drop}
+use Rattle.utf8.specs.Place.{endsAt}
+use Rattle.utf8.proofs.Place.{drop-step, drop-end}
+use Rattle.chars.specs.Block.{until}
+use Rattle.chars.specs.Name.{readingAt}
+use Rattle.chars.specs.declared.name.Reading.{Reading}
+use Rattle.chars.specs.declared.name.Reading.the-variants.{Ends, Fault}
+use Rattle.readers.specs.Read.{expect, many}
+use Rattle.readers.specs.Plain.{isMark}
+use Rattle.readers.specs.Value.{referenceOf, pieceOf, quotedOf}
+use Rattle.readers.specs.Answer.{Answers, ends}
+use Rattle.readers.proofs.Answers.{ends-some, ends-inside, fault-none, then-ends, then-fault}
+use Rattle.readers.proofs.Many.{many-stop, many-step, shrinks-nil, shrinks-length, reading-answers}
+use Rattle.readers.proofs.Value.{reference-shrinks, reference-other, piece-plain, piece-marked, piece-shrinks}
+use Rattle.plain.proofs.Ends.{byte-answers}
+use Rattle.plain.proofs.Marks.{until-rest, until-ahead, until-inside, until-there}
+
+-- what is no mark is passed
+pub pieces-until : (q : ℕ) (s : List ℕ) → many (pieceOf q) 0 (until (isMark q) s) ≡ many (pieceOf q) 0 s
+unfolding until
+pieces-until q [] = refl
+pieces-until q (b ∷ s) = go (isMark q b) refl (pieces-until q s)
+  where
+    go : (x : Bool) → isMark q b ≡ x → many (pieceOf q) 0 (until (isMark q) s) ≡ many (pieceOf q) 0 s
+        → many (pieceOf q) 0 (cond x (b ∷ s) (until (isMark q) s)) ≡ many (pieceOf q) 0 (b ∷ s)
+    go true e rec = refl
+    go false e rec = rec ∙ sym (many-step (piece-shrinks q) (b ∷ s) s (piece-plain q b s e))
+
+-- ---- the loop
+
+pub record Between (q : ℕ) (d : List ℕ) (at i : ℕ) : Type 0 where
+  pub ahead : at ≤ i
+  pub inside : i ≤ length d
+  pub mark : i < length d → isMark q (getD d i 0) ≡ true
+  pub same : many (pieceOf q) 0 (drop i d) ≡ many (pieceOf q) 0 (drop at d)
+
+pub pieces-start : {q : ℕ} {d : List ℕ} {at i : ℕ} → at ≤ length d → i ≡ endsAt d at (until (isMark q) (drop at d)) → Between q d at i
+pieces-start {q} {d} {at} {i} h e =
+    record {
+      ahead = until-ahead (isMark q) d at e;
+      inside = until-inside (isMark q) d at e h;
+      mark = until-there (isMark q) d at e;
+      same = ap (many (pieceOf q) 0) (until-rest (isMark q) d at e) ∙ pieces-until q (drop at d);
+    }
+
+module _ {q : ℕ} {d : List ℕ} {at i : ℕ} (v : Between q d at i) where
+  -- where no piece stands, the pieces end
+  stops : pieceOf q (drop i d) ≡ none → Answers d at (Ends i) (some (many (pieceOf q) 0 (drop at d)))
+  stops e =
+      ends {e = i} (record { rest = sym (many-stop (pieceOf q) (drop i d) e) ∙ v .same; inside = v .inside }) (v .ahead)
+
+  pub pieces-end : length d ≤ i → Answers d at (Ends i) (some (many (pieceOf q) 0 (drop at d)))
+  pieces-end h = stops (rw (drop-end d i h) (shrinks-nil (piece-shrinks q)))
+
+  module _ (l : i < length d) where
+    at-mark : pieceOf q (drop i d) ≡ referenceOf (drop i d)
+    at-mark = rw (drop-step d i l) (piece-marked q (getD d i 0) (drop (i + 1) d) (v .mark l))
+
+    pub pieces-other : (getD d i 0 ≡ 0x26 → ⊥) → Answers d at (Ends i) (some (many (pieceOf q) 0 (drop at d)))
+    pieces-other n = stops (at-mark ∙ rw (drop-step d i l) (reference-other (getD d i 0) (drop (i + 1) d) n))
+
+    module _ {r : Reading} (e : r ≡ readingAt d i (referenceOf (drop i d))) where
+      answered : Answers d i r (referenceOf (drop i d))
+      answered = reading-answers reference-shrinks d i e
+
+      pub pieces-fault : r ≡ Fault → Answers d at (Ends i) (some (many (pieceOf q) 0 (drop at d)))
+      pieces-fault f = stops (at-mark ∙ fault-none answered f)
+
+      module _ {j : ℕ} (f : r ≡ Ends j) where
+        longer : i < j
+        longer =
+            let a = shrinks-length reference-shrinks (drop i d) (drop j d) (ends-some answered f) in
+            let b = ends-inside answered f in
+            omega (arith, length-drop i d, length-drop j d)
+
+        module _ {k : ℕ} (g : k ≡ endsAt d j (until (isMark q) (drop j d))) where
+          pub pieces-on : Between q d at k
+          pieces-on =
+              let w : Between q d j k = pieces-start (ends-inside answered f) g in
+              let a : j ≤ k = w .ahead in
+              let b : at ≤ i = v .ahead in
+              let c = longer in
+              record {
+                ahead = omega arith;
+                inside = w .inside;
+                mark = w .mark;
+                same =
+                    w .same
+                    ∙ sym (many-step (piece-shrinks q) (drop i d) (drop j d) (at-mark ∙ ends-some answered f))
+                    ∙ v .same;
+              }
+
+          pub pieces-less : length d - k < length d - i
+          pieces-less = let c = longer in let a = until-ahead (isMark q) d j g in omega arith
+
+pub ruleset piecing = (pieces-start, pieces-end, pieces-other, pieces-fault, pieces-on, pieces-less, needs)
+
+-- ---- in quotes
+
+module _ (q : ℕ) {d : List ℕ} (at : ℕ) {r : Reading} (a : Answers d at r (expect (q ∷ []) (drop at d))) where
+  pub quoted-fault : r ≡ Fault → Answers d at Fault (quotedOf q (drop at d))
+  unfolding quotedOf
+  quoted-fault f = then-fault a _ f
+
+  pub quoted-ends : {i k : ℕ} {r′ : Reading} → r ≡ Ends i → Answers d i (Ends k) (some (many (pieceOf q) 0 (drop i d)))
+      → Answers d k r′ (expect (q ∷ []) (drop k d)) → Answers d at r′ (quotedOf q (drop at d))
+  unfolding quotedOf
+  quoted-ends f b c = then-ends a _ f (then-ends b (expect (q ∷ [])) refl c)
+
+pub ruleset quoting = (byte-answers, quoted-fault, quoted-ends, ends-inside, needs)
