@@ -1,0 +1,44 @@
+// The items of a document, one reader for each kind that has a name in it, and one that tells the kind of the item at a place and reads it.
+// Readers are total: any slice and any place, bytes that are no characters too. What an item means is in specs/ and in the crate readers.
+pub mod instruction; // another `<?`
+pub mod declaration; // `<?xml` and white space, as first item
+pub mod finish; // end tags
+pub mod names; // names compared
+mod steps; // what several readers step over
+mod gather; // the attributes of a tag
+pub mod tag; // start tags and empty tags
+pub mod told; // the item at a place
+
+// What stands at a place. A sound item with the place of its end; a tag also with the length of its name, which begins after `<` or `</`;
+// a start or empty tag also with the place of its final `>` or `/>`, and whether an attribute's name stands twice. Or the fault: a document
+// type; a broken production; over a size. Nothing stands past the end.
+pub enum Item {
+    Declaration(usize),
+    Instruction(usize),
+    Comment(usize),
+    Section(usize),
+    Reference(usize),
+    Text(usize),
+    Start {
+        name: usize,
+        head: usize,
+        end: usize,
+        empty: bool,
+        twice: bool,
+    },
+    Finish {
+        name: usize,
+        end: usize,
+    },
+    Doctype,
+    Malformed,
+    TooLarge,
+    Nothing,
+}
+
+// The sizes of document 01 for an item: bytes of a name, attributes of a tag.
+impl Item {
+    pub const NAME: usize = 255;
+
+    pub const ATTRIBUTES: usize = 32;
+}
