@@ -1,0 +1,7 @@
+-- Laws: an item in its place, and what is open after it; the answer on a document; one answer; worked
+-- examples.
+pub mod Placing
+pub mod After
+pub mod Judging
+pub mod OneAnswer
+pub mod Examples
