@@ -6,20 +6,32 @@ pub fn text(s: &[u8]) {
     io::write_all(STDOUT_FILENO, s);
 }
 
+// The end of a line.
+pub fn end() {
+    text(b"\n");
+}
+
 // A space, and n in decimal.
 pub fn number(n: usize) {
-    io::write_all(STDOUT_FILENO, b" ");
+    text(b" ");
     io::print_decimal(STDOUT_FILENO, n as u64);
 }
 
-// A code point in four hexadecimal digits or more.
-pub fn point(c: u32) {
-    io::print_hex(STDOUT_FILENO, c as u64, 4);
+// n in hexadecimal, in so many digits or more.
+fn hex(n: usize, width: usize) {
+    io::print_hex(STDOUT_FILENO, n as u64, width);
+}
+
+// A line of n in hexadecimal and x in decimal.
+pub fn line(n: usize, width: usize, x: usize) {
+    hex(n, width);
+    number(x);
+    end();
 }
 
 // A byte in two hexadecimal digits.
-pub fn byte(b: u8) {
-    io::print_hex(STDOUT_FILENO, b as u64, 2);
+fn byte(b: u8) {
+    hex(b as usize, 2);
 }
 
 // Each byte of s.

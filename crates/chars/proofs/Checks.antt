@@ -17,14 +17,14 @@ use Rattle.xml.proofs.Bools.{and-right}
 use Rattle.xml.proofs.Character.{character-high}
 use Rattle.xml.proofs.Run.{starts-low, reads-starts, reads-rest, run-low, run-step, run-stop, run-stops, run-holds, run-length}
 use Rattle.utf8.specs.Place.{Stands}
-use Rattle.chars.specs.Block.{until, isOther}
+use Rattle.blocks.specs.Block.{until, isOther}
 use Rattle.chars.specs.Check.{checkOf, isHigh}
 use Rattle.utf8.specs.Sequence.{sequenceAt}
 use Rattle.utf8.specs.declared.Sequence.{Sequence}
 use Rattle.utf8.specs.declared.Sequence.the-variants.{Point, Bad}
 use Rattle.chars.specs.declared.whole.Checked.the-variants.{All, BadAt}
 use Rattle.utf8.proofs.Place.{drop-step, drop-end}
-use Rattle.chars.proofs.Plain.{other-plain, other-low}
+use Rattle.blocks.proofs.Plain.{other-plain, other-low}
 use Rattle.chars.proofs.Runs.{point-starts, bad-starts, point-wide, Running, run-start, run-stands, run-whole, run-less, run-on}
 
 -- ---- plain bytes

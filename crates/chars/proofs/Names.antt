@@ -14,14 +14,14 @@ use Rattle.xml.specs.Productions.{isNameStart, isName}
 use Rattle.xml.proofs.Utf8.{utf8-low}
 use Rattle.xml.proofs.Character.{character-low}
 use Rattle.xml.proofs.Run.{starts-low, wide-long}
-use Rattle.chars.specs.Class.{classOf}
+use Rattle.points.specs.Class.{classOf}
 use Rattle.chars.specs.Name.{nameOf, nameAt, nameEnd, nameStep}
 use Rattle.utf8.specs.Sequence.{sequenceAt}
 use Rattle.utf8.specs.declared.Sequence.{Sequence}
 use Rattle.utf8.specs.declared.Sequence.the-variants.{Point, Bad}
 use Rattle.chars.specs.declared.name.Reading.the-variants.{Ends, Fault}
 use Rattle.utf8.proofs.Place.{drop-step}
-use Rattle.chars.proofs.Classes.{class-none, class-name, class-start, class-other}
+use Rattle.points.proofs.Classes.{class-none, class-name, class-start, class-other}
 use Rattle.chars.proofs.Runs.{point-starts, bad-starts, point-wide, Running, run-start, run-ends, run-over, run-less, run-on}
 
 -- ---- one step

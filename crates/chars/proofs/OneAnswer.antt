@@ -6,8 +6,7 @@ use mathlib.Core.List.{List}
 use Prim.Native.Nat.{ℕ}
 use lib.ListN.{drop}
 use Rattle.xml.specs.Character.{begins}
-use Rattle.xml.specs.Productions.{isChar, isSpace}
-use Rattle.chars.specs.Class.{classOf, classTable}
+use Rattle.xml.specs.Productions.{isSpace}
 use Rattle.chars.specs.Check.{checkOf}
 use Rattle.chars.specs.Space.{spaceEnd}
 use Rattle.chars.specs.Name.{nameAt}
@@ -16,18 +15,6 @@ use Rattle.chars.specs.declared.name.Reading.{Reading}
 
 both : {A : Type 0} {x r r′ : A} → r ≡ x → r′ ≡ x → r ≡ r′
 both p q = p ∙ sym q
-
--- `allowed::is_char`
-pub is-char-one : (c : ℕ) (r r′ : Bool) → r ≡ isChar c → r′ ≡ isChar c → r ≡ r′
-is-char-one c r r′ = both
-
--- `table::classes`
-pub classes-one : (r r′ : List ℕ) → r ≡ classTable → r′ ≡ classTable → r ≡ r′
-classes-one r r′ = both
-
--- `class::class_of`
-pub class-of-one : (c r r′ : ℕ) → r ≡ classOf c → r′ ≡ classOf c → r ≡ r′
-class-of-one c r r′ = both
 
 -- `whole::check`
 pub check-one : (s : List ℕ) (r r′ : Checked) → r ≡ checkOf s → r′ ≡ checkOf s → r ≡ r′

@@ -1,7 +1,5 @@
--- Definitions by part of the crate: classes, blocks, the check, white space, names;
+-- Definitions by part of the crate: the check, white space, names;
 -- and what their answers say.
-pub mod Class
-pub mod Block
 pub mod Check
 pub mod Space
 pub mod Name

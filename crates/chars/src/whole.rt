@@ -6,8 +6,8 @@ ghost use lib.ListN.{length, drop};
 ghost use Rattle.xml.specs.Character.{run};
 ghost use Rattle.utf8.specs.Place.{Stands};
 ghost use Rattle.chars.specs.Check.{checkOf, isHigh};
-use crate::allowed::is_char;
-use crate::block::after_plain;
+use blocks::block::after_plain;
+use points::allowed::is_char;
 use utf8::Sequence;
 use utf8::sequence_at;
 

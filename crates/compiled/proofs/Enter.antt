@@ -8,14 +8,14 @@ use native.Mathlib.Omega.{arith}
 use lib.ListN.{length, take, drop, getD, set, length-append, length-map, length-drop}
 use lib.Seq.{length-take-le}
 use Rattle.paths.specs.Path.{named, none, more}
-use Rattle.compiled.specs.Bits.{padded}
-use Rattle.compiled.specs.Names.{Named, placeOf, hashOf, unless}
-use Rattle.compiled.specs.Index.{Stands, another, Indexed, Found}
+use Rattle.lookup.specs.Names.{Named, placeOf, hashOf, unless}
+use Rattle.lookup.specs.Index.{padded, Stands, another, Indexed, Found}
 use Rattle.compiled.specs.Built.{testOf, testIn, Numbers, Entered}
 use Rattle.compiled.proofs.Alls.{all-append}
-use Rattle.compiled.proofs.Places.{place-new}
-use Rattle.compiled.proofs.Bits.{map-snoc, padded-snoc}
-use Rattle.compiled.proofs.Chains.{chains-snoc}
+use Rattle.lookup.proofs.Padded.{padded-snoc}
+use Rattle.lookup.proofs.Places.{place-new}
+use Rattle.compiled.proofs.Bits.{map-snoc}
+use Rattle.lookup.proofs.Chains.{chains-snoc}
 
 test-some : (d : List ℕ) (a n : ℕ) → (n ≡ 0 → ⊥) → testIn d a n ≡ named (take n (drop a d))
 unfolding testIn

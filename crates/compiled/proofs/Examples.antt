@@ -7,8 +7,9 @@ use lib.ListN.{take}
 use Rattle.xml.specs.Notation.{bytes}
 use Rattle.paths.specs.Path.{Test, any, named, Step, Path, printStep, printLine, printList}
 use Rattle.paths.specs.declared.Kind.the-variants.{Child, Descendant}
-use Rattle.compiled.specs.Bits.{padded, column, descendsOf, lastsOf, marksOf, fitOf, otherFit}
-use Rattle.compiled.specs.Names.{namesOf, placeOf}
+use Rattle.compiled.specs.Bits.{column, descendsOf, lastsOf, marksOf, fitOf, otherFit}
+use Rattle.lookup.specs.Names.{namesOf, placeOf}
+use Rattle.lookup.specs.Index.{padded}
 
 abbrev child : Test → Step
 child x = record { kind = Child; test = x }

@@ -6,10 +6,10 @@ use Prim.Native.Nat.{ℕ, zero, suc, _+_, _*_, _≤_}
 use native.Mathlib.Omega.{arith}
 use lib.ListN.{length, length-append}
 use Rattle.paths.specs.Path.{Test, any, named, Step, Path, All, none, more, printKind, printStep, printLine}
-use Rattle.compiled.specs.Names.{Named, placeOf, unless, firsts, testNames, stepNames, listNames, namesOf}
-use Rattle.compiled.specs.Index.{Once, first, another}
+use Rattle.lookup.specs.Names.{Named, placeOf, unless, firsts, testNames, stepNames, listNames, namesOf}
+use Rattle.lookup.specs.Index.{Once, first, another}
 use Rattle.compiled.proofs.Alls.{all-left, all-right}
-use Rattle.compiled.proofs.Places.{Has, has-left, has-right, place-kept}
+use Rattle.lookup.proofs.Places.{Has, has-left, has-right, place-kept}
 
 -- ---- names met
 

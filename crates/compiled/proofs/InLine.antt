@@ -31,7 +31,7 @@ use Rattle.paths.proofs.Steps.{step-undoes, step-long}
 use Rattle.paths.proofs.Lines.{line-print, end-no-step, after-step}
 use Rattle.paths.proofs.Meaning.{says, paths-print}
 use Rattle.compiled.specs.Bits.{bit, bitsOf, stepBits, column, descends, lastBit}
-use Rattle.compiled.specs.Names.{namesOf, listNames, firsts}
+use Rattle.lookup.specs.Names.{namesOf, listNames, firsts}
 use Rattle.compiled.specs.Compiled.{joined}
 use Rattle.compiled.specs.Built.{numberOf, numberRow, numberRows, testOf, testIn, Built, AtStep, StepDone}
 use Rattle.compiled.specs.Line.{AtPath, AtLine, LineDone}

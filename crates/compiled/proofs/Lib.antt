@@ -1,14 +1,11 @@
--- Laws by part: names and their places, chains, bits and rows; the ways through the code; a list read and compiled; what a caller uses,
--- worked examples, one answer.
+-- Laws by part: names, bits and rows; the ways through the code; a list read and compiled; what a caller uses, worked examples, one
+-- answer.
 pub mod Alls
-pub mod Places
 pub mod Firsts
-pub mod Chains
 pub mod Bits
 pub mod NameRows
 pub mod Stand
 pub mod Sizes
-pub mod Search
 pub mod Enter
 pub mod Listed
 pub mod Numbers

@@ -6,8 +6,8 @@ use Prim.Native.Nat.{ℕ}
 use Rattle.paths.specs.Judge.{listAnswer, listPaths}
 use Rattle.paths.specs.declared.ListAnswer.the-variants.{Sound}
 use Rattle.paths.proofs.Meaning.{paths-print}
-use Rattle.compiled.specs.Names.{namesOf}
-use Rattle.compiled.specs.Index.{Indexed, Tables}
+use Rattle.lookup.specs.Names.{namesOf}
+use Rattle.lookup.specs.Index.{Indexed, Tables}
 use Rattle.compiled.specs.Compiled.{compiledOf}
 use Rattle.compiled.specs.declared.Compiled.{Compiled}
 use Rattle.compiled.proofs.Stand.{compiled-indexed}

@@ -9,12 +9,12 @@ use lib.ListN.{length-map, length-replicate, getD-replicate, replicate-append-re
 use lib.Seq.{take-at, drop-append-add, getD-append-add}
 use Rattle.paths.specs.Path.{Test, any, named, Path, All, none, more}
 use Rattle.compiled.specs.Bits.{passes, passesAny, fitOf, otherFit}
-use Rattle.compiled.specs.Names.{Named, placeOf, namesOf}
+use Rattle.lookup.specs.Names.{Named, placeOf, namesOf}
 use Rattle.compiled.specs.Compiled.{joined, rowsOf}
 use Rattle.compiled.specs.Sizes.{Sized}
 use Rattle.xml.proofs.Same.{same-other}
 use Rattle.compiled.proofs.Alls.{all-map, all-append}
-use Rattle.compiled.proofs.Places.{nameAt, place-says}
+use Rattle.lookup.proofs.Places.{nameAt, place-says}
 use Rattle.compiled.proofs.Firsts.{HasTest, names-have, names-few}
 use Rattle.compiled.proofs.Bits.{column-long, column-alike}
 

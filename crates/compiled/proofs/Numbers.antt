@@ -13,10 +13,10 @@ use lib.Dec.{eqb}
 use Rattle.paths.specs.Path.{Test, any, named, Step, Path, All}
 use Rattle.paths.specs.Path.{printKind, printStep, printAll, printLine, printList}
 use Rattle.compiled.specs.Bits.{bitsOf, stepBits, column}
-use Rattle.compiled.specs.Names.{Named, testNames, stepNames, listNames, firsts, namesOf}
+use Rattle.lookup.specs.Names.{Named, testNames, stepNames, listNames, firsts, namesOf}
 use Rattle.compiled.specs.Built.{numberOf, numberRow, numberRows, longer}
 use Rattle.compiled.proofs.Alls.{all-map}
-use Rattle.compiled.proofs.Places.{place-least}
+use Rattle.lookup.proofs.Places.{place-least}
 use Rattle.compiled.proofs.Firsts.{HasTest, firsts-append, firsts-kept, names-have, firsts-few, lists-few, steps-few}
 use Rattle.compiled.proofs.Bits.{bits-below, bits-snoc, map-snoc, column-long, column-get, column-snoc, column-alike}
 use Rattle.compiled.proofs.Listed.{listed-entry, listed-set}

@@ -1,11 +1,10 @@
 -- Two results that a public function's contract allows are equal: one theorem for each function, over its contract as the source states it.
--- What is lent to `read` and `find` cannot be changed by them, so the result is all that they hand back.
+-- What is lent to `read` cannot be changed by it, so the result is all that it hands back.
 use mathlib.Core.Path.{_≡_, sym, _∙_}
 use mathlib.Core.List.{List}
 use Prim.Native.Nat.{ℕ}
 use Rattle.paths.specs.Judge.{listAnswer, listPaths}
 use Rattle.compiled.specs.Compiled.{compiledOf}
-use Rattle.compiled.specs.Index.{Tables, Found}
 use Rattle.compiled.specs.declared.compile.ListRead.{ListRead}
 
 abbrev readOf : List ℕ → ListRead
@@ -14,8 +13,3 @@ readOf d = record { answer = listAnswer d; compiled = compiledOf (listPaths d) }
 -- `compile::read`
 pub read-one : (d : List ℕ) (r r′ : ListRead) → r ≡ readOf d → r′ ≡ readOf d → r ≡ r′
 read-one d r r′ p q = p ∙ sym q
-
--- `find::find`, where the tables are those of some names, as it asks
-pub find-one : (d at len head next n : List ℕ) (r r′ : ℕ) → Tables d at len head next
-    → Found d at len head next n r → Found d at len head next n r′ → r ≡ r′
-find-one d at len head next n r r′ t p q = p .is (t .names) (t .indexed) ∙ sym (q .is (t .names) (t .indexed))

@@ -19,9 +19,9 @@ use Rattle.paths.specs.declared.LineEnd.{LineEnd}
 use Rattle.paths.specs.declared.LineEnd.the-variants.{Ends, Fault}
 use Rattle.paths.proofs.Lines.{end-undoes, line-print, line-long}
 use Rattle.paths.proofs.Meaning.{paths-print}
-use Rattle.compiled.specs.Bits.{padded, column, descends, lastBit, descendsOf, lastsOf, marksOf}
-use Rattle.compiled.specs.Names.{namesOf, chainsOf}
-use Rattle.compiled.specs.Index.{Indexed, first}
+use Rattle.compiled.specs.Bits.{column, descends, lastBit, descendsOf, lastsOf, marksOf}
+use Rattle.lookup.specs.Names.{namesOf, chainsOf}
+use Rattle.lookup.specs.Index.{padded, Indexed, first}
 use Rattle.compiled.specs.Sizes.{Sized}
 use Rattle.compiled.specs.Compiled.{joined, compiledOf}
 use Rattle.compiled.specs.Spread.{Spreadable, Spread}

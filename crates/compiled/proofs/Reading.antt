@@ -8,8 +8,9 @@ use lib.ListN.{replicate}
 use Rattle.paths.specs.Judge.{listAnswer, listPaths}
 use Rattle.paths.specs.declared.ListAnswer.{ListAnswer}
 use Rattle.paths.specs.declared.ListAnswer.the-variants.{Sound, TooLong, Malformed, TooLarge}
-use Rattle.compiled.specs.Bits.{padded, column, descendsOf, lastsOf, marksOf, otherFit}
-use Rattle.compiled.specs.Names.{namesOf, chainsOf}
+use Rattle.compiled.specs.Bits.{column, descendsOf, lastsOf, marksOf, otherFit}
+use Rattle.lookup.specs.Names.{namesOf, chainsOf}
+use Rattle.lookup.specs.Index.{padded}
 use Rattle.compiled.specs.Compiled.{rowsOf, compiledOf}
 use Rattle.compiled.specs.declared.Compiled.{Compiled}
 use Rattle.compiled.specs.declared.compile.ListRead.{ListRead}

@@ -8,17 +8,19 @@ use native.Mathlib.Omega.{arith}
 use native.Mathlib.Nat.{pow-le-pow-right}
 use lib.ListN.{length, replicate, length-map}
 use Rattle.paths.specs.Path.{Path, All, none, more}
-use Rattle.compiled.specs.Bits.{column, padded, lastBit, descendsOf, lastsOf, marksOf, fitOf, otherFit}
-use Rattle.compiled.specs.Names.{Named, namesOf}
+use Rattle.compiled.specs.Bits.{column, lastBit, descendsOf, lastsOf, marksOf, fitOf, otherFit}
+use Rattle.lookup.specs.Names.{Named, namesOf}
+use Rattle.lookup.specs.Index.{padded}
 use Rattle.compiled.specs.Sizes.{Sized}
 use Rattle.compiled.specs.Compiled.{joined, rowsOf, compiledOf}
 use Rattle.compiled.specs.declared.Compiled.{Compiled}
 use Rattle.compiled.proofs.Alls.{all-map, all-append}
 use Rattle.compiled.proofs.Firsts.{names-few, names-once}
-use Rattle.compiled.proofs.Bits.{step-bits-below, padded-long, column-long, column-below}
+use Rattle.compiled.proofs.Bits.{step-bits-below, column-long, column-below}
 use Rattle.compiled.proofs.Bits.{Below, below-all, below-padded, all-mapped}
 use Rattle.compiled.proofs.NameRows.{rows-long}
-use Rattle.compiled.proofs.Chains.{chains-linked}
+use Rattle.lookup.proofs.Padded.{padded-long}
+use Rattle.lookup.proofs.Chains.{chains-linked}
 use Rattle.compiled.proofs.Stand.{names-stand}
 
 -- the lengths of the arrays

@@ -13,14 +13,14 @@ use lib.Dec.{eqb, ltb}
 use Rattle.xml.specs.Productions.{same}
 use Rattle.paths.specs.Path.{Test, any, named, Step, Path, All, none, more}
 use Rattle.compiled.specs.Bits.{stepBits, column, passes, passesAny, fitOf, otherFit}
-use Rattle.compiled.specs.Names.{Named, placeOf, namesOf}
+use Rattle.lookup.specs.Names.{Named, placeOf, namesOf}
 use Rattle.compiled.specs.Compiled.{rowsOf}
 use Rattle.compiled.specs.Sizes.{Sized}
 use Rattle.compiled.specs.Built.{numberOf, numberRow, numberRows}
 use Rattle.compiled.specs.Spread.{Spreadable, Spread}
 use Rattle.xml.proofs.Same.{same-equal, same-refl}
 use Rattle.compiled.proofs.Alls.{all-map}
-use Rattle.compiled.proofs.Places.{nameAt, place-least, place-says, place-once}
+use Rattle.lookup.proofs.Places.{nameAt, place-least, place-says, place-once}
 use Rattle.compiled.proofs.Firsts.{HasTest, names-have, names-once, names-few}
 use Rattle.compiled.proofs.Bits.{bits-both, column-long, column-get, column-alike}
 use Rattle.compiled.proofs.NameRows.{rowList, rows-long, rows-get, name-row, past-row}

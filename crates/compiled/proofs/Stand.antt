@@ -9,9 +9,9 @@ use lib.Seq.{take-at, drop-at}
 use Rattle.paths.specs.Path.{Test, any, named, Step, Path, All, none, more}
 use Rattle.paths.specs.Path.{printKind, printTest, printStep, printAll, printMark, printLine, printList}
 use Rattle.xml.specs.Notation.{bytes}
-use Rattle.compiled.specs.Names.{testNames, stepNames, listNames, namesOf}
+use Rattle.lookup.specs.Names.{testNames, stepNames, listNames, namesOf}
 use Rattle.compiled.specs.Sizes.{Sized}
-use Rattle.compiled.specs.Index.{Stands, Indexed}
+use Rattle.lookup.specs.Index.{Stands, Indexed}
 use Rattle.compiled.specs.Compiled.{compiledOf}
 use Rattle.compiled.proofs.Alls.{all-append}
 use Rattle.compiled.proofs.Firsts.{names-all, names-once, names-few}

@@ -7,7 +7,7 @@ use native.Mathlib.Nat.{pow-le-pow-right}
 use native.Mathlib.Omega.{arith}
 use lib.ListN.{length, getD, set, length-append}
 use Rattle.paths.specs.Path.{none, more}
-use Rattle.compiled.specs.Names.{namesOf}
+use Rattle.lookup.specs.Names.{namesOf}
 use Rattle.compiled.specs.Built.{Held, Numbers, Entered, longer, AtStep, StepDone}
 use Rattle.compiled.specs.declared.build.Numbered.{Numbered}
 use Rattle.compiled.proofs.Alls.{all-append}

@@ -1,13 +1,14 @@
 -- What the matcher asks of a list of paths, as numbers of 16 bits:
 -- bit j for step j + 1 of a path, one number for each of 32 paths.
 use mathlib.Core.Bool.{Bool, true, false, cond}
-use mathlib.Core.List.{List, [], _∷_, _++_, map}
+use mathlib.Core.List.{List, [], _∷_, map}
 use Prim.Native.Nat.{ℕ, _+_, _-_, _*_, _^_}
-use lib.ListN.{length, replicate}
+use lib.ListN.{length}
 use Rattle.xml.specs.Productions.{same}
 use Rattle.paths.specs.Path.{Test, any, named, Step, Path}
 use Rattle.paths.specs.declared.Kind.{Kind}
 use Rattle.paths.specs.declared.Kind.the-variants.{Child, Descendant}
+use Rattle.lookup.specs.Index.{padded}
 
 abbrev pub bit : Bool → ℕ
 bit true = 1
@@ -20,10 +21,6 @@ bitsOf (b ∷ bs) = bit b + 2 * bitsOf bs
 
 abbrev pub stepBits : (Step → Bool) → Path → ℕ
 stepBits f p = bitsOf (map f (p .steps))
-
--- n entries, 0 where the list has no more
-unfoldable pub padded : ℕ → List ℕ → List ℕ
-padded n xs = xs ++ replicate (n - length xs) 0
 
 -- a number for each of 32 paths, 0 where there is none
 unfoldable pub column : (Path → ℕ) → List Path → List ℕ

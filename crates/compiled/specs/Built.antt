@@ -7,9 +7,9 @@ use lib.ListN.{length, take, drop}
 use lib.Dec.{eqb}
 use Rattle.paths.specs.Path.{Test, any, named, Step, Path, All, printKind, printStep, printAll, printList}
 use Rattle.compiled.specs.Bits.{stepBits, column}
-use Rattle.compiled.specs.Names.{Named, placeOf, testNames, firsts, namesOf}
+use Rattle.lookup.specs.Names.{Named, placeOf, testNames, firsts, namesOf}
 use Rattle.compiled.specs.Compiled.{joined}
-use Rattle.compiled.specs.Index.{Indexed}
+use Rattle.lookup.specs.Index.{Indexed}
 use Rattle.compiled.specs.declared.build.Numbered.{Numbered}
 
 abbrev pub numberOf : List Named → Test → ℕ

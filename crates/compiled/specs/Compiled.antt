@@ -4,8 +4,9 @@ use mathlib.Core.List.{List, [], _∷_, _++_, map}
 use Prim.Native.Nat.{ℕ, _-_}
 use lib.ListN.{length, replicate}
 use Rattle.paths.specs.Path.{Path}
-use Rattle.compiled.specs.Bits.{padded, descendsOf, lastsOf, marksOf, fitOf, otherFit}
-use Rattle.compiled.specs.Names.{namesOf, chainsOf}
+use Rattle.compiled.specs.Bits.{descendsOf, lastsOf, marksOf, fitOf, otherFit}
+use Rattle.lookup.specs.Names.{namesOf, chainsOf}
+use Rattle.lookup.specs.Index.{padded}
 use Rattle.compiled.specs.declared.Compiled.{Compiled}
 
 abbrev pub joined : List (List ℕ) → List ℕ

@@ -1,8 +1,6 @@
--- Definitions, in the order to read them: bits, names with their places and chains, the compiled list. Then what the tables stand for on
--- the way: an index, sizes, what is built so far, a line.
+-- Definitions, in the order to read them: bits, the compiled list. Then what the tables stand for on the way: sizes, what is built so far,
+-- a line. The names with their places and chains, and what the tables of names stand for, are in `lookup`.
 pub mod Bits
-pub mod Names
-pub mod Index
 pub mod Sizes
 pub mod Compiled
 pub mod Built

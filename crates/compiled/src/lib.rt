@@ -1,8 +1,6 @@
 // A sound path list, compiled for matching: tables by value, every entry of which is a function of the paths, as specs/Compiled.antt has
-// them. A list is read by `compile::read`; a name is looked up by `find::find`, and what it passes stands in its row.
+// them. A list is read by `compile::read`; a name is looked up by `lookup::find::find`, and what it passes stands in its row.
 pub mod compile; // a list, judged and compiled
-pub mod find; // where a name stands among those of a list
-mod hashing; // the number of a name
 mod rows; // the rows while they are made
 mod build; // the tables, step by step
 
@@ -25,9 +23,9 @@ pub struct Compiled {
 impl Compiled {
     pub const PATHS: usize = 32;
 
-    pub const NAMES: usize = 512;
+    pub const NAMES: usize = lookup::NAMES;
 
-    pub const HEADS: usize = 256;
+    pub const HEADS: usize = lookup::HEADS;
 
     pub const ENTRIES: usize = 16416;
 }

@@ -19,10 +19,11 @@ use Rattle.readers.specs.Value.{isDecimal, isHexadecimal, endsNumber, digitsOf,
 use Rattle.readers.specs.Value.{pieceOf, quotedOf, valueOf}
 use Rattle.readers.specs.Named.{before, targetOf, instructionEnd, instructionOf, eqOf, versionOf, isLetter, isEncoding, encodingOf}
 use Rattle.readers.specs.Named.{yesOrNo, declarationOf, pieceNamed, attributeOf, gather, tagOf, endTagOf, smallTag}
-use Rattle.items.specs.Item.{tagAt, endTagAt, declares, kindOf, itemAt}
-use Rattle.items.specs.declared.Item.{Item}
-use Rattle.items.specs.declared.Item.the-variants.{Declaration, Instruction, Comment, Section, Reference, Text, Start, Finish}
-use Rattle.items.specs.declared.Item.the-variants.{Doctype, Malformed, TooLarge, Nothing}
+use Rattle.tags.specs.Tag.{tagAt, endTagAt}
+use Rattle.tags.specs.declared.Item.{Item}
+use Rattle.tags.specs.declared.Item.the-variants.{Declaration, Instruction, Comment, Section, Reference, Text, Start, Finish}
+use Rattle.tags.specs.declared.Item.the-variants.{Doctype, Malformed, TooLarge, Nothing}
+use Rattle.items.specs.Item.{declares, kindOf, itemAt}
 
 -- ---- how the tables are written
 

@@ -22,11 +22,12 @@ use Rattle.readers.proofs.Many.{Shrinks}
 use Rattle.readers.proofs.Shorter.{comment-shrinks, section-shrinks, text-shorter, instruction-shrinks, declaration-shrinks}
 use Rattle.readers.proofs.Value.{reference-shrinks}
 use Rattle.readers.proofs.Tags.{tag-lengths, end-tag-lengths}
+use Rattle.tags.specs.Tag.{startPlaced, startBy, tagAt, finishBy, endTagAt}
+use Rattle.tags.specs.declared.Item.{Item}
+use Rattle.tags.specs.declared.Item.the-variants.{Declaration, Instruction, Comment, Section, Reference, Text, Finish, TooLarge}
 use Rattle.items.specs.Item.{Kind, declaration, instruction, comment, section, doctype, finish, start, reference, text, nothing}
-use Rattle.items.specs.Item.{declares, kindOf, startPlaced, startBy, tagAt, finishBy, endTagAt, itemBy, itemOf, itemAt}
+use Rattle.items.specs.Item.{declares, kindOf, itemBy, itemOf, itemAt}
 use Rattle.items.specs.Inside.{Ahead, Inside}
-use Rattle.items.specs.declared.Item.{Item}
-use Rattle.items.specs.declared.Item.the-variants.{Declaration, Instruction, Comment, Section, Reference, Text, Finish, TooLarge}
 use Rattle.items.proofs.Telling.{kind-nothing, kind-reference}
 
 -- ---- readings

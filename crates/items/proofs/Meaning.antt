@@ -26,13 +26,14 @@ use Rattle.readers.proofs.Tags.{tag-sound, tag-complete, tag-leaves, end-tag-so
 use Rattle.readers.proofs.Unique.{unique-iff}
 use Rattle.readers.proofs.Says.{declaration-says, declaration-only, instruction-says, instruction-only, comment-says, comment-only}
 use Rattle.readers.proofs.Says.{section-says, section-only, reference-says, reference-only, text-says, text-only}
+use Rattle.tags.specs.Tag.{startPlaced, startBy, tagAt, finishBy, endTagAt}
+use Rattle.tags.specs.declared.Item.{Item}
+use Rattle.tags.specs.declared.Item.the-variants.{Declaration, Instruction, Comment, Section, Reference, Text, Start, Finish}
+use Rattle.tags.specs.declared.Item.the-variants.{Doctype, Malformed, TooLarge, Nothing}
 use Rattle.items.specs.Item.{Kind, declaration, instruction, comment, section, doctype, finish, start, reference, text, nothing}
-use Rattle.items.specs.Item.{kindOf, startPlaced, startBy, tagAt, finishBy, endTagAt, itemBy, itemOf, itemAt}
+use Rattle.items.specs.Item.{kindOf, itemBy, itemOf, itemAt}
 use Rattle.items.specs.Meaning.{Short, All, Small, Twice, StartIs, FinishIs, Broken, Large, large-finish, large-start}
 use Rattle.items.specs.Meaning.{KindSays, ItemSays}
-use Rattle.items.specs.declared.Item.{Item}
-use Rattle.items.specs.declared.Item.the-variants.{Declaration, Instruction, Comment, Section, Reference, Text, Start, Finish}
-use Rattle.items.specs.declared.Item.the-variants.{Doctype, Malformed, TooLarge, Nothing}
 use Rattle.items.proofs.Telling.{kind-nothing, by-ends, by-fault}
 
 -- ---- sizes

@@ -28,11 +28,12 @@ use Rattle.readers.specs.Plain.{textOf, commentOf, sectionOf}
 use Rattle.readers.specs.Value.{referenceOf}
 use Rattle.readers.specs.Named.{instructionOf, declarationOf}
 use Rattle.readers.proofs.Answers.{text-inside}
+use Rattle.tags.specs.Tag.{tagAt, endTagAt}
+use Rattle.tags.specs.declared.Item.{Item}
+use Rattle.tags.specs.declared.Item.the-variants.{Declaration, Instruction, Comment, Section, Reference, Text}
+use Rattle.tags.specs.declared.Item.the-variants.{Doctype, Malformed, Nothing}
 use Rattle.items.specs.Item.{Kind, declaration, instruction, comment, section, doctype, finish, start, reference, text, nothing}
-use Rattle.items.specs.Item.{declares, kindOf, itemBy, itemOf, itemAt, tagAt, endTagAt}
-use Rattle.items.specs.declared.Item.{Item}
-use Rattle.items.specs.declared.Item.the-variants.{Declaration, Instruction, Comment, Section, Reference, Text}
-use Rattle.items.specs.declared.Item.the-variants.{Doctype, Malformed, Nothing}
+use Rattle.items.specs.Item.{declares, kindOf, itemBy, itemOf, itemAt}
 
 -- ---- the kinds
 

@@ -1,40 +1,21 @@
--- The item at a place. In order: tags in places; the kind of an item, told by its first bytes; the item read, or its fault in the order of
--- document 01: a document type, its own production, sizes. And document 01's number for each answer.
+-- The item at a place. In order: the kind of an item, told by its first bytes; the item read, or its fault in the order of document 01: a
+-- document type, its own production, sizes; document 01's number for each answer. Tags in places are in the crate tags, specs/Tag.antt.
 use mathlib.Core.Bool.{Bool, cond, _&&_}
 use mathlib.Core.List.{List, [], _∷_}
 use mathlib.Core.Option.{Option, none, some}
-use Prim.Native.Nat.{ℕ, _+_}
-use lib.Dec.{leb}
-use lib.ListN.{length, drop}
+use Prim.Native.Nat.{ℕ}
+use lib.ListN.{drop}
 use Rattle.xml.specs.Notation.{bytes}
 use Rattle.xml.specs.Character.{begins, starts}
 use Rattle.xml.specs.Productions.{isSpace}
 use Rattle.utf8.specs.Place.{endsAt}
 use Rattle.readers.specs.Plain.{textOf, commentOf, sectionOf}
 use Rattle.readers.specs.Value.{referenceOf}
-use Rattle.readers.specs.Named.{Piece, Tag, instructionOf, declarationOf, tagOf, endTagOf, smallTag, repeated}
-use Rattle.items.specs.declared.Item.{Item}
-use Rattle.items.specs.declared.Item.the-variants.{Declaration, Instruction, Comment, Section, Reference, Text, Start, Finish}
-use Rattle.items.specs.declared.Item.the-variants.{Doctype, Malformed, TooLarge, Nothing}
-
--- ---- tags
-
-abbrev pub startPlaced : List ℕ → ℕ → Tag → Item
-startPlaced d at v = Start (length (v .name)) (at + length (v .head)) (endsAt d at (v .rest)) (v .empty) (repeated (v .attributes))
-
-abbrev pub startBy : List ℕ → ℕ → Option Tag → Item
-startBy d at none = Malformed
-startBy d at (some v) = cond (smallTag v) (startPlaced d at v) TooLarge
-
-unfoldable pub tagAt : List ℕ → ℕ → Item
-tagAt d at = startBy d at (tagOf (drop at d))
-
-abbrev pub finishBy : List ℕ → ℕ → Option Piece → Item
-finishBy d at none = Malformed
-finishBy d at (some p) = cond (leb (length (p .name)) 255) (Finish (length (p .name)) (endsAt d at (p .rest))) TooLarge
-
-unfoldable pub endTagAt : List ℕ → ℕ → Item
-endTagAt d at = finishBy d at (endTagOf (drop at d))
+use Rattle.readers.specs.Named.{instructionOf, declarationOf}
+use Rattle.tags.specs.Tag.{tagAt, endTagAt}
+use Rattle.tags.specs.declared.Item.{Item}
+use Rattle.tags.specs.declared.Item.the-variants.{Declaration, Instruction, Comment, Section, Reference, Text, Start, Finish}
+use Rattle.tags.specs.declared.Item.the-variants.{Doctype, Malformed, TooLarge, Nothing}
 
 -- ---- the kinds, told by their first bytes
 

@@ -4,20 +4,20 @@ ghost use mathlib.Core.Path.{_≡_};
 ghost use mathlib.Core.Bool.{_&&_};
 ghost use lib.ListN.{length, getD, drop};
 ghost use Prim.Native.Nat.{_+_, _<_};
-ghost use Rattle.chars.specs.Class.{classTable};
+ghost use Rattle.points.specs.Class.{classTable};
 ghost use Rattle.items.specs.Item.{declares, itemAt};
-use crate::Item;
-use crate::declaration::declaration;
-use crate::finish::end_tag;
-use crate::instruction::instruction;
-use crate::tag::tag;
 use chars::name::Reading;
 use chars::space::is_space;
-use chars::table::Classes;
 use chars::text::stands;
+use instructions::declaration::declaration;
+use instructions::instruction::instruction;
 use plain::comment::comment;
 use plain::section::section;
 use plain::text::text;
+use points::table::Classes;
+use tags::Item;
+use tags::finish::end_tag;
+use tags::tag::tag;
 use values::reference::reference;
 
 // Whether a declaration stands at a place: `<?xml` and white space, as first item only.

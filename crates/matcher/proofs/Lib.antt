@@ -1,5 +1,5 @@
 -- Laws by part: a test of what a path selects; its bits, for one path and for all; what the verdict means. Then the ways through the code,
--- worked examples, one answer.
+-- one answer. Worked examples are in `examples`.
 pub mod Places
 pub mod Digits
 pub mod OnePath
@@ -9,5 +9,4 @@ pub mod Fill
 pub mod Rows
 pub mod Serving
 pub mod Carrying
-pub mod Examples
 pub mod OneAnswer

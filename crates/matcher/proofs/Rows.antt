@@ -11,12 +11,12 @@ use lib.ListN.{length, getD, take, drop, set, replicate}
 use lib.Seq.{drop-cons}
 use Rattle.paths.specs.Path.{Path}
 use Rattle.compiled.specs.Bits.{fitOf}
-use Rattle.compiled.specs.Names.{placeOf, namesOf}
+use Rattle.lookup.specs.Names.{placeOf, namesOf}
 use Rattle.compiled.specs.Compiled.{rowsOf}
 use Rattle.compiled.specs.Sizes.{Sized}
 use Rattle.compiled.specs.Built.{listed}
 use Rattle.matcher.specs.Row.{rowOf, entryAt, rowIn}
-use Rattle.compiled.proofs.Places.{place-least}
+use Rattle.lookup.proofs.Places.{place-least}
 use Rattle.compiled.proofs.Firsts.{names-few}
 use Rattle.compiled.proofs.NameRows.{rows-long, rows-fit}
 use Rattle.matcher.proofs.Fill.{Filled, fill-start, fill-more, fill-end}

@@ -6,8 +6,8 @@ use Prim.Native.Nat.{ℕ}
 use borrow.Author.Needs.{needs}
 use Rattle.paths.specs.Judge.{listAnswer, listPaths}
 use Rattle.paths.specs.declared.ListAnswer.the-variants.{Sound}
-use Rattle.compiled.specs.Names.{namesOf}
-use Rattle.compiled.specs.Index.{Indexed, Tables, Found}
+use Rattle.lookup.specs.Names.{namesOf}
+use Rattle.lookup.specs.Index.{Indexed, Tables, Found}
 use Rattle.compiled.specs.Compiled.{compiledOf}
 use Rattle.compiled.specs.declared.Compiled.{Compiled}
 use Rattle.compiled.proofs.Lookup.{lookup-indexed}

@@ -7,7 +7,7 @@ ghost use Rattle.matcher.specs.Row.{rowOf, rowIn};
 ghost use Rattle.matcher.specs.Fit.{fitFor, Serves};
 use crate::state::MatchState;
 use compiled::Compiled;
-use compiled::find::find;
+use lookup::find::find;
 
 // For each path: the steps that pass the name; those that descend; the last one; and the last one again if the path is marked.
 pub struct Fit {

@@ -1,5 +1,5 @@
 -- Laws: printing and reading undo each other, from kinds to lists; the answer is the one that is said; places; the walk over a list;
--- worked examples; one answer.
+-- one answer. Worked examples are in `examples`.
 pub mod Print
 pub mod Names
 pub mod Steps
@@ -9,5 +9,4 @@ pub mod Places
 pub mod Here
 pub mod Front
 pub mod Walk
-pub mod Examples
 pub mod OneAnswer

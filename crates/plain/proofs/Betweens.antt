@@ -21,7 +21,7 @@ use Rattle.readers.specs.Plain.{commentOf, sectionOf}
 use Rattle.readers.specs.Answer.{Answers}
 use Rattle.readers.proofs.Answers.{answers-reading, then-fault, then-ends, on-from, text-inside, text-yes, text-no}
 use Rattle.plain.specs.Between.{betweenOf}
-use Rattle.plain.proofs.Seeks.{sought-ahead, sought-stands}
+use Rattle.scans.proofs.Seeks.{sought-ahead, sought-stands}
 
 -- a text that stands at a place ends inside
 pub text-fits : (d : List ℕ) (at : ℕ) (w : List ℕ) {x : Bool} → x ≡ begins w (drop at d) → not x ≡ false → 0 < length w

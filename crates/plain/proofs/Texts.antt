@@ -14,12 +14,12 @@ use Rattle.xml.specs.Notation.{bytes}
 use Rattle.xml.specs.Character.{begins}
 use Rattle.utf8.specs.Place.{endsAt}
 use Rattle.utf8.proofs.Place.{drop-step, drop-end}
-use Rattle.chars.specs.Block.{until}
+use Rattle.blocks.specs.Block.{until}
 use Rattle.chars.specs.Name.{readingAt}
 use Rattle.chars.specs.declared.name.Reading.the-variants.{Ends, Fault}
 use Rattle.readers.specs.Plain.{isMark, textOf}
-use Rattle.plain.proofs.Ends.{Reached, reached-next, reached-on}
-use Rattle.plain.proofs.Marks.{until-rest, until-ahead, until-there}
+use Rattle.scans.proofs.Ends.{Reached, reached-next, reached-on}
+use Rattle.scans.proofs.Marks.{until-rest, until-ahead, until-there}
 
 -- ---- from the next mark on
 

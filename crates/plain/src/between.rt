@@ -5,9 +5,9 @@ ghost use Prim.Native.Nat.{_<_};
 ghost use lib.ListN.{length, drop};
 ghost use Rattle.chars.specs.Name.{readingAt};
 ghost use Rattle.plain.specs.Between.{betweenOf};
-use crate::seek::seek;
 use chars::name::Reading;
 use chars::text::stands;
+use scans::seek::seek;
 
 // Where the item from `at` on ends that begins with `first` and goes up to the first place of `stop`, where `last` must stand.
 pub fn between(doc: &[u8], at: usize, first: &[u8], stop: &[u8], last: &[u8]) -> Reading

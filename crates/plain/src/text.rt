@@ -4,9 +4,9 @@ ghost use mathlib.Core.Path.{_≡_};
 ghost use lib.ListN.{drop};
 ghost use Rattle.chars.specs.Name.{readingAt};
 ghost use Rattle.readers.specs.Plain.{textOf};
-use crate::mark::to_mark;
 use chars::name::Reading;
 use chars::text::stands;
+use scans::mark::to_mark;
 
 // Where the text from `at` on ends: `at` itself where there is none, also past the end; a fault where `]]>` stands in it.
 pub fn text(doc: &[u8], at: usize) -> Reading

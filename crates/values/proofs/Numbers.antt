@@ -18,7 +18,7 @@ use Rattle.xml.specs.Range.{inside, _–_}
 use Rattle.xml.specs.Productions.{isChar, digitOf}
 use Rattle.xml.proofs.Bools.{bounds-inside}
 use Rattle.utf8.proofs.Place.{drop-step, drop-end}
-use Rattle.chars.proofs.Borders.{char-high}
+use Rattle.xml.proofs.Borders.{char-high}
 use Rattle.chars.specs.declared.name.Reading.the-variants.{Ends, Fault}
 use Rattle.readers.specs.Value.{isDecimal, isHexadecimal, endsNumber, digitsOf}
 use Rattle.readers.specs.Answer.{Answers, ends, faults}

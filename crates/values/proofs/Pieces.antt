@@ -11,7 +11,7 @@ use borrow.Author.Needs.{needs}
 use lib.ListN.{length, getD, drop, length-drop}
 use Rattle.utf8.specs.Place.{endsAt}
 use Rattle.utf8.proofs.Place.{drop-step, drop-end}
-use Rattle.chars.specs.Block.{until}
+use Rattle.blocks.specs.Block.{until}
 use Rattle.chars.specs.Name.{readingAt}
 use Rattle.chars.specs.declared.name.Reading.{Reading}
 use Rattle.chars.specs.declared.name.Reading.the-variants.{Ends, Fault}
@@ -22,8 +22,8 @@ use Rattle.readers.specs.Answer.{Answers, ends}
 use Rattle.readers.proofs.Answers.{ends-some, ends-inside, fault-none, then-ends, then-fault}
 use Rattle.readers.proofs.Many.{many-stop, many-step, shrinks-nil, shrinks-length, reading-answers}
 use Rattle.readers.proofs.Value.{reference-shrinks, reference-other, piece-plain, piece-marked, piece-shrinks}
-use Rattle.plain.proofs.Ends.{byte-answers}
-use Rattle.plain.proofs.Marks.{until-rest, until-ahead, until-inside, until-there}
+use Rattle.scans.proofs.Ends.{byte-answers}
+use Rattle.scans.proofs.Marks.{until-rest, until-ahead, until-inside, until-there}
 
 -- what is no mark is passed
 pub pieces-until : (q : ℕ) (s : List ℕ) → many (pieceOf q) 0 (until (isMark q) s) ≡ many (pieceOf q) 0 s

@@ -11,8 +11,8 @@ ghost use Rattle.readers.specs.Value.{pieceOf, quotedOf, valueOf};
 ghost use Rattle.readers.specs.Answer.{Answers};
 use crate::reference::reference;
 use chars::name::Reading;
-use plain::byte::after_byte;
-use plain::mark::to_mark;
+use scans::byte::after_byte;
+use scans::mark::to_mark;
 
 // Where the pieces of a value between quotes q end: at a quote, at `<`, at an `&` that begins no reference, or at the end of all.
 fn pieces(doc: &[u8], at: usize, q: u8) -> usize

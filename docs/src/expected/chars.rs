@@ -1,5 +1,4 @@
-// Cases of characters: every code point, every byte at each place of a sequence, a fault at each place of texts of each length, names and
-// white space in chosen strings.
+// Cases of characters: every code point, every byte at each place of a sequence, a fault at each place of texts of each length.
 use crate::plain::chars as plain;
 
 /// The bytes that the rule of UTF-8 makes of any number below 2^21, surrogates and numbers past the last code point too.
@@ -21,85 +20,65 @@ fn class(c: u32) -> u8 {
     }
 }
 
-/// The class by the reading of names: by itself, and after a letter.
-fn read_class(s: &[u8]) -> u8 {
-    let after: Vec<u8> = [b"a", s].concat();
-    match (plain::name(s, 0) == s.len(), plain::name(&after, 0) == after.len()) {
-        (true, true) => 2,
-        (false, true) => 1,
-        (false, false) => 0,
-        (true, false) => 3,
-    }
+fn is_name(s: &[u8]) -> bool {
+    !s.is_empty() && plain::name(s, 0) == s.len()
 }
 
 fn borders() {
-    println!("code point, sequence, Char, class, class by the name reader");
+    println!("code point; a digit each: sequence, Char, class, a name, a name after a letter");
     let mut last = None;
     for c in 0..=0x110010 {
         let s = encode(c);
         let mut chars = std::str::from_utf8(&s).unwrap_or("").chars();
         let is_sequence = chars.next().map_or(false, |d| d as u32 == c) && chars.next().is_none();
         let is_allowed = plain::check(&s) == s.len();
-        let line = format!("{} {} {} {}", is_sequence as u8, is_allowed as u8, class(c), read_class(&s));
-        if last.as_ref() != Some(&line) {
+        let names = (is_name(&s), is_name(&[b"a", s.as_slice()].concat()));
+        let line = [is_sequence as u8, is_allowed as u8, class(c), names.0 as u8, names.1 as u8].iter().fold(0, |n, &x| n * 10 + x as u32);
+        if last != Some(line) {
             println!("{c:04x} {line}");
         }
         last = Some(line);
     }
 }
 
-/// Of all bytes at a place of s: the first and the last with which a character stands at the front, how many give it the size that it has
-/// with the first, and that size.
-fn row(s: [u8; 4], place: usize) -> Option<(u8, u8, usize, usize)> {
-    let sizes: Vec<(u8, usize)> = (0..=255)
-        .filter_map(|b| {
-            let mut t = s;
-            t[place] = b;
-            plain::point(&t, 0).map(|c| (b, c.len_utf8()))
-        })
-        .collect();
-    let (low, size) = *sizes.first()?;
-    let (high, _) = *sizes.last()?;
-    Some((low, high, sizes.iter().filter(|x| x.1 == size).count(), size))
+/// 31 times a sum and x, modulo 2^32.
+pub fn sum(h: u32, x: usize) -> u32 {
+    h.wrapping_mul(31).wrapping_add(x as u32)
 }
 
-fn rows(place: usize, last: bool) {
-    let mut old = None;
+/// Every byte at each place after a first byte, where else one of some second bytes and one of two tails stand: the sizes of what stands at
+/// the front.
+fn rows() {
+    println!("first byte, and the sequences with each byte at each place after it");
+    let mut last = 0;
     for a in 0..=255 {
-        let start = [a, 0x80, 0x80, 0x80];
-        let second = row(start, 1).unwrap_or((0, 0, 0, 0));
-        let start = match (place, last) {
-            (1, _) => start,
-            (_, false) => [a, second.0, 0x80, 0x80],
-            (_, true) => [a, second.1, 0xBF, 0xBF],
-        };
-        let new = row(start, place);
-        if old != Some(new) {
-            match new {
-                Some((low, high, count, size)) => println!("{a:02x} {low:02x}-{high:02x} {count} {size}"),
-                None => println!("{a:02x} none"),
+        let mut next = 0;
+        for place in 1..4 {
+            for tail in [0x80, 0xBF] {
+                for second in [0x00, 0x80, 0x8F, 0x90, 0x9F, 0xA0, 0xBF, 0xFF] {
+                    for b in 0..=255 {
+                        let mut s = [a, second, tail, tail];
+                        s[place] = b;
+                        next = sum(next, plain::point(&s, 0).map_or(0, |c| c.len_utf8()));
+                    }
+                }
             }
         }
-        old = Some(new);
+        if next != last {
+            println!("{a:02x} {next}");
+        }
+        last = next;
     }
 }
 
-fn all_rows() {
-    println!("first byte, range of the bytes at a place after it, how many, size");
-    for (place, last) in [(1, false), (2, false), (2, true), (3, false), (3, true)] {
-        println!("place {place} after the {}", if last { "last" } else { "first" });
-        rows(place, last);
-    }
-}
-
-fn hex(s: &[u8]) -> String {
+pub fn hex(s: &[u8]) -> String {
     s.iter().map(|b| format!("{b:02x}")).collect()
 }
 
-fn fold(h: u32, s: &[u8]) -> u32 {
+/// 0 where all are characters, and else one more than the offset of the first fault.
+pub fn checked(s: &[u8]) -> usize {
     let at = plain::check(s);
-    let answer = if at == s.len() { 0 } else { at + 1 };
-    h.wrapping_mul(31).wrapping_add(answer as u32)
+    if at == s.len() { 0 } else { at + 1 }
 }
 
 fn offsets() {
@@ -118,39 +97,17 @@ fn offsets() {
                 let mut text: Vec<u8> = ascii.iter().copied().cycle().take(n).collect();
                 let fits = kind.len().min(n - at);
                 text[at..at + fits].copy_from_slice(&kind[..fits]);
-                alone = fold(alone, &text);
+                alone = sum(alone, checked(&text));
                 text[n - 1] = 1;
-                ended = fold(ended, &text);
+                ended = sum(ended, checked(&text));
             }
         }
         println!("{} {alone} {ended}", hex(kind));
     }
 }
 
-fn strings() {
-    println!("bytes, end of the name from 0 and from 1, end of the white space from 0 and from 100");
-    let list: [&[u8]; 45] = [
-        b"a", b"report", b"_1.2-3", b":", b"a:b:c", b"-a", b".a", b"1a", b"a b", b"a=", b"a/>", b"a\x00b", b"a@[`{",
-        "été".as_bytes(), "e\u{301}te".as_bytes(), "\u{300}a".as_bytes(), "a\u{B7}b".as_bytes(), "\u{B7}".as_bytes(),
-        "a\u{D7}b".as_bytes(), "a\u{F7}b".as_bytes(), "a\u{37E}b".as_bytes(), "\u{2C00}".as_bytes(), "\u{3000}a".as_bytes(),
-        "\u{3001}\u{3000}".as_bytes(), "a\u{203F}b".as_bytes(), "\u{10000}\u{EFFFF}".as_bytes(), "a\u{F0000}".as_bytes(),
-        b"", b"\x80", b"ab\xFFcd", b"ab\xC3", b"ab\xE2\xB0", b"ab\xF0\x90\x80b", b"a\xC1\xA1b", b"a\xE0\x81\xA1b", b"a\xED\xA0\x80b",
-        b"a\xEF\xBF\xBEb", b"a\xF4\x90\x80\x80b",
-        b" ", b" a", b"\t\r\n a b", b"\x0B\x0C", "\u{A0} ".as_bytes(), "\u{2003}a".as_bytes(), b" \x00 ",
-    ];
-    for s in list {
-        let name = |at| match plain::name(s, at) {
-            end if end == at => "none".to_string(),
-            end => end.to_string(),
-        };
-        let space = |at: usize| at + s.iter().skip(at).take_while(|&b| b" \t\r\n".contains(b)).count();
-        println!("<{}> {} {} {} {}", hex(s), name(0), name(1), space(0), space(100));
-    }
-}
-
 pub fn print() {
     borders();
-    all_rows();
+    rows();
     offsets();
-    strings();
 }

@@ -6,16 +6,18 @@
 //     ./expected walks > crates/walks/stdout
 
 mod chars;
-mod paths;
 #[path = "../plain/mod.rs"]
 mod plain;
+mod sizes;
+mod texts;
 mod walks;
 
 fn main() {
     match std::env::args().nth(1).as_deref() {
         Some("cases") => {
             chars::print();
-            paths::print();
+            texts::print();
+            sizes::print();
         }
         Some("walks") => walks::print(),
         _ => panic!("cases or walks"),

@@ -11,8 +11,8 @@ Inv-loop classes last₀ c₀ last c = c ≤ 0x110010
 abbrev μ-loop : tie.MeasureT-loop
 μ-loop classes last₀ c₀ last c = 0x110010 - c
 
-look-at-requires : tie.Need-look-at-requires Inv-loop μ-loop
-look-at-requires c κs = search needs
+look-requires : tie.Need-look-requires Inv-loop μ-loop
+look-requires c κs = search needs
 
 line-requires : tie.Need-line-requires Inv-loop μ-loop
 line-requires c κs = search needs
@@ -23,11 +23,11 @@ loop-holds c = search needs
 add-c : tie.Need-add-c Inv-loop μ-loop
 add-c c = search needs
 
-look-at-requires-2 : tie.Need-look-at-requires-2 Inv-loop μ-loop
-look-at-requires-2 c κs = search needs
+look-requires-2 : tie.Need-look-requires-2 Inv-loop μ-loop
+look-requires-2 c κs = search needs
 
-is-same-requires : tie.Need-is-same-requires Inv-loop μ-loop
-is-same-requires c κs = search needs
+cast-line : tie.Need-cast-line Inv-loop μ-loop
+cast-line c = search needs
 
 line-requires-2 : tie.Need-line-requires-2 Inv-loop μ-loop
 line-requires-2 c κs = search needs
@@ -53,12 +53,12 @@ lines-spec =
     (tie.spec
     Inv-loop
     μ-loop
-    look-at-requires
+    look-requires
     line-requires
     loop-holds
     add-c
-    look-at-requires-2
-    is-same-requires
+    look-requires-2
+    cast-line
     line-requires-2
     loop-less
     loop-again

@@ -1,0 +1,3 @@
+-- Definitions:
+-- bytes passed in blocks.
+pub mod Block

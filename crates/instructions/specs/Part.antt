@@ -1,0 +1,36 @@
+-- The three parts of a declaration: each is a word, and what stands in its quotes.
+-- And a place further on where something stands.
+use mathlib.Core.Bool.{Bool, false}
+use mathlib.Core.List.{List}
+use mathlib.Core.Option.{Option}
+use Prim.Native.Nat.{ℕ, _≤_}
+use Rattle.xml.specs.Notation.{bytes}
+use Rattle.utf8.specs.Place.{Stands}
+use Rattle.readers.specs.Value.{isDecimal}
+use Rattle.readers.specs.Named.{versionOf, isEncoding, encodingOf, yesOrNo, settingOf}
+use Rattle.instructions.specs.declared.declaration.Part.{Part}
+use Rattle.instructions.specs.declared.declaration.Part.the-variants.{Version, Encoding, Standalone}
+
+abbrev pub wordOf : Part → List ℕ
+wordOf Version = bytes "version"
+wordOf Encoding = bytes "encoding"
+wordOf Standalone = bytes "standalone"
+
+abbrev pub bodyOf : Part → List ℕ → Option (List ℕ)
+bodyOf Version = versionOf
+bodyOf Encoding = encodingOf
+bodyOf Standalone = yesOrNo
+
+-- what goes on with it
+abbrev pub classOf : Part → ℕ → Bool
+classOf Version = isDecimal
+classOf Encoding = isEncoding
+classOf Standalone = λ c. false
+
+abbrev pub partOf : Part → List ℕ → Option (List ℕ)
+partOf p = settingOf (wordOf p) (bodyOf p)
+
+-- at the place r, from at on, stands t
+pub record Goes (d : List ℕ) (at r : ℕ) (t : List ℕ) : Type 0 where
+  pub ahead : at ≤ r
+  pub stands : Stands d r t

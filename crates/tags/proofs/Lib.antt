@@ -1,0 +1,7 @@
+-- Laws: a name and what follows it, and end tags; names kept by their places; a tag's attributes; start tags and empty tags; one answer.
+-- The functions are proved by rulesets of these.
+pub mod Named
+pub mod Kept
+pub mod Gathers
+pub mod Tagging
+pub mod OneAnswer
