@@ -13,11 +13,11 @@ use borrow.Author.Tests.{leb-false}
 use lib.Dec.{leb}
 use lib.ListN.{length, getD, set, length-set}
 use lib.Seq.{getD-set-same, getD-set-other}
-use Rattle.items.specs.Kept.{nameFrom}
+use Rattle.tags.specs.Kept.{nameFrom}
+use Rattle.tags.specs.declared.Item.{Item}
+use Rattle.tags.specs.declared.Item.the-variants.{Declaration, Instruction, Comment, Section, Reference, Text, Start, Finish}
+use Rattle.tags.specs.declared.Item.the-variants.{Doctype, Malformed, TooLarge, Nothing}
 use Rattle.items.specs.Inside.{Inside}
-use Rattle.items.specs.declared.Item.{Item}
-use Rattle.items.specs.declared.Item.the-variants.{Declaration, Instruction, Comment, Section, Reference, Text, Start, Finish}
-use Rattle.items.specs.declared.Item.the-variants.{Doctype, Malformed, TooLarge, Nothing}
 use Rattle.document.specs.Place.{Opened, formed, outside, closed, opens, placement, startPlacement, afterItem}
 use Rattle.document.specs.Levels.{namesOf, openedOf, Names, deeper, openAfter, lenOf}
 use Rattle.document.specs.declared.Open.{Open}
@@ -51,7 +51,7 @@ not-over : (b : Bool) (p : Placement) → cond b (Fault OverSize) p ≡ Fine →
 not-over true p q = cc
 not-over false p q = refl
 
-start-room : (d starts lens : List ℕ) (o : Open) (t : Bool) → startPlacement t (openedOf d starts lens o) ≡ Fine → o .level .0 < 64
+pub start-room : (d starts lens : List ℕ) (o : Open) (t : Bool) → startPlacement t (openedOf d starts lens o) ≡ Fine → o .level .0 < 64
 start-room d starts lens o t f =
     let open-now = openedOf d starts lens o in
     let z = not-over (leb 64 (length (open-now .names))) (formed (not (t || (o .rooted && outside open-now)))) f in

@@ -19,7 +19,8 @@ use Rattle.readers.specs.Value.{isDecimal, isHexadecimal, endsNumber, digitsOf,
 use Rattle.readers.specs.Value.{pieceOf, quotedOf, valueOf}
 use Rattle.readers.specs.Named.{before, targetOf, instructionEnd, instructionOf, eqOf, versionOf, isLetter, isEncoding, encodingOf}
 use Rattle.readers.specs.Named.{yesOrNo, declarationOf, pieceNamed, attributeOf, gather, tagOf, endTagOf, smallTag}
-use Rattle.items.specs.Item.{tagAt, endTagAt, declares, kindOf, itemAt}
+use Rattle.tags.specs.Tag.{tagAt, endTagAt}
+use Rattle.items.specs.Item.{declares, kindOf, itemAt}
 use Rattle.document.specs.Place.{blank}
 use Rattle.document.specs.Judge.{front, startOf, scanFrom, scanned, judgeOf}
 use Rattle.document.specs.declared.Why.the-variants.{Doctype, Malformed, TooLarge}

@@ -13,11 +13,11 @@ use Rattle.chars.specs.Check.{checkOf}
 use Rattle.chars.specs.declared.whole.Checked.{Checked}
 use Rattle.chars.specs.declared.whole.Checked.the-variants.{All, BadAt}
 use Rattle.readers.proofs.Answers.{text-inside}
+use Rattle.tags.specs.declared.Item.{Item}
+use Rattle.tags.specs.declared.Item.the-variants.{Declaration, Instruction, Comment, Section, Reference, Text, Start, Finish}
+use Rattle.tags.specs.declared.Item.the-variants.{Doctype, Malformed, TooLarge, Nothing}
 use Rattle.items.specs.Item.{itemAt}
 use Rattle.items.specs.Inside.{Inside}
-use Rattle.items.specs.declared.Item.{Item}
-use Rattle.items.specs.declared.Item.the-variants.{Declaration, Instruction, Comment, Section, Reference, Text, Start, Finish}
-use Rattle.items.specs.declared.Item.the-variants.{Doctype, Malformed, TooLarge, Nothing}
 use Rattle.items.proofs.Insides.{item-inside}
 use Rattle.document.specs.Place.{Opened, inside, outside, placement, afterItem, endOf}
 use Rattle.document.specs.Levels.{openedOf, Names, openAfter, lenOf}

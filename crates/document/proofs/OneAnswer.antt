@@ -5,7 +5,7 @@ use mathlib.Core.Bool.{false}
 use mathlib.Core.List.{List}
 use Prim.Native.Nat.{ℕ, _+_}
 use lib.ListN.{set}
-use Rattle.items.specs.declared.Item.{Item}
+use Rattle.tags.specs.declared.Item.{Item}
 use Rattle.document.specs.Place.{placement, endOf}
 use Rattle.document.specs.Levels.{openedOf, openAfter, lenOf}
 use Rattle.document.specs.Judge.{startOf, judgeOf}

@@ -11,18 +11,18 @@ use denote.Enum.Declared.{tagOf}
 use mathlib.Core.Logic.{inl, inr}
 use native.Mathlib.Omega.{arith}
 use borrow.Author.Needs.{needs}
-use borrow.Author.Tests.{lt-ltb, le-leb, lt-leb, eq-eqb, ne-eqb}
+use borrow.Author.Tests.{lt-ltb, le-ltb, le-leb, lt-leb, eq-eqb, ne-eqb}
 use lib.Dec.{eqb, leb, ltb}
 use lib.ListN.{length, getD, set}
 use lib.Seq.{set-out}
 use Rattle.xml.specs.Productions.{same}
 use Rattle.chars.specs.Space.{spaceEnd}
-use Rattle.items.specs.Kept.{nameFrom}
+use Rattle.tags.specs.Kept.{nameFrom}
+use Rattle.tags.proofs.Item as item
+use Rattle.tags.specs.declared.Item.{Item}
+use Rattle.tags.specs.declared.Item.the-variants.{Declaration, Instruction, Comment, Section, Reference, Text, Start, Finish}
+use Rattle.tags.specs.declared.Item.the-variants.{Doctype, Malformed, TooLarge, Nothing}
 use Rattle.items.specs.Inside.{Inside}
-use Rattle.items.proofs.Item as item
-use Rattle.items.specs.declared.Item.{Item}
-use Rattle.items.specs.declared.Item.the-variants.{Declaration, Instruction, Comment, Section, Reference, Text, Start, Finish}
-use Rattle.items.specs.declared.Item.the-variants.{Doctype, Malformed, TooLarge, Nothing}
 use Rattle.document.specs.Place.{some, formed, blank, closes, startPlacement, overPlacement, placement, endOf}
 use Rattle.document.specs.Levels.{namesOf, openedOf, Names, startBy, overBy, deeper, openAfter, lenOf}
 use Rattle.document.specs.declared.Open.{Open}
@@ -137,11 +137,10 @@ module _ (d starts lens : List ℕ) (o : Open) where
         → r ≡ placement d at i (openedOf d starts lens o)
     place-reference q h = of-kind at q (h ∙ ap formed (names-some d starts lens (o .level .0)))
 
-    pub place-text : {e k : ℕ} → i ≡ Text e → k ≡ spaceEnd d at → {r : Placement} → r ≡ formed (ltb 0 (o .level .0) || leb e k)
+    pub place-text : {e : ℕ} → i ≡ Text e → {r : Placement} → r ≡ formed (ltb 0 (o .level .0) || blank d at e)
         → r ≡ placement d at i (openedOf d starts lens o)
-    unfolding blank
-    place-text {e} q s h =
-        of-kind at q (h ∙ ap₂ (λ (x : Bool) (k : ℕ). formed (x || leb e k)) (names-some d starts lens (o .level .0)) s)
+    place-text {e} q h =
+        of-kind at q (h ∙ ap (λ (x : Bool). formed (x || blank d at e)) (names-some d starts lens (o .level .0)))
 
     pub place-start : {n h e : ℕ} {m t : Bool} → i ≡ Start n h e m t → {r : Placement} → r ≡ startBy (o .level .0) (o .rooted) t
         → r ≡ placement d at i (openedOf d starts lens o)
@@ -175,6 +174,17 @@ module _ (d : List ℕ) (at : ℕ) {i : Item} (h : Inside d at i) {n e : ℕ} (q
   pub finish-fits : length d < 2 ^ 64 → Fits w64 (at + 2)
   finish-fits l = record { fits = let z = finish-ahead in omega arith }
 
+-- text: any inside the root, white space outside it
+pub text-any : (level : ℕ) (b : Bool) → 0 < level → Fine ≡ formed (ltb 0 level || b)
+text-any level b l = sym (rw (lt-ltb 0 level l))
+
+pub text-blank : (d : List ℕ) (at e level : ℕ) {k : ℕ} → level ≤ 0 → k ≡ spaceEnd d at → {r : Placement} → r ≡ formed (leb e k)
+    → r ≡ formed (ltb 0 level || blank d at e)
+unfolding blank
+text-blank d at e level l s h = h ∙ rw (le-ltb 0 level l, s)
+
+pub ruleset texts = (text-any, text-blank, needs)
+
 pub ruleset placing = (
   place-declaration,
   place-instruction,
@@ -205,7 +215,7 @@ one-among (k ∷ []) x h = ap (λ (b : Bool). b || false) (eq-eqb x k h)
 one-among (k ∷ (l ∷ ks)) x (inl h) = ap (λ (b : Bool). b || among (l ∷ ks) x) (eq-eqb x k h)
 one-among (k ∷ (l ∷ ks)) x (inr h) = ap (λ (b : Bool). eqb x k || b) (one-among (l ∷ ks) x h) ∙ or-true (eqb x k)
 
-not-among : (ks : List ℕ) (x : ℕ) → among ks x ≡ false → OneOf ks x → ⊥
+pub not-among : (ks : List ℕ) (x : ℕ) → among ks x ≡ false → OneOf ks x → ⊥
 not-among ks x q h = false≢true (sym q ∙ one-among ks x h)
 
 -- ---- `end_of`, `len_of`, `keep`

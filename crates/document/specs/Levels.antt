@@ -6,10 +6,10 @@ use mathlib.Core.List.{List, [], _∷_}
 use Prim.Native.Nat.{ℕ, zero, suc, _+_, _-_, _≤_, _<_}
 use lib.Dec.{eqb, leb}
 use lib.ListN.{length, getD}
-use Rattle.items.specs.Kept.{nameFrom}
-use Rattle.items.specs.declared.Item.{Item}
-use Rattle.items.specs.declared.Item.the-variants.{Declaration, Instruction, Comment, Section, Reference, Text, Start, Finish}
-use Rattle.items.specs.declared.Item.the-variants.{Doctype as ADoctype, Malformed as NotFormed, TooLarge as OverSize, Nothing}
+use Rattle.tags.specs.Kept.{nameFrom}
+use Rattle.tags.specs.declared.Item.{Item}
+use Rattle.tags.specs.declared.Item.the-variants.{Declaration, Instruction, Comment, Section, Reference, Text, Start, Finish}
+use Rattle.tags.specs.declared.Item.the-variants.{Doctype as ADoctype, Malformed as NotFormed, TooLarge as OverSize, Nothing}
 use Rattle.document.specs.Place.{Opened, formed}
 use Rattle.document.specs.declared.Placement.{Placement}
 use Rattle.document.specs.declared.Placement.the-variants.{Fault, Over}

@@ -7,10 +7,10 @@ use lib.Dec.{leb}
 use lib.ListN.{length}
 use Rattle.xml.specs.Productions.{same}
 use Rattle.chars.specs.Space.{spaceEnd}
-use Rattle.items.specs.Kept.{nameFrom}
-use Rattle.items.specs.declared.Item.{Item}
-use Rattle.items.specs.declared.Item.the-variants.{Declaration, Instruction, Comment, Section, Reference, Text, Start, Finish}
-use Rattle.items.specs.declared.Item.the-variants.{Doctype, Malformed, TooLarge, Nothing}
+use Rattle.tags.specs.Kept.{nameFrom}
+use Rattle.tags.specs.declared.Item.{Item}
+use Rattle.tags.specs.declared.Item.the-variants.{Declaration, Instruction, Comment, Section, Reference, Text, Start, Finish}
+use Rattle.tags.specs.declared.Item.the-variants.{Doctype, Malformed, TooLarge, Nothing}
 use Rattle.document.specs.declared.Placement.{Placement}
 use Rattle.document.specs.declared.Placement.the-variants.{Fine, Fault, Over}
 use Rattle.document.specs.declared.Why.the-variants.{Doctype as ADoctype, Malformed as NotFormed, TooLarge as OverSize}

@@ -1,7 +1,7 @@
 // The answer on a document alone: too long; not all characters; else item by item, the first at fault decides. The three bytes EF BB BF are
 // skipped at the front, and counted in every place.
 ghost use mathlib.Core.Path.{_≡_};
-ghost use Rattle.chars.specs.Class.{classTable};
+ghost use Rattle.points.specs.Class.{classTable};
 ghost use Rattle.document.specs.Judge.{startOf, scanned, judgeOf};
 use crate::Open;
 use crate::Placement;
@@ -9,12 +9,12 @@ use crate::Why;
 use crate::place::end_of;
 use crate::place::keep;
 use crate::place::place;
-use chars::table::Classes;
-use chars::table::classes;
 use chars::text::stands;
 use chars::whole::Checked;
 use chars::whole::check;
 use items::told::item;
+use points::table::Classes;
+use points::table::classes;
 
 // What is said of a document: sound; over 16,777,216 bytes; the first sequence that is no character begins at a place; an item at a place
 // is at fault, and why.

@@ -6,18 +6,19 @@
 ghost use mathlib.Core.Path.{_≡_};
 ghost use Prim.Native.Nat.{_+_, _-_, _≤_};
 ghost use lib.ListN.{length, set};
-ghost use Rattle.items.specs.Kept.{nameFrom};
+ghost use Rattle.tags.specs.Kept.{nameFrom};
 ghost use Rattle.items.specs.Inside.{Inside};
-ghost use mathlib.Core.Bool.{false};
-ghost use Rattle.document.specs.Place.{closes as closesOf, formed as formedOf, placement, endOf};
+ghost use mathlib.Core.Bool.{false, _||_};
+ghost use lib.Dec.{ltb};
+ghost use Rattle.document.specs.Place.{closes as closesOf, formed as formedOf, blank, placement, endOf};
 ghost use Rattle.document.specs.Levels.{Names, namesOf, openedOf, startBy, overBy, openAfter, deeper as deeperOf, lenOf};
 use crate::InputLevel;
 use crate::Open;
 use crate::Placement;
 use crate::Why;
 use chars::space::after_space;
-use items::Item;
-use items::names::same_name;
+use tags::Item;
+use tags::names::same_name;
 
 // Well-formed if the test holds.
 fn formed(test: bool) -> Placement
@@ -61,6 +62,16 @@ fn start(opened: Open, twice: bool) -> Placement
     Placement::Fault(Why::TooLarge)
 }
 
+// Text from at to e: any inside the root, white space outside it.
+fn text(doc: &[u8], level: usize, at: usize, e: usize) -> Placement
+    ensures { λ r. ⌜ r ≡ formedOf (ltb 0 level || blank (now (doc .entry)) at e) ⌝ }
+{
+    if level > 0 {
+        return Placement::Fine;
+    }
+    formed(e <= after_space(doc, at))
+}
+
 // Nothing is left: a root was there, and all is closed.
 fn over(opened: Open) -> Placement
     ensures { λ r. ⌜ r ≡ overBy (opened .level .0) (opened .rooted) ⌝ }
@@ -85,14 +96,15 @@ pub fn place(
     ensures { λ r.
         ⌜ r ≡ placement (now (doc .entry)) at item (openedOf (now (doc .entry)) (now (starts .entry)) (now (lens .entry)) opened) ⌝ }
 {
-    let inside = opened.level.0 > 0;
+    let level = opened.level.0;
+    let inside = level > 0;
     match item {
         Item::Declaration(_) => Placement::Fine,
         Item::Instruction(_) => Placement::Fine,
         Item::Comment(_) => Placement::Fine,
         Item::Section(_) => formed(inside),
         Item::Reference(_) => formed(inside),
-        Item::Text(e) => formed(inside | (e <= after_space(doc, at))),
+        Item::Text(e) => text(doc, level, at, e),
         Item::Start {
             name: _,
             head: _,

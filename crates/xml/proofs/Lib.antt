@@ -1,10 +1,11 @@
--- What follows from the definitions: UTF-8 by the table and by its rule, characters and runs of them, the notation's ordinary meaning, the
--- notation computed, and worked examples of every production.
+-- What follows from the definitions: UTF-8 by the table and by its rule, characters and runs of them, [2] by its borders, the notation's
+-- ordinary meaning, the notation computed, and worked examples of every production.
 pub mod Bools
 pub mod Same
 pub mod Utf8
 pub mod Character
 pub mod Run
+pub mod Borders
 pub mod Language
 pub mod Examples
 pub mod Computes

@@ -3,7 +3,7 @@
 use mathlib.Core.Path.{_≡_}
 use Prim.Native.Nat.{_-_}
 use lib.ListN.{length}
-use Rattle.chars.specs.Class.{classTable}
+use Rattle.points.specs.Class.{classTable}
 use Rattle.document.proofs.Judging.{scanning, Judging}
 use Rattle.document.proofs.judge.scan.Statement.{statement}
 use Rattle.document.proofs.judge.scan.Tie as tie

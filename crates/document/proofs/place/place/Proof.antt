@@ -28,11 +28,8 @@ formed-requires-2 c κs = search placing
 enum-known-item : tie.Need-enum-known-item
 enum-known-item c = search placing
 
-after-space-requires : tie.Need-after-space-requires
-after-space-requires c κs = search placing
-
-formed-requires-3 : tie.Need-formed-requires-3
-formed-requires-3 c κs = search placing
+text-requires : tie.Need-text-requires
+text-requires c κs = search placing
 
 enum-known-item-2 : tie.Need-enum-known-item-2
 enum-known-item-2 c = search placing
@@ -49,8 +46,8 @@ add-closes c = search placing
 closes-requires : tie.Need-closes-requires
 closes-requires c κs = search placing
 
-formed-requires-4 : tie.Need-formed-requires-4
-formed-requires-4 c κs = search placing
+formed-requires-3 : tie.Need-formed-requires-3
+formed-requires-3 c κs = search placing
 
 enum-told-6 : tie.Need-enum-told-6
 enum-told-6 c = search placing
@@ -115,14 +112,13 @@ place-spec =
     enum-told-5
     formed-requires-2
     enum-known-item
-    after-space-requires
-    formed-requires-3
+    text-requires
     enum-known-item-2
     start-requires
     enum-known-item-3
     add-closes
     closes-requires
-    formed-requires-4
+    formed-requires-3
     enum-told-6
     enum-told-7
     enum-told-8
