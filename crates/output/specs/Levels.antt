@@ -1,0 +1,63 @@
+-- What the code's numbers and arrays stand for: an engine. In order: the names kept by level; the text laid; the engine that they stand
+-- for; and a step, which makes of whatever engine they stand for what f makes of it.
+use mathlib.Core.Path.{_≡_}
+use mathlib.Core.Bool.{Bool}
+use mathlib.Core.List.{List, [], _∷_}
+use Prim.Native.Nat.{ℕ, zero, suc, _+_, _-_, _*_, _≤_, _<_}
+use lib.ListN.{length, getD}
+use lib.Seq.{sets}
+use Rattle.xml.specs.Forest.{Name}
+use Rattle.tags.specs.Kept.{nameFrom}
+use Rattle.trees.specs.Engine.{Engine, keptOf, pendOf, doneOf, outOf, numOf}
+use Rattle.output.specs.declared.Run.{Run}
+
+-- the name at an index: the one below the root is at 1
+unfoldable pub nameAt : List ℕ → List ℕ → List ℕ → ℕ → Name
+nameAt d starts lens i = nameFrom d (getD starts i 0) (getD lens i 0)
+
+-- k names from the index lo on, the innermost first
+abbrev pub span : (ℕ → Name) → ℕ → ℕ → List Name
+span f lo zero = []
+span f lo (suc k) = f (lo + k) ∷ span f lo k
+
+-- the names of the first `level` levels are inside the document
+pub record Placed (d starts lens : List ℕ) (level : ℕ) : Type 0 where
+  pub deep : level ≤ 64
+  pub starts-long : length starts ≡ 64
+  pub lens-long : length lens ≡ 64
+  pub inside : (i : ℕ) → i < level → getD starts i 0 + getD lens i 0 ≤ length d
+
+-- the buffer, which was o₀, has the text w at its front as far as it reaches
+pub record Laid (o₀ : List ℕ) (len : ℕ) (o w : List ℕ) : Type 0 where
+  pub long : length w ≡ len
+  pub laid : o ≡ sets o₀ 0 w
+
+-- The code's state stands for an engine: `level` is the input level, `reached` the output level; o₀ is the buffer at the beginning, o the
+-- buffer now.
+pub record Stands (d starts lens o₀ : List ℕ) (level reached : ℕ) (kept : Bool) (len count : ℕ) (o : List ℕ) (e : Engine) : Type 0 where
+  pub kept-is : keptOf e ≡ kept
+  pub pend-is : pendOf e ≡ span (nameAt d starts lens) reached (level - reached)
+  pub done-is : doneOf e ≡ span (nameAt d starts lens) 0 reached
+  pub num-is : numOf e ≡ count
+  pub text : Laid o₀ len o (outOf e)
+
+-- Some steps do what f does to whatever engine the state stands for. Each writes at most 2^31 bytes, and selects one element at most.
+pub record Moved (d starts lens : List ℕ) (level reached : ℕ) (kept : Bool) (len count : ℕ) (o : List ℕ) (f : Engine → Engine)
+    (steps level′ reached′ : ℕ) (kept′ : Bool) (len′ count′ : ℕ) (o′ : List ℕ) : Type 0 where
+  pub moves : (o₀ : List ℕ) (e : Engine) → Stands d starts lens o₀ level reached kept len count o e
+      → Stands d starts lens o₀ level′ reached′ kept′ len′ count′ o′ (f e)
+  pub order : reached′ ≤ level′
+  pub far : len′ ≤ len + steps * 2147483648
+  pub few : count′ ≤ count + steps
+  pub same : length o′ ≡ length o
+
+abbrev pub Moves : List ℕ → List ℕ → List ℕ → ℕ → Run → List ℕ → (Engine → Engine) → ℕ → ℕ → Run → List ℕ → Type 0
+Moves d starts lens level r o f steps level′ r′ o′ =
+    Moved d starts lens level (r .reached .0) (r .kept) (r .len) (r .count) o f steps
+    level′ (r′ .reached .0) (r′ .kept) (r′ .len) (r′ .count) o′
+
+-- no number that a step reckons with goes over 64 bits
+pub record Ready (d : List ℕ) (r : Run) (most : ℕ) : Type 0 where
+  pub small : length d ≤ 16777216
+  pub near : r .len < most
+  pub few : r .count < most

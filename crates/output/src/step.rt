@@ -1,0 +1,234 @@
+// An item's step: what is written at it, and what the run is after it. The names of the open elements are kept by level, and that of a
+// start tag or empty tag stands there before its step.
+ghost use mathlib.Core.Path.{_≡_};
+ghost use mathlib.Core.List.{List};
+ghost use Prim.Native.Nat.{ℕ, _+_, _-_, _≤_, _<_};
+ghost use lib.ListN.{length};
+ghost use Rattle.items.specs.Inside.{Inside};
+ghost use Rattle.document.specs.Levels.{deeper};
+ghost use Rattle.trees.specs.Cut.{one};
+ghost use Rattle.trees.specs.Grown.{part};
+ghost use Rattle.trees.specs.Engine.{onStart, onFinish, onAside};
+ghost use Rattle.output.specs.Levels.{nameAt, Placed, Ready, Moves};
+ghost use Rattle.output.specs.Act.{onTag, onOther, levelAfter};
+use crate::OutputLevel;
+use crate::Run;
+use crate::chain::open_chain;
+use document::InputLevel;
+use document::Open;
+use document::place::end_of;
+use matcher::Verdict;
+use tags::Item;
+use writer::copy;
+use writer::end_tag;
+use writer::put;
+use writer::start_tag;
+
+// How many elements a verdict selects.
+fn one_of(verdict: Verdict) -> usize
+    ensures { λ r. ⌜ (r ≡ one verdict) × (r ≤ 1) ⌝ }
+{
+    match verdict {
+        Verdict::Unselected => 0,
+        Verdict::Selected => 1,
+        Verdict::Marked => 1,
+    }
+}
+
+// An item that is no tag: written inside a kept entry, else dropped.
+fn aside(run: Run, doc: &[u8], out: &mut [u8], at: usize, end: usize) -> Run
+    requires { ⌜ Ready (now doc) run 144115188075855872 × (at ≤ end) × (end ≤ length (now doc)) ⌝ }
+    ensures { λ r.
+        ⌜ ((starts lens : List ℕ) (level : ℕ) → run .reached .0 ≤ level
+        → Moves (now (doc .entry)) starts lens level run (now (out .entry)) (onAside (part (now (doc .entry)) at end)) 1 level r
+        (now (out .exit))) ⌝ }
+{
+    if run.kept {
+        let len = copy(out, run.len, &doc[at..end]);
+        return Run {
+            reached: OutputLevel(run.reached.0),
+            kept: true,
+            len,
+            count: run.count,
+        };
+    }
+    run
+}
+
+// The end of the innermost element, which has an end tag from at to end; an empty tag's has no bytes.
+fn finish(
+    run: Run,
+    level: InputLevel,
+    doc: &[u8],
+    starts: &[usize; Open::LEVELS],
+    lens: &[usize; Open::LEVELS],
+    out: &mut [u8],
+    at: usize,
+    end: usize,
+) -> Run
+    requires { ⌜ Ready (now doc) run 144115188075855872 × (run .reached .0 ≤ level .0) × (at ≤ end) × (end ≤ length (now doc))
+        × Placed (now doc) (now starts) (now lens) (level .0) ⌝ }
+    ensures { λ r.
+        ⌜ Moves (now (doc .entry)) (now (starts .entry)) (now (lens .entry)) (level .0) run (now (out .entry))
+        (onFinish (part (now (doc .entry)) at end)) 1 (level .0 - 1) r (now (out .exit)) ⌝ }
+{
+    let l = level.0;
+    if l == 0 {
+        return run;
+    }
+    let reached = run.reached.0;
+    if l <= reached {
+        let a = starts[l - 1];
+        let n = lens[l - 1];
+        let len = end_tag(out, run.len, &doc[a..a + n]);
+        return Run {
+            reached: OutputLevel(l - 1),
+            kept: run.kept,
+            len,
+            count: run.count,
+        };
+    }
+    if run.kept {
+        let len = copy(out, run.len, &doc[at..end]);
+        return Run {
+            reached: OutputLevel(reached),
+            kept: reached + 1 < l,
+            len,
+            count: run.count,
+        };
+    }
+    run
+}
+
+// A start tag from at to end, whose head ends at head.
+fn start(
+    run: Run,
+    level: InputLevel,
+    doc: &[u8],
+    starts: &[usize; Open::LEVELS],
+    lens: &[usize; Open::LEVELS],
+    out: &mut [u8],
+    verdict: Verdict,
+    at: usize,
+    head: usize,
+    end: usize,
+) -> Run
+    requires { ⌜ Ready (now doc) run 144115188075855872 × (run .reached .0 ≤ level .0) × (at ≤ head) × (head ≤ end)
+        × (end ≤ length (now doc)) × Placed (now doc) (now starts) (now lens) (level .0 + 1) ⌝ }
+    ensures { λ r.
+        ⌜ Moves (now (doc .entry)) (now (starts .entry)) (now (lens .entry)) (level .0) run (now (out .entry))
+        (onStart verdict (nameAt (now (doc .entry)) (now (starts .entry)) (now (lens .entry)) (level .0))
+        (part (now (doc .entry)) at head) (part (now (doc .entry)) at end)) 1 (level .0 + 1) r (now (out .exit)) ⌝ }
+{
+    let l = level.0;
+    let reached = run.reached.0;
+    if run.kept {
+        let len = copy(out, run.len, &doc[at..end]);
+        let n = one_of(verdict);
+        return Run {
+            reached: OutputLevel(reached),
+            kept: true,
+            len,
+            count: run.count + n,
+        };
+    }
+    match verdict {
+        Verdict::Marked => {
+            let a = open_chain(doc, starts, lens, out, run.len, reached, l);
+            let len = copy(out, a, &doc[at..end]);
+            Run {
+                reached: OutputLevel(l),
+                kept: true,
+                len,
+                count: run.count + 1,
+            }
+        }
+        Verdict::Selected => {
+            let a = open_chain(doc, starts, lens, out, run.len, reached, l);
+            let e = copy(out, a, &doc[at..head]);
+            let len = put(out, e, b'>');
+            Run {
+                reached: OutputLevel(l + 1),
+                kept: false,
+                len,
+                count: run.count + 1,
+            }
+        }
+        Verdict::Unselected => {
+            if l == 0 {
+                let a = starts[l];
+                let n = lens[l];
+                let len = start_tag(out, run.len, &doc[a..a + n]);
+                return Run {
+                    reached: OutputLevel(1),
+                    kept: false,
+                    len,
+                    count: run.count,
+                };
+            }
+            run
+        }
+    }
+}
+
+// The step of a start tag or empty tag from at to end, whose head ends at head, by the verdict on its element. An empty tag is its own end.
+pub fn tag_step(
+    run: Run,
+    level: InputLevel,
+    doc: &[u8],
+    starts: &[usize; Open::LEVELS],
+    lens: &[usize; Open::LEVELS],
+    out: &mut [u8],
+    verdict: Verdict,
+    at: usize,
+    head: usize,
+    end: usize,
+    empty: bool,
+) -> Run
+    requires { ⌜ Ready (now doc) run 72057594037927936 × (run .reached .0 ≤ level .0) × (at ≤ head) × (head ≤ end)
+        × (end ≤ length (now doc)) × Placed (now doc) (now starts) (now lens) (level .0 + 1) ⌝ }
+    ensures { λ r.
+        ⌜ Moves (now (doc .entry)) (now (starts .entry)) (now (lens .entry)) (level .0) run (now (out .entry))
+        (onTag verdict (nameAt (now (doc .entry)) (now (starts .entry)) (now (lens .entry)) (level .0))
+        (part (now (doc .entry)) at head) (part (now (doc .entry)) at end) empty) 2 (deeper empty (level .0)) r (now (out .exit)) ⌝ }
+{
+    let reached = level.0;
+    let inner = start(run, level, doc, starts, lens, out, verdict, at, head, end);
+    if empty {
+        return finish(
+            inner,
+            InputLevel(reached + 1),
+            doc,
+            starts,
+            lens,
+            out,
+            end,
+            end,
+        );
+    }
+    inner
+}
+
+// The step of an item that is no start tag and no empty tag.
+pub fn other_step(
+    run: Run,
+    level: InputLevel,
+    doc: &[u8],
+    starts: &[usize; Open::LEVELS],
+    lens: &[usize; Open::LEVELS],
+    out: &mut [u8],
+    at: usize,
+    item: Item,
+) -> Run
+    requires { ⌜ Ready (now doc) run 72057594037927936 × (run .reached .0 ≤ level .0) × Inside (now doc) at item
+        × (at ≤ length (now doc)) × Placed (now doc) (now starts) (now lens) (level .0) ⌝ }
+    ensures { λ r.
+        ⌜ Moves (now (doc .entry)) (now (starts .entry)) (now (lens .entry)) (level .0) run (now (out .entry))
+        (onOther (now (doc .entry)) at item) 1 (levelAfter item (level .0)) r (now (out .exit)) ⌝ }
+{
+    if let Item::Finish { name: _, end } = item {
+        return finish(run, level, doc, starts, lens, out, at, end);
+    }
+    let end = end_of(at, item);
+    aside(run, doc, out, at, end)
+}
