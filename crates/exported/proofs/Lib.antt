@@ -1,4 +1,4 @@
 -- Laws:
 -- the number for each case, and one answer.
-pub mod Numbers
+pub mod Numbering
 pub mod OneAnswer

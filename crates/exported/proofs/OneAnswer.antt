@@ -1,9 +1,22 @@
--- Two results that the contract of `choughbell_check` allows are equal. It cannot change what it is lent, so the result is all that it
--- hands back.
+-- Two results that one contract allows are equal: of `choughbell_check` and `numbers_of`, which can't change what they are lent, and of
+-- `choughbell_cut` with what it leaves in the buffer.
 use mathlib.Core.Path.{_≡_, sym, _∙_}
 use mathlib.Core.List.{List}
 use Prim.Native.Nat.{ℕ}
-use Rattle.exported.specs.Numbers.{checkEnd}
+use lib.ListN.{length}
+use Rattle.cutter.specs.Answer.{answerOf, bytesAfter}
+use Rattle.cutter.specs.declared.Answer.{Answer}
+use Rattle.exported.specs.Numbers.{checkEnd, numbersOf}
+use Rattle.exported.specs.declared.Numbers.{Numbers}
 
 pub check-one : (s : List ℕ) (r r′ : ℕ) → r ≡ checkEnd s → r′ ≡ checkEnd s → r ≡ r′
 check-one s r r′ p q = p ∙ sym q
+
+pub numbers-one : (a : Answer) (r r′ : Numbers) → r ≡ numbersOf a → r′ ≡ numbersOf a → r ≡ r′
+numbers-one a r r′ p q = p ∙ sym q
+
+-- o is the buffer before, w and w′ are what stands in it afterwards
+pub cut-one : (list doc o : List ℕ) (r r′ : Numbers) (w w′ : List ℕ)
+    → r ≡ numbersOf (answerOf list doc (length o)) → w ≡ bytesAfter list doc o
+    → r′ ≡ numbersOf (answerOf list doc (length o)) → w′ ≡ bytesAfter list doc o → (r ≡ r′) × (w ≡ w′)
+cut-one list doc o r r′ w w′ p u q v = (p ∙ sym q, u ∙ sym v)

@@ -1,11 +1,14 @@
--- The number for each case of an answer, as callers in Rust and C get it: where a check of n bytes ends, all of them or the offset of the
--- first bad sequence.
+-- The numbers for each case of an answer, as callers in Rust and C get them: where a check of n bytes ends, all of them or the offset of
+-- the first bad sequence; and the three numbers of a cut.
 use mathlib.Core.List.{List}
 use Prim.Native.Nat.{ℕ}
 use lib.ListN.{length}
 use Rattle.chars.specs.Check.{checkOf}
 use Rattle.chars.specs.declared.whole.Checked.{Checked}
 use Rattle.chars.specs.declared.whole.Checked.the-variants.{All, BadAt}
+use Rattle.cutter.specs.Answer.{numberOf, secondOf, thirdOf}
+use Rattle.cutter.specs.declared.Answer.{Answer}
+use Rattle.exported.specs.declared.Numbers.{Numbers}
 
 -- of n bytes, how many are sound
 abbrev pub soundOf : ℕ → Checked → ℕ
@@ -14,3 +17,10 @@ soundOf n (BadAt o) = o
 
 unfoldable pub checkEnd : List ℕ → ℕ
 checkEnd d = soundOf (length d) (checkOf d)
+
+-- a number with a second one, and no third
+abbrev pub refusalOf : ℕ → ℕ → Numbers
+refusalOf n s = record { number = n; second = s; third = 0 }
+
+abbrev pub numbersOf : Answer → Numbers
+numbersOf a = record { number = numberOf a; second = secondOf a; third = thirdOf a }

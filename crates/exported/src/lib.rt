@@ -1,8 +1,52 @@
 // What callers in Rust and C can call: numbers pass as themselves, a slice as a pointer and then a length. An answer that is an enum in the
-// library is a number here.
+// library is a number here, or three: document 01's "Numbers handed back".
 ghost use mathlib.Core.Path.{_≡_};
-ghost use Rattle.exported.specs.Numbers.{checkEnd};
+ghost use lib.ListN.{length};
+ghost use Rattle.cutter.specs.Answer.{answerOf, bytesAfter};
+ghost use Rattle.exported.specs.Numbers.{checkEnd, refusalOf, numbersOf};
 use chars::whole::Checked;
+use cutter::Answer;
+
+// The number, the second and the third.
+#[repr(C)]
+pub struct Numbers {
+    pub number: u64,
+    pub second: u64,
+    pub third: u64,
+}
+
+// A number with a second one, and no third.
+fn refusal(number: u64, second: usize) -> Numbers
+    ensures { λ r. ⌜ r ≡ refusalOf number second ⌝ }
+{
+    Numbers {
+        number,
+        second: second as u64,
+        third: 0,
+    }
+}
+
+// The numbers of an answer.
+pub fn numbers_of(a: Answer) -> Numbers
+    ensures { λ r. ⌜ r ≡ numbersOf a ⌝ }
+{
+    match a {
+        Answer::Written { length, selected } => Numbers {
+            number: 0,
+            second: length as u64,
+            third: selected as u64,
+        },
+        Answer::ListTooLong => refusal(1, 0),
+        Answer::ListMalformed(line) => refusal(2, line),
+        Answer::ListTooLarge(line) => refusal(3, line),
+        Answer::TooLong => refusal(4, 0),
+        Answer::NotChar(o) => refusal(5, o),
+        Answer::Doctype(o) => refusal(6, o),
+        Answer::Malformed(o) => refusal(7, o),
+        Answer::TooLarge(o) => refusal(8, o),
+        Answer::Short(needed) => refusal(9, needed),
+    }
+}
 
 // How many bytes at the front are characters that XML allows: all of them, or the offset of the first bad sequence.
 #[no_mangle]
@@ -13,4 +57,14 @@ pub extern "C" fn choughbell_check(s: &[u8]) -> usize
         Checked::All => s.len(),
         Checked::BadAt(o) => o,
     }
+}
+
+// Writes the cut of a document by a list into a buffer, and gives the numbers of the answer.
+#[no_mangle]
+pub extern "C" fn choughbell_cut(list: &[u8], doc: &[u8], out: &mut [u8]) -> Numbers
+    ensures { λ r. ⌜ r ≡ numbersOf (answerOf (now (list .entry)) (now (doc .entry)) (length (now (out .entry)))) ⌝ }
+    ensures { λ r. ⌜ now (out .exit) ≡ bytesAfter (now (list .entry)) (now (doc .entry)) (now (out .entry)) ⌝ }
+{
+    let a = cutter::cut(list, doc, out);
+    numbers_of(a)
 }

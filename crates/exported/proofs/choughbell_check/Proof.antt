@@ -1,6 +1,6 @@
 -- `choughbell_check` meets its contract: each case of the answer gives its number.
--- proofs/Numbers.antt has the laws.
-use Rattle.exported.proofs.Numbers.{numbering}
+-- proofs/Numbering.antt has the laws.
+use Rattle.exported.proofs.Numbering.{numbering}
 use Rattle.exported.proofs.choughbell_check.Statement.{statement}
 use Rattle.exported.proofs.choughbell_check.Tie as tie
 

@@ -8,7 +8,9 @@ use borrow.Author.Needs.{needs}
 use Rattle.chars.specs.Check.{checkOf}
 use Rattle.chars.specs.declared.whole.Checked.{Checked}
 use Rattle.chars.specs.declared.whole.Checked.the-variants.{All, BadAt}
-use Rattle.exported.specs.Numbers.{soundOf, checkEnd}
+use Rattle.cutter.specs.declared.Answer.{Answer}
+use Rattle.exported.specs.Numbers.{soundOf, checkEnd, numbersOf}
+use Rattle.exported.specs.declared.Numbers.{Numbers}
 
 module _ (d : List ℕ) {r : Checked} (q : r ≡ checkOf d) where
   pub check-all : r ≡ All → length d ≡ checkEnd d
@@ -19,4 +21,8 @@ module _ (d : List ℕ) {r : Checked} (q : r ≡ checkOf d) where
   unfolding checkEnd
   check-bad h = ap (soundOf (length d)) (sym h ∙ q)
 
-pub ruleset numbering = (check-all, check-bad, needs)
+-- the numbers of a case are those of the answer that is this case
+pub numbers-case : {a b : Answer} {r : Numbers} → a ≡ b → r ≡ numbersOf b → r ≡ numbersOf a
+numbers-case h q = q ∙ sym (ap numbersOf h)
+
+pub ruleset numbering = (check-all, check-bad, numbers-case, needs)

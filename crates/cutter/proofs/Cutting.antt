@@ -1,0 +1,155 @@
+-- `cut`, and the functions under it: one law for each way out, about the answer and about the buffer.
+-- `fault_of`; a document that is measured, and written where there is room; its length and its characters; the list.
+use mathlib.Core.Path.{_≡_, refl, sym, ap, _∙_}
+use mathlib.Core.Bool.{Bool, cond}
+use mathlib.Core.List.{List}
+use Prim.Native.Nat.{ℕ, _≤_, _<_}
+use native.Mathlib.Omega.{arith}
+use borrow.Author.Needs.{needs}
+use borrow.Author.Tests.{lt-ltb, le-ltb}
+use lib.Dec.{ltb}
+use lib.ListN.{length}
+use lib.Seq.{sets}
+use Rattle.paths.specs.Judge.{listAnswer}
+use Rattle.paths.specs.declared.ListAnswer.{ListAnswer}
+use Rattle.paths.specs.declared.ListAnswer.the-variants as lists
+use Rattle.chars.specs.Check.{checkOf}
+use Rattle.chars.specs.declared.whole.Checked.{Checked}
+use Rattle.chars.specs.declared.whole.Checked.the-variants.{All, BadAt}
+use Rattle.document.specs.Judge.{scanned, judgeOf}
+use Rattle.document.specs.declared.Why.{Why}
+use Rattle.document.specs.declared.Why.the-variants as why
+use Rattle.document.specs.declared.judge.Judged.{Judged}
+use Rattle.document.specs.declared.judge.Judged.the-variants as judged
+use Rattle.document.proofs.Judging.{judged-long, judged-items, judged-char}
+use Rattle.writer.proofs.Laying.{laid-whole}
+use Rattle.trees.specs.Written.{cutOf, countOf}
+use Rattle.cutter.specs.Answer.{byList, faultOf, byDocument, byRoom, answerOf, after, bytesAfter}
+use Rattle.passes.specs.Passed.{judgedBy, Told, Passed}
+use Rattle.cutter.specs.declared.Answer.{Answer}
+use Rattle.cutter.specs.declared.Answer.the-variants.{Written, ListTooLong, ListMalformed, ListTooLarge, TooLong, NotChar}
+use Rattle.cutter.specs.declared.Answer.the-variants.{Doctype, Malformed, TooLarge, Short}
+use Rattle.passes.specs.declared.Outcome.{Outcome}
+use Rattle.passes.specs.declared.Outcome.the-variants.{Fine, Fault}
+
+-- ---- `fault_of`
+
+module _ {w : Why} (o : ℕ) where
+  pub fault-doctype : w ≡ why.Doctype → Doctype o ≡ faultOf w o
+  fault-doctype q = sym (ap (λ (x : Why). faultOf x o) q)
+
+  pub fault-malformed : w ≡ why.Malformed → Malformed o ≡ faultOf w o
+  fault-malformed q = sym (ap (λ (x : Why). faultOf x o) q)
+
+  pub fault-large : w ≡ why.TooLarge → TooLarge o ≡ faultOf w o
+  fault-large q = sym (ap (λ (x : Why). faultOf x o) q)
+
+pub ruleset faults = (fault-doctype, fault-malformed, fault-large, needs)
+
+-- ---- the answer and the buffer, together
+
+pub record Answers (list d o : List ℕ) (r : Answer) (o′ : List ℕ) : Type 0 where
+  pub is : r ≡ answerOf list d (length o)
+  pub bytes : o′ ≡ bytesAfter list d o
+
+-- the two promises of the contracts
+pub both : {list d o : List ℕ} {r : Answer} {o′ : List ℕ} → Answers list d o r o′
+    → (r ≡ answerOf list d (length o)) × (o′ ≡ bytesAfter list d o)
+both a = (a .is, a .bytes)
+
+-- an answer under which the buffer stays
+abbrev Keeps : Answer → Type 0
+Keeps r = (w o : List ℕ) → after r w o ≡ o
+
+module _ {list d o : List ℕ} where
+  stays : {r : Answer} → Keeps r → r ≡ answerOf list d (length o) → Answers list d o r o
+  unfolding bytesAfter
+  stays {r} k e =
+      record { is = e; bytes = sym (k (cutOf list d) o) ∙ ap (λ (x : Answer). after x (cutOf list d) o) e }
+
+fault-keeps : (w : Why) (n : ℕ) → Keeps (faultOf w n)
+fault-keeps why.Doctype n w o = refl
+fault-keeps why.Malformed n w o = refl
+fault-keeps why.TooLarge n w o = refl
+
+-- ---- a sound list
+
+-- what is left to the document
+by-document : (list d o : List ℕ) → listAnswer list ≡ lists.Sound → {j : Judged} → j ≡ judgeOf d
+    → byDocument j (byRoom (length o) (cutOf list d) (countOf list d)) ≡ answerOf list d (length o)
+unfolding answerOf
+by-document list d o sound e =
+    ap (λ (x : Judged). byDocument x (byRoom (length o) (cutOf list d) (countOf list d))) e
+    ∙ sym (ap (λ (x : ListAnswer). byList x (byDocument (judgeOf d) (byRoom (length o) (cutOf list d) (countOf list d)))) sound)
+
+module _ (list d o : List ℕ) (sound : listAnswer list ≡ lists.Sound) where
+  pub by-long : 16777216 < length d → Answers list d o TooLong o
+  by-long l = stays (λ w o. refl) (by-document list d o sound (judged-long d l))
+
+  pub by-char : length d ≤ 16777216 → {c : Checked} → c ≡ checkOf d → {k : ℕ} → c ≡ BadAt k → Answers list d o (NotChar k) o
+  by-char l e q = stays (λ w o. refl) (by-document list d o sound (judged-char d l e q))
+
+-- ---- and a document of characters
+
+module _ (list d o : List ℕ) (sound : listAnswer list ≡ lists.Sound) (small : length d ≤ 16777216) (chars : checkOf d ≡ All)
+    {s s′ : List ℕ} {m : Outcome} (p : Passed list d s m s′) where
+  judged-is : judgedBy m ≡ judgeOf d
+  judged-is = judged-items d small (sym chars) refl (p .judged)
+
+  pub written-fault : {w : Why} {at : ℕ} → m ≡ Fault w at → {r : Answer} → r ≡ faultOf w at → Answers list d o r o
+  written-fault {w} {at} q e =
+      rw e (stays (fault-keeps w at) (by-document list d o sound (sym (ap judgedBy q) ∙ judged-is)))
+
+  module _ {len count : ℕ} (q : m ≡ Fine len count) where
+    told : (len ≡ length (cutOf list d)) × (count ≡ countOf list d) × (s′ ≡ sets s 0 (cutOf list d))
+    told = rw q at (p .told)
+
+    room-is : {b : Bool} → ltb (length o) (length (cutOf list d)) ≡ b
+        → cond b (Short (length (cutOf list d))) (Written (length (cutOf list d)) (countOf list d)) ≡ answerOf list d (length o)
+    room-is e =
+        ap (λ (x : Bool). cond x (Short (length (cutOf list d))) (Written (length (cutOf list d)) (countOf list d))) (sym e)
+        ∙ by-document list d o sound (sym (ap judgedBy q) ∙ judged-is)
+
+    pub written-short : length o < len → Answers list d o (Short len) o
+    written-short l =
+        let z = told .0 in
+        rw z (stays (λ w o. refl) (room-is (lt-ltb (length o) (length (cutOf list d)) (omega (arith, z)))))
+
+    pub written-whole : len ≤ length o → {m₂ : Outcome} {o′ : List ℕ} → Passed list d o m₂ o′ → Answers list d o (Written len count) o′
+    unfolding bytesAfter
+    written-whole l {m₂} {o′} p₂ =
+        let z = told .0 in
+        let e = room-is (le-ltb (length o) (length (cutOf list d)) (omega (arith, z))) in
+        rw (z, told .1)
+        (record {
+          is = e;
+          bytes =
+              laid m₂ (p₂ .judged) (p₂ .told)
+              ∙ laid-whole (cutOf list d) o (omega (arith, z))
+              ∙ ap (λ (x : Answer). after x (cutOf list d) o) e;
+        })
+      where
+        laid : (x : Outcome) → judgedBy x ≡ scanned d → Told (cutOf list d) (countOf list d) o x o′ → o′ ≡ sets o 0 (cutOf list d)
+        laid (Fine n c) j t = t .2
+        laid (Fault w at) j t =
+            let y : judged.AtFault w at ≡ judged.Sound = j ∙ sym (p .judged) ∙ ap judgedBy q in
+            cc
+
+-- ---- any list
+
+module _ (list d o : List ℕ) {a : ListAnswer} (e : a ≡ listAnswer list) where
+  list-is : (x : ListAnswer) → a ≡ x → {r : Answer}
+      → byList x (byDocument (judgeOf d) (byRoom (length o) (cutOf list d) (countOf list d))) ≡ r → r ≡ answerOf list d (length o)
+  unfolding answerOf
+  list-is x q h =
+      sym h
+      ∙ ap (λ (y : ListAnswer). byList y (byDocument (judgeOf d) (byRoom (length o) (cutOf list d) (countOf list d)))) (sym q ∙ e)
+
+  pub cut-long : a ≡ lists.TooLong → Answers list d o ListTooLong o
+  cut-long q = stays (λ w o. refl) (list-is lists.TooLong q refl)
+
+  pub cut-malformed : {n : ℕ} → a ≡ lists.Malformed n → Answers list d o (ListMalformed n) o
+  cut-malformed {n} q = stays (λ w o. refl) (list-is (lists.Malformed n) q refl)
+
+  pub cut-large : {n : ℕ} → a ≡ lists.TooLarge n → Answers list d o (ListTooLarge n) o
+  cut-large {n} q = stays (λ w o. refl) (list-is (lists.TooLarge n) q refl)

@@ -1,0 +1,139 @@
+// The cut of a document by a list: one call, from a list, a document and a buffer to an answer and, under 0, the cut. What is answered and
+// what stands in the buffer afterwards is in specs/Answer.antt.
+//
+//     list      judged and compiled                         refused: 1 2 3
+//     document  its length, then its characters             refused: 4 5
+//               a pass over its items, which measures       refused: 6 7 8
+//     buffer    is there room for the cut                   refused: 9
+//               the same pass, which writes                 0
+ghost use mathlib.Core.Path.{_≡_};
+ghost use lib.ListN.{length};
+ghost use Rattle.paths.specs.Judge.{listAnswer, listPaths};
+ghost use Rattle.paths.specs.declared.ListAnswer.the-variants.{Sound};
+ghost use Rattle.chars.specs.Check.{checkOf};
+ghost use Rattle.chars.specs.declared.whole.Checked.the-variants.{All};
+ghost use Prim.Native.Nat.{_≤_};
+ghost use Rattle.compiled.specs.Compiled.{compiledOf};
+ghost use Rattle.cutter.specs.Answer.{faultOf, answerOf, bytesAfter};
+use chars::whole::Checked;
+use chars::whole::check;
+use compiled::Compiled;
+use compiled::compile::read;
+use document::Open;
+use document::Why;
+use passes::Outcome;
+use passes::pass;
+use paths::ListAnswer;
+use points::table::classes;
+
+// What is answered: the cut is written, with its length and the number of elements selected; the list is too long; a line of it is
+// malformed, or too large; the document is too long; a sequence that is no character begins at a place; a document type, an item that is
+// not well-formed, an item over a size begins at a place; the buffer is too short for the cut, which has this length.
+pub enum Answer {
+    Written { length: usize, selected: usize },
+    ListTooLong,
+    ListMalformed(usize),
+    ListTooLarge(usize),
+    TooLong,
+    NotChar(usize),
+    Doctype(usize),
+    Malformed(usize),
+    TooLarge(usize),
+    Short(usize),
+}
+
+// An item at a place is at fault.
+fn fault_of(why: Why, at: usize) -> Answer
+    ensures { λ r. ⌜ r ≡ faultOf why at ⌝ }
+{
+    match why {
+        Why::Doctype => Answer::Doctype(at),
+        Why::Malformed => Answer::Malformed(at),
+        Why::TooLarge => Answer::TooLarge(at),
+    }
+}
+
+// By a sound list, a document of characters: measured, and written where there is room.
+fn written(list: &[u8], compiled: Compiled, doc: &[u8], out: &mut [u8]) -> Answer
+    requires { ⌜ (listAnswer (now list) ≡ Sound) × (compiled ≡ compiledOf (listPaths (now list))) × (length (now doc) ≤ 16777216)
+        × (checkOf (now doc) ≡ All) ⌝ }
+    ensures { λ r. ⌜ r ≡ answerOf (now (list .entry)) (now (doc .entry)) (length (now (out .entry))) ⌝ }
+    ensures { λ r. ⌜ now (out .exit) ≡ bytesAfter (now (list .entry)) (now (doc .entry)) (now (out .entry)) ⌝ }
+{
+    let table = classes();
+    let at = compiled.at;
+    let len = compiled.len;
+    let head = compiled.head;
+    let next = compiled.next;
+    let rows = compiled.rows;
+    let descends = compiled.descends;
+    let lasts = compiled.lasts;
+    let marks = compiled.marks;
+    let mut scratch = [0u8; 1];
+    match pass(
+        &table,
+        list,
+        &at,
+        &len,
+        &head,
+        &next,
+        &rows,
+        &descends,
+        &lasts,
+        &marks,
+        doc,
+        &mut scratch,
+    ) {
+        Outcome::Fault(why, place) => fault_of(why, place),
+        Outcome::Fine(length, selected) => {
+            if out.len() < length {
+                return Answer::Short(length);
+            }
+            pass(
+                &table,
+                list,
+                &at,
+                &len,
+                &head,
+                &next,
+                &rows,
+                &descends,
+                &lasts,
+                &marks,
+                doc,
+                out,
+            );
+            Answer::Written { length, selected }
+        }
+    }
+}
+
+// By a sound list, any document.
+fn cut_by(list: &[u8], compiled: Compiled, doc: &[u8], out: &mut [u8]) -> Answer
+    requires { ⌜ (listAnswer (now list) ≡ Sound) × (compiled ≡ compiledOf (listPaths (now list))) ⌝ }
+    ensures { λ r. ⌜ r ≡ answerOf (now (list .entry)) (now (doc .entry)) (length (now (out .entry))) ⌝ }
+    ensures { λ r. ⌜ now (out .exit) ≡ bytesAfter (now (list .entry)) (now (doc .entry)) (now (out .entry)) ⌝ }
+{
+    if doc.len() > Open::BYTES {
+        return Answer::TooLong;
+    }
+    match check(doc) {
+        Checked::All => written(list, compiled, doc, out),
+        Checked::BadAt(o) => Answer::NotChar(o),
+    }
+}
+
+// Any list, any document, any buffer. Only under 0 is a byte of the buffer changed, and then none after the cut.
+pub fn cut(list: &[u8], doc: &[u8], out: &mut [u8]) -> Answer
+    ensures { λ r. ⌜ r ≡ answerOf (now (list .entry)) (now (doc .entry)) (length (now (out .entry))) ⌝ }
+    ensures { λ r. ⌜ now (out .exit) ≡ bytesAfter (now (list .entry)) (now (doc .entry)) (now (out .entry)) ⌝ }
+{
+    let said = read(list);
+    let judged = said.answer;
+    match judged {
+        ListAnswer::Sound => cut_by(list, said.compiled, doc, out),
+        ListAnswer::TooLong => Answer::ListTooLong,
+        ListAnswer::Malformed(line) => Answer::ListMalformed(line),
+        ListAnswer::TooLarge(line) => Answer::ListTooLarge(line),
+    }
+}

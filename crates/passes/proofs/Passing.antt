@@ -1,0 +1,375 @@
+-- The pass over the items. The invariant: the code's state stands for an engine from which the rest of the pass comes to what it comes to
+-- from the start; the scan of the document does too. Then a law for each way on and each way out.
+use mathlib.Core.Path.{_≡_, refl, sym, ap, _∙_}
+use mathlib.Core.Bool.{Bool, true, false}
+use mathlib.Core.List.{List, [], _∷_, _++_}
+use mathlib.Core.Logic.{⊎-elim}
+use Prim.Native.Nat.{ℕ, _+_, _-_, _*_, _≤_, _<_}
+use native.Mathlib.Nat.{eq-or-lt-of-le}
+use native.Mathlib.Omega.{arith}
+use types.Run.{OneOf}
+use denote.Enum.Declared.{tagOf as kindOf}
+use mir.Syntax.{w64}
+use mir.Val.{Fits}
+use lib.ListN.{length, getD, set, length-set, replicate, length-replicate}
+use lib.Seq.{sets, getD-set-same, getD-set-other}
+use Rattle.paths.specs.Judge.{listAnswer, listPaths}
+use Rattle.paths.specs.declared.ListAnswer.the-variants.{Sound as SoundList}
+use Rattle.tags.proofs.Item as item
+use Rattle.items.specs.Inside.{Inside}
+use Rattle.items.specs.Item.{itemAt}
+use Rattle.tags.specs.Kept.{nameFrom}
+use Rattle.tags.specs.declared.Item.{Item}
+use Rattle.tags.specs.declared.Item.the-variants.{Declaration, Instruction, Comment, Section, Reference, Text, Start, Finish}
+use Rattle.tags.specs.declared.Item.the-variants.{Doctype, Malformed, TooLarge, Nothing}
+use Rattle.document.specs.Place.{placement, endOf}
+use Rattle.document.specs.Levels.{openedOf, Names, deeper, openAfter, lenOf}
+use Rattle.document.specs.Judge.{startOf, scanned}
+use Rattle.document.specs.declared.Open.{Open}
+use Rattle.document.specs.declared.Placement.{Placement}
+use Rattle.document.specs.declared.Placement.the-variants.{Fine, Fault as Faulty, Over}
+use Rattle.document.specs.declared.Why.{Why}
+use Rattle.document.specs.declared.judge.Judged.the-variants.{Sound}
+use Rattle.document.proofs.After.{start-room}
+use Rattle.document.proofs.Placing.{not-among}
+use Rattle.document.proofs.Judging.{Judging, judge-start, judge-fault, judge-over, fine-ahead, scan-inside, scan-less, scan-on}
+use Rattle.matcher.specs.Fit.{fitFor}
+use Rattle.matcher.specs.Says.{verdictOf}
+use Rattle.matcher.specs.State.{freshState, deeperOf, verdictBy, stateOf}
+use Rattle.matcher.specs.declared.Verdict.{Verdict}
+use Rattle.matcher.specs.declared.fit.Fit.{Fit}
+use Rattle.matcher.specs.declared.state.MatchState.{MatchState}
+use Rattle.matcher.proofs.Meaning.{verdict-told}
+use Rattle.trees.specs.Grown.{part, tokensOf}
+use Rattle.trees.specs.Engine.{Engine, engine, begun, openOf, run as runs}
+use Rattle.trees.specs.Written.{rootFirst, verdicts, cutOf, countOf}
+use Rattle.trees.proofs.Told.{run-cut}
+use Rattle.output.specs.Act.{onTag, onOther, levelAfter}
+use Rattle.output.specs.Levels.{nameAt, Placed, Stands, Moves, Ready}
+use Rattle.output.specs.declared.Run.{Run}
+use Rattle.output.proofs.Chains.{name-part}
+use Rattle.output.proofs.Steps.{open-is}
+use Rattle.passes.specs.Passed.{Passed}
+use Rattle.passes.specs.declared.Outcome.the-variants.{Fine as Ended, Fault}
+use Rattle.passes.proofs.Rests.{Rest, untagged, rest-start, rest-over, rest-tag, rest-other}
+use Rattle.passes.proofs.States.{none, above, Held, name-here, span-below, held-kept, held-deeper, held-same, parent-is}
+
+pub record Passing (list d o₀ : List ℕ) (states : List MatchState) (starts lens : List ℕ) (opened : Open) (run : Run) (at : ℕ)
+    (first : Bool) (o : List ℕ) : Type 0 where
+  pub judging : Judging d starts lens opened at first
+  pub x : Engine
+  pub rest : Rest (verdicts (listPaths list)) d at first x
+  pub stands : Stands d starts lens o₀ (opened .level .0) (run .reached .0) (run .kept) (run .len) (run .count) o x
+  pub held : Held (listPaths list) states d starts lens (opened .level .0)
+  pub order : run .reached .0 ≤ opened .level .0
+  pub far : run .len ≤ at * 4294967296
+  pub few : run .count ≤ at * 2
+  pub long : length states ≡ 64
+  pub room : length o ≡ length o₀
+
+pub pass-start : (list d o : List ℕ) {m : MatchState} {opened : Open} {run : Run} {at : ℕ}
+    → opened ≡ record { level = record { 0 = 0 }; rooted = false }
+    → run ≡ record { reached = record { 0 = 0 }; kept = false; len = 0; count = 0 }
+    → at ≡ startOf d
+    → Passing list d o (replicate 64 m) (replicate 64 0) (replicate 64 0) opened run at true o
+pass-start list d o {m} {at = at} p r q =
+    rw (p, r)
+    (record {
+      judging = judge-start d refl q;
+      x = begun;
+      rest = rw q (rest-start (verdicts (listPaths list)) d);
+      stands =
+          record {
+            kept-is = refl;
+            pend-is = refl;
+            done-is = refl;
+            num-is = refl;
+            text = record { long = refl; laid = refl };
+          };
+      held = record { state = λ i h. absurd (omega arith) };
+      order = omega arith;
+      far = omega arith;
+      few = omega arith;
+      long = length-replicate {A = MatchState} 64 m;
+      room = refl;
+    })
+
+-- ---- out
+
+module _ {list d o₀ : List ℕ} {states : List MatchState} {starts lens : List ℕ} {opened : Open} {run : Run} {at : ℕ} {first : Bool}
+    {o : List ℕ} (v : Passing list d o₀ states starts lens opened run at first o) {i : Item} (e : i ≡ itemAt first d at)
+    {p : Placement} (q : p ≡ placement d at i (openedOf d starts lens opened)) where
+  pub pass-fault : (why : Why) → p ≡ Faulty why → Passed list d o₀ (Fault why at) o
+  pass-fault why h = record { judged = judge-fault (v .judging) e q why h; told = tt }
+
+  pub pass-over : p ≡ Over → Passed list d o₀ (Ended (run .len) (run .count)) o
+  pass-over h = record { judged = sound; told = go (v .x) (v .stands) (whole ∙ run-cut list d (sym sound)) }
+    where
+      sound : Sound ≡ scanned d
+      sound = judge-over (v .judging) e q h
+
+      whole : v .x ≡ runs (verdicts (listPaths list)) (tokensOf d) begun
+      whole = rest-over (v .rest) e (openedOf d starts lens opened) (sym q ∙ h)
+
+      go : (y : Engine) → Stands d starts lens o₀ (opened .level .0) (run .reached .0) (run .kept) (run .len) (run .count) o y
+          → y ≡ engine false [] [] (cutOf list d) (countOf list d)
+          → (run .len ≡ length (cutOf list d)) × (run .count ≡ countOf list d) × (o ≡ sets o₀ 0 (cutOf list d))
+      go (engine k p′ d′ w c) t z =
+          let a : w ≡ cutOf list d = cc in
+          let b : c ≡ countOf list d = cc in
+          (sym (t .text .long) ∙ ap length a, sym (t .num-is) ∙ b, t .text .laid ∙ ap (sets o₀ 0) a)
+
+-- ---- on
+
+by-deeper : (P : ℕ → Type 0) (empty : Bool) (l : ℕ) → P l → P (l + 1) → P (deeper empty l)
+by-deeper P true l a c = a
+by-deeper P false l a c = c
+
+-- the numbers of a step are within 64 bits
+module _ {list d o₀ : List ℕ} {states : List MatchState} {starts lens : List ℕ} {opened : Open} {run : Run} {at : ℕ} {first : Bool}
+    {o : List ℕ} (v : Passing list d o₀ states starts lens opened run at first o) (small : length d ≤ 16777216) where
+  pub pass-ready : at < length d → Ready d run 72057594037927936
+  pass-ready l = record { small = small; near = omega (arith, v .far); few = omega (arith, v .few) }
+
+  pub pass-deep : opened .level .0 ≤ 64
+  pass-deep = v .judging .names .deep
+
+-- the names of the open elements, when one more is kept at the level reached
+placed-kept : {d starts lens : List ℕ} {opened : Open} → Names d starts lens opened → (a n : ℕ)
+    → Placed d (set starts (opened .level .0) a) (set lens (opened .level .0) n) (opened .level .0)
+placed-kept {d} {starts} {lens} {opened} s a n =
+    record {
+      deep = s .deep;
+      starts-long = length-set starts (opened .level .0) a ∙ s .starts-long;
+      lens-long = length-set lens (opened .level .0) n ∙ s .lens-long;
+      inside = λ i l. rw (other starts i a l, other lens i n l) (s .inside i l);
+    }
+  where
+    other : (xs : List ℕ) (i y : ℕ) → i < opened .level .0 → getD (set xs (opened .level .0) y) i 0 ≡ getD xs i 0
+    other xs i y l = getD-set-other xs (opened .level .0) i y 0 (λ q. omega arith)
+
+placed-more : {d starts lens : List ℕ} {opened : Open} → Names d starts lens opened → (a n : ℕ) → opened .level .0 < 64 → a + n ≤ length d
+    → Placed d (set starts (opened .level .0) a) (set lens (opened .level .0) n) (opened .level .0 + 1)
+placed-more {d} {starts} {lens} {opened} s a n h l =
+    record { deep = omega arith; starts-long = k .starts-long; lens-long = k .lens-long; inside = go }
+  where
+    k : Placed d (set starts (opened .level .0) a) (set lens (opened .level .0) n) (opened .level .0)
+    k = placed-kept s a n
+
+    here : getD (set starts (opened .level .0) a) (opened .level .0) 0 + getD (set lens (opened .level .0) n) (opened .level .0) 0
+        ≤ length d
+    here =
+        rw (
+          getD-set-same starts (opened .level .0) a 0 (omega (arith, s .starts-long)),
+          getD-set-same lens (opened .level .0) n 0 (omega (arith, s .lens-long)),
+        )
+        l
+
+    go : (i : ℕ) → i < opened .level .0 + 1
+        → getD (set starts (opened .level .0) a) i 0 + getD (set lens (opened .level .0) n) i 0 ≤ length d
+    go i g =
+        let le : i ≤ opened .level .0 = omega arith in
+        ⊎-elim (λ (q : i ≡ opened .level .0). rw q here) (λ (q : i < opened .level .0). k .inside i q) (eq-or-lt-of-le le)
+
+-- what the state stands for does not see a name kept at the level reached
+stands-kept : {d starts lens o₀ o : List ℕ} {level reached len count : ℕ} {kept : Bool} {x : Engine} → reached ≤ level
+    → Stands d starts lens o₀ level reached kept len count o x → (a n : ℕ)
+    → Stands d (set starts level a) (set lens level n) o₀ level reached kept len count o x
+stands-kept {d} {starts} {lens} {level = level} {reached} h t a n =
+    record {
+      kept-is = t .kept-is;
+      pend-is = t .pend-is ∙ sym (span-below d starts lens level a n reached (level - reached) (omega arith));
+      done-is = t .done-is ∙ sym (span-below d starts lens level a n 0 reached (omega arith));
+      num-is = t .num-is;
+      text = t .text;
+    }
+
+module _ {list d o₀ : List ℕ} {states : List MatchState} {starts lens : List ℕ} {opened : Open} {run : Run} {at : ℕ} {first : Bool}
+    {o : List ℕ} (v : Passing list d o₀ states starts lens opened run at first o) {i : Item} (e : i ≡ itemAt first d at)
+    {p : Placement} (q : p ≡ placement d at i (openedOf d starts lens opened)) (h : p ≡ Fine) where
+  inner : Inside d at i
+  inner = scan-inside (v .judging) e
+
+  ahead : (at < endOf at i) × (endOf at i ≤ length d)
+  ahead = fine-ahead d at i (openedOf d starts lens opened) inner (sym q ∙ h)
+
+  pub pass-within : at < length d
+  pass-within = omega (arith, ahead .0, ahead .1)
+
+  pub pass-next : length d ≤ 16777216 → at + 1 ≤ 18446744073709551615
+  pass-next small = omega (arith, pass-within)
+
+  pub pass-fits : length d ≤ 16777216 → Fits w64 (at + 1)
+  pass-fits small = record { fits = omega (arith, pass-within) }
+
+  pub pass-inside : Inside d at i
+  pass-inside = inner
+
+  pub pass-less : {n : ℕ} → n ≡ endOf at i → length d - n < length d - at
+  pass-less g = scan-less (v .judging) e q h g
+
+  -- ---- an item that is no start tag and no empty tag; a name was kept
+
+  module _ {starts′ lens′ : List ℕ} (es : starts′ ≡ set starts (opened .level .0) (at + 1))
+      (el : lens′ ≡ set lens (opened .level .0) (lenOf i)) where
+    pub pass-placed : Placed d starts′ lens′ (opened .level .0)
+    pass-placed = rw (es, el) (placed-kept (v .judging .names) (at + 1) (lenOf i))
+
+    pub pass-other : OneOf untagged (kindOf item.the-type i) → {run′ : Run} {o′ : List ℕ}
+        → Moves d starts′ lens′ (opened .level .0) run o (onOther d at i) 1 (levelAfter i (opened .level .0)) run′ o′
+        → {opened′ : Open} → opened′ ≡ openAfter i opened → {n : ℕ} → n ≡ endOf at i
+        → Passing list d o₀ states starts′ lens′ opened′ run′ n false o′
+    pass-other k {run′} {o′} m {opened′} eo {n} en =
+        record {
+          judging = scan-on (v .judging) e q h es el eo en;
+          x = onOther d at i (v .x);
+          rest = rw en (rest-other (v .rest) e (openedOf d starts lens opened) (sym q ∙ h) k (ahead .0) (ahead .1));
+          stands = rw level at (m .moves o₀ (v .x) (rw (es, el) (stands-kept (v .order) (v .stands) (at + 1) (lenOf i))));
+          held = rw (es, el) (held-kept (v .held) (at + 1) (lenOf i) (opened′ .level .0) less);
+          order = rw level at (m .order);
+          far = omega (arith, m .far, v .far, ahead .0);
+          few = omega (arith, m .few, v .few, ahead .0);
+          long = v .long;
+          room = m .same ∙ v .room;
+        }
+      where
+        after : (j : Item) → OneOf untagged (kindOf item.the-type j) → levelAfter j (opened .level .0) ≡ openAfter j opened .level .0
+        after (Declaration e) k = refl
+        after (Instruction e) k = refl
+        after (Comment e) k = refl
+        after (Section e) k = refl
+        after (Reference e) k = refl
+        after (Text e) k = refl
+        after (Start n h e m t) k = absurd (not-among untagged 6 refl k)
+        after (Finish n e) k = refl
+        after Doctype k = refl
+        after Malformed k = refl
+        after TooLarge k = refl
+        after Nothing k = refl
+
+        level : levelAfter i (opened .level .0) ≡ opened′ .level .0
+        level = after i k ∙ ap (λ (y : Open). y .level .0) (sym eo)
+
+        no-more : (j : Item) (l : ℕ) → levelAfter j l ≤ l
+        no-more (Declaration e) l = omega arith
+        no-more (Instruction e) l = omega arith
+        no-more (Comment e) l = omega arith
+        no-more (Section e) l = omega arith
+        no-more (Reference e) l = omega arith
+        no-more (Text e) l = omega arith
+        no-more (Start n h e m t) l = omega arith
+        no-more (Finish n e) l = omega arith
+        no-more Doctype l = omega arith
+        no-more Malformed l = omega arith
+        no-more TooLarge l = omega arith
+        no-more Nothing l = omega arith
+
+        less : opened′ .level .0 ≤ opened .level .0
+        less = rw level at (no-more i (opened .level .0))
+
+  -- ---- a start tag or empty tag
+
+  module _ {n b f : ℕ} {m t : Bool} (s : i ≡ Start n b f m t) where
+    places : (at + 1 + n ≤ b) × (b < f) × (f ≤ length d)
+    places = rw s at inner
+
+    pub tag-level : opened .level .0 < 64
+    tag-level = start-room d starts lens opened t (rw s at (sym q ∙ h))
+
+    pub tag-from : at ≤ b
+    tag-from = omega (arith, places .0)
+
+    pub tag-to : b ≤ f
+    tag-to = omega (arith, places .1)
+
+    pub tag-inside : f ≤ length d
+    tag-inside = places .2
+
+    pub tag-name : at + 1 + n ≤ length d
+    tag-name = omega (arith, places .0, places .1, places .2)
+
+    pub tag-fits : length d ≤ 16777216 → Fits w64 (at + 1 + n)
+    tag-fits small = record { fits = omega (arith, tag-name) }
+
+    pub tag-less : length d - f < length d - at
+    tag-less = pass-less (sym (ap (endOf at) s))
+
+    module _ {starts′ lens′ : List ℕ} (es : starts′ ≡ set starts (opened .level .0) (at + 1))
+        (el : lens′ ≡ set lens (opened .level .0) (lenOf i)) where
+      lens-is : lens′ ≡ set lens (opened .level .0) n
+      lens-is = el ∙ ap (λ (j : Item). set lens (opened .level .0) (lenOf j)) s
+
+      pub tag-placed : Placed d starts′ lens′ (opened .level .0 + 1)
+      tag-placed = rw (es, lens-is) (placed-more (v .judging .names) (at + 1) n tag-level tag-name)
+
+      name-is : nameAt d starts′ lens′ (opened .level .0) ≡ nameFrom d (at + 1) n
+      name-is =
+          rw (es, lens-is)
+          (name-here d starts lens (opened .level .0) (at + 1) n
+          (omega (arith, tag-level, v .judging .names .starts-long))
+          (omega (arith, tag-level, v .judging .names .lens-long)))
+
+      module _ (sound : listAnswer list ≡ SoundList) {k : ℕ} (ek : k ≡ opened .level .0 - 1) {parent : MatchState}
+          (ep : (opened .level .0 ≡ 0 → parent ≡ freshState) × ((opened .level .0 ≡ 0 → ⊥) → parent ≡ getD states k none))
+          {fit : Fit} (ef : fit ≡ fitFor (listPaths list) (part d (at + 1) (at + 1 + n))) where
+        parent-state : parent ≡ stateOf (listPaths list) (above d starts lens (opened .level .0))
+        parent-state = parent-is (v .held) ek ep
+
+        fit-is : fit ≡ fitFor (listPaths list) (nameFrom d (at + 1) n)
+        fit-is = ef ∙ ap (fitFor (listPaths list)) (name-part d (at + 1) n)
+
+        verdict-is : {w : Verdict} → w ≡ verdictBy parent fit → w ≡ verdicts (listPaths list) (nameFrom d (at + 1) n ∷ openOf (v .x))
+        unfolding verdicts
+        verdict-is ew =
+            ew
+            ∙ ap (λ (y : MatchState). verdictBy y fit) parent-state
+            ∙ ap (verdictBy (stateOf (listPaths list) (above d starts lens (opened .level .0)))) fit-is
+            ∙ verdict-told list sound (above d starts lens (opened .level .0)) (nameFrom d (at + 1) n)
+            ∙ ap (λ (ns : List (List ℕ)). verdictOf (listPaths list) (rootFirst ns ++ nameFrom d (at + 1) n ∷ []))
+            (sym (open-is (v .stands) (v .order)))
+
+        state-is : {m′ : MatchState} → m′ ≡ deeperOf parent fit
+            → m′ ≡ deeperOf (stateOf (listPaths list) (above d starts lens (opened .level .0))) (fitFor (listPaths list) (nameFrom d (at
+            + 1) n))
+        state-is em =
+            em ∙ ap (λ (y : MatchState). deeperOf y fit) parent-state ∙ ap (deeperOf (stateOf (listPaths list) (above d starts lens
+            (opened .level .0)))) fit-is
+
+        held-next : {m′ : MatchState} → m′ ≡ deeperOf parent fit → (empty : Bool)
+            → Held (listPaths list) (set states (opened .level .0) m′) d (set starts (opened .level .0) (at + 1))
+            (set lens (opened .level .0) n) (deeper empty (opened .level .0))
+        held-next {m′} em empty =
+            let ls : opened .level .0 < length starts = omega (arith, tag-level, v .judging .names .starts-long) in
+            let ll : opened .level .0 < length lens = omega (arith, tag-level, v .judging .names .lens-long) in
+            let lt : opened .level .0 < length states = omega (arith, tag-level, v .long) in
+            by-deeper
+            (Held (listPaths list) (set states (opened .level .0) m′) d (set starts (opened .level .0) (at + 1)) (set lens (opened .level
+            .0) n))
+            empty (opened .level .0)
+            (held-same (v .held) (at + 1) n m′ ls ll lt (state-is em))
+            (held-deeper (v .held) (at + 1) n m′ ls ll lt (state-is em))
+
+        pub pass-tag : {w : Verdict} → w ≡ verdictBy parent fit → {m′ : MatchState} → m′ ≡ deeperOf parent fit → {run′ : Run} {o′ : List
+            ℕ}
+            → Moves d starts′ lens′ (opened .level .0) run o
+            (onTag w (nameAt d starts′ lens′ (opened .level .0)) (part d at b) (part d at f) m) 2 (deeper m (opened .level .0)) run′ o′
+            → {opened′ : Open} → opened′ ≡ openAfter (Start n b f m t) opened
+            → Passing list d o₀ (set states (opened .level .0) m′) starts′ lens′ opened′ run′ f false o′
+        pass-tag {w} ew {m′} em {run′} {o′} mv {opened′} eo =
+            record {
+              judging = scan-on (v .judging) e q h es el (eo ∙ sym (ap (λ (j : Item). openAfter j opened) s)) (sym (ap (endOf at) s));
+              x = onTag w (nameFrom d (at + 1) n) (part d at b) (part d at f) m (v .x);
+              rest = rw (verdict-is ew) (rest-tag (v .rest) (sym s ∙ e) tag-from (places .1) (places .2));
+              stands =
+                  rw (name-is, level) at
+                  (mv .moves o₀ (v .x) (rw (es, lens-is) (stands-kept (v .order) (v .stands) (at + 1) n)));
+              held = rw (es, lens-is, ← level) (held-next em m);
+              order = rw level at (mv .order);
+              far = omega (arith, mv .far, v .far, places .0, places .1);
+              few = omega (arith, mv .few, v .few, places .0, places .1);
+              long = length-set states (opened .level .0) m′ ∙ v .long;
+              room = mv .same ∙ v .room;
+            }
+          where
+            level : deeper m (opened .level .0) ≡ opened′ .level .0
+            level = ap (λ (y : Open). y .level .0) (sym eo)

@@ -1,0 +1,315 @@
+-- `pass` meets its contract. The invariant is `Passing`: the code's state stands for an engine from which the rest of the pass comes to
+-- what it comes to from the start, and the scan does too. Each need is handed its law of proofs/Passing.antt.
+use Prim.Native.Nat.{_-_}
+use borrow.Author.Needs.{needs}
+use lib.ListN.{length}
+use Rattle.document.proofs.Judging.{scan-inside}
+use Rattle.passes.proofs.Passing.{Passing, pass-start, pass-fault, pass-over, pass-ready, pass-deep, pass-within, pass-next}
+use Rattle.passes.proofs.Passing.{pass-fits, pass-inside, pass-less, pass-placed, pass-other, tag-level, tag-from, tag-to}
+use Rattle.passes.proofs.Passing.{tag-inside, tag-name, tag-fits, tag-less, tag-placed, pass-tag}
+use Rattle.passes.proofs.pass.Statement.{statement}
+use Rattle.passes.proofs.pass.Tie as tie
+
+abbrev Inv-loop : tie.InvT-loop
+Inv-loop table list places sizes heads nexts rows descends lasts marks doc out₀ states₀ starts₀ lens₀ opened₀ run₀ at₀ first₀ out
+    states starts lens opened run at first =
+    Passing list doc out₀ states starts lens opened run at first out
+
+abbrev μ-loop : tie.MeasureT-loop
+μ-loop table list places sizes heads nexts rows descends lasts marks doc out₀ states₀ starts₀ lens₀ opened₀ run₀ at₀ first₀ out
+    states starts lens opened run at first =
+    length doc - at
+
+fresh-requires : tie.Need-fresh-requires Inv-loop μ-loop
+fresh-requires c κs = search needs
+
+none-requires : tie.Need-none-requires Inv-loop μ-loop
+none-requires c κs = search needs
+
+none-requires-2 : tie.Need-none-requires-2 Inv-loop μ-loop
+none-requires-2 c κs = search needs
+
+start-of-requires : tie.Need-start-of-requires Inv-loop μ-loop
+start-of-requires c κs = search needs
+
+loop-holds : tie.Need-loop-holds Inv-loop μ-loop
+loop-holds c =
+    pass-start _ _ _ (c .before .before .none .ensures) (c .before .none2 .ensures) (c .start-of .ensures)
+
+item-requires : tie.Need-item-requires Inv-loop μ-loop
+item-requires c κs =
+    c .before .before .before .before .before .before .before .before .pre .0
+
+place-requires : tie.Need-place-requires Inv-loop μ-loop
+place-requires c κs = (
+  c .before .before .before .loop .inv .judging .names,
+  scan-inside (c .before .before .before .loop .inv .judging) (c .before
+      .before .item .ensures),
+)
+
+enum-known-why : tie.Need-enum-known-why Inv-loop μ-loop
+enum-known-why c = search needs
+
+same-length : tie.Need-same-length Inv-loop μ-loop
+same-length c = search needs
+
+returns : tie.Need-returns Inv-loop μ-loop
+returns c =
+    pass-fault (c .before .before .before .before .before .before .before .loop .inv) (c .before .before .before .before .before
+    .before .item .ensures) (c .before .before .before .place .ensures) _ (c .before .why .given .1)
+
+enum-told : tie.Need-enum-told Inv-loop μ-loop
+enum-told c = search needs
+
+same-length-2 : tie.Need-same-length-2 Inv-loop μ-loop
+same-length-2 c = search needs
+
+returns-2 : tie.Need-returns-2 Inv-loop μ-loop
+returns-2 c =
+    pass-over (c .before .before .before .before .before .before .loop .inv) (c .before .before .before .before .before .item
+    .ensures) (c .before .before .place .ensures) (c .enum-told .given .1)
+
+enum-told-2 : tie.Need-enum-told-2 Inv-loop μ-loop
+enum-told-2 c = search needs
+
+keep-requires : tie.Need-keep-requires Inv-loop μ-loop
+keep-requires c κs =
+    let v = c .before .before .before .before .before .before .before .before .loop .inv in
+    let names = v .judging .names in (
+      names .starts-long,
+      names .lens-long,
+      pass-next v (c .before .before .before .before .before .before .before .item .ensures) (c .before .before .before .before
+          .place .ensures) (c .before .before .enum-told2 .given .1) (c .before .before .before .before .before .before .before
+          .before .before .before .before .before .before .before .before .before .pre .1),
+    )
+
+enum-known-next : tie.Need-enum-known-next Inv-loop μ-loop
+enum-known-next c = search needs
+
+innermost-requires : tie.Need-innermost-requires Inv-loop μ-loop
+innermost-requires c κs = search needs
+
+mul-top : tie.Need-mul-top Inv-loop μ-loop
+mul-top c = search needs
+
+array-copy-out-top : tie.Need-array-copy-out-top Inv-loop μ-loop
+array-copy-out-top c = search needs
+
+parent-of-requires : tie.Need-parent-of-requires Inv-loop μ-loop
+parent-of-requires c κs = search needs
+
+add-a : tie.Need-add-a Inv-loop μ-loop
+add-a c =
+    pass-fits (c .before .before .before .before .before .before .before .before .before .before .before .before .before .before
+    .before .loop .inv) (c .before .before .before .before .before .before .before .before .before .before .before .before
+    .before .before .item .ensures) (c .before .before .before .before .before .before .before .before .before .before .before
+    .place .ensures) (c .before .before .before .before .before .before .before .before .before .enum-told2 .given .1) (c .before
+    .before .before .before .before .before .before .before .before .before .before .before .before .before .before .before
+    .before .before .before .before .before .before .before .pre .1)
+
+add-fit-of : tie.Need-add-fit-of Inv-loop μ-loop
+add-fit-of c =
+    tag-fits (c .before .before .before .before .before .before .before .before .before .before .before .before .before .before
+    .before .loop .inv) (c .before .before .before .before .before .before .before .before .before .before .before .before
+    .before .before .item .ensures) (c .before .before .before .before .before .before .before .before .before .before .before
+    .place .ensures) (c .before .before .before .before .before .before .before .before .before .enum-told2 .given .1) (c .before
+    .before .before .before .next .given .1) (c .before .before .before .before .before .before .before .before .before .before
+    .before .before .before .before .before .before .before .before .before .before .before .before .before .pre .1)
+
+sub-fit-of : tie.Need-sub-fit-of Inv-loop μ-loop
+sub-fit-of c = search needs
+
+part-fit-of-start : tie.Need-part-fit-of-start Inv-loop μ-loop
+part-fit-of-start c = search needs
+
+part-fit-of-end : tie.Need-part-fit-of-end Inv-loop μ-loop
+part-fit-of-end c =
+    let inside = tag-name (c .before .before .before .before .before .before .before .before .before .before .before .before
+    .before .before .before .loop .inv) (c .before .before .before .before .before .before .before .before .before .before
+    .before .before .before .before .item .ensures) (c .before .before .before .before .before .before .before .before .before
+    .before .before .place .ensures) (c .before .before .before .before .before .before .before .before .before .enum-told2
+    .given .1) (c .before .before .before .before .next .given .1) in
+    search (needs, inside)
+
+fit-of-requires : tie.Need-fit-of-requires Inv-loop μ-loop
+fit-of-requires c κs =
+    c .before .before .before .before .before .before .before .before .before .before .before .before .before .before .before
+    .before .before .before .before .before .before .before .before .before .pre .2
+
+verdict-on-requires : tie.Need-verdict-on-requires Inv-loop μ-loop
+verdict-on-requires c κs = search needs
+
+deeper-requires : tie.Need-deeper-requires Inv-loop μ-loop
+deeper-requires c κs = search needs
+
+mul-states : tie.Need-mul-states Inv-loop μ-loop
+mul-states c =
+    let below = tag-level (c .before .before .before .before .before .before .before .before .before .before .before .before
+    .before .before .before .before .before .before .before .loop .inv) (c .before .before .before .before .before .before
+    .before .before .before .before .before .before .before .before .before .before .before .before .item .ensures) (c .before
+    .before .before .before .before .before .before .before .before .before .before .before .before .before .before .place
+    .ensures) (c .before .before .before .before .before .before .before .before .before .before .before .before .before
+    .enum-told2 .given .1) (c .before .before .before .before .before .before .before .before .next .given .1) in
+    search (needs, below)
+
+array-set-from-states : tie.Need-array-set-from-states Inv-loop μ-loop
+array-set-from-states c =
+    tag-level (c .before .before .before .before .before .before .before .before .before .before .before .before .before .before
+    .before .before .before .before .before .loop .inv) (c .before .before .before .before .before .before .before .before
+    .before .before .before .before .before .before .before .before .before .before .item .ensures) (c .before .before .before
+    .before .before .before .before .before .before .before .before .before .before .before .before .place .ensures) (c .before
+    .before .before .before .before .before .before .before .before .before .before .before .before .enum-told2 .given .1) (c
+    .before .before .before .before .before .before .before .before .next .given .1)
+
+tag-step-requires : tie.Need-tag-step-requires Inv-loop μ-loop
+tag-step-requires c κs =
+    let v = c .before .before .before .before .before .before .before .before .before .before .before .before .before .before
+    .before .before .before .before .before .before .before .before .loop .inv in
+    let e = c .before .before .before .before .before .before .before .before .before .before .before .before .before .before
+    .before .before .before .before .before .before .before .item .ensures in
+    let q = c .before .before .before .before .before .before .before .before .before .before .before .before .before .before
+    .before .before .before .before .place .ensures in
+    let h = c .before .before .before .before .before .before .before .before .before .before .before .before .before .before
+    .before .before .enum-told2 .given .1 in
+    let s = c .before .before .before .before .before .before .before .before .before .before .before .next .given .1 in
+    let k = c .before .before .before .before .before .before .before .before .before .before .before .before .before .keep
+    .ensures in (
+      pass-ready v (c .before .before .before .before .before .before .before .before .before .before .before .before .before
+          .before .before .before .before .before .before .before .before .before .before .before .before .before .before .before
+          .before .before .pre .1) (pass-within v e q h),
+      v .order,
+      tag-from v e q h s,
+      tag-to v e q h s,
+      tag-inside v e q h s,
+      tag-placed v e q h s (k .0) (k .1),
+    )
+
+after-requires : tie.Need-after-requires Inv-loop μ-loop
+after-requires c κs =
+    pass-deep (c .before .before .before .before .before .before .before .before .before .before .before .before .before .before
+    .before .before .before .before .before .before .before .before .before .before .before .loop .inv) (c .before .before
+    .before .before .before .before .before .before .before .before .before .before .before .before .before .before .before
+    .before .before .before .before .before .before .before .before .before .before .before .before .before .before .before
+    .before .pre .1)
+
+loop-less : tie.Need-loop-less Inv-loop μ-loop
+loop-less c =
+    tag-less (c .before .before .before .before .before .before .before .before .before .before .before .before .before .before
+    .before .before .before .before .before .before .before .before .before .before .before .before .loop .inv) (c .before
+    .before .before .before .before .before .before .before .before .before .before .before .before .before .before .before
+    .before .before .before .before .before .before .before .before .before .item .ensures) (c .before .before .before .before
+    .before .before .before .before .before .before .before .before .before .before .before .before .before .before .before
+    .before .before .before .place .ensures) (c .before .before .before .before .before .before .before .before .before .before
+    .before .before .before .before .before .before .before .before .before .before .enum-told2 .given .1) (c .before .before
+    .before .before .before .before .before .before .before .before .before .before .before .before .before .next .given .1)
+
+loop-again : tie.Need-loop-again Inv-loop μ-loop
+loop-again c =
+    let k = c .before .before .before .before .before .before .before .before .before .before .before .before .before .before
+    .before .before .before .keep .ensures in
+    pass-tag (c .before .before .before .before .before .before .before .before .before .before .before .before .before .before
+    .before .before .before .before .before .before .before .before .before .before .before .before .loop .inv) (c .before
+    .before .before .before .before .before .before .before .before .before .before .before .before .before .before .before
+    .before .before .before .before .before .before .before .before .before .item .ensures) (c .before .before .before .before
+    .before .before .before .before .before .before .before .before .before .before .before .before .before .before .before
+    .before .before .before .place .ensures) (c .before .before .before .before .before .before .before .before .before .before
+    .before .before .before .before .before .before .before .before .before .before .enum-told2 .given .1) (c .before .before
+    .before .before .before .before .before .before .before .before .before .before .before .before .before .next .given .1) (k
+    .0) (k .1)
+    (c .before .before .before .before .before .before .before .before .before .before .before .before .before .before .before
+    .before .before .before .before .before .before .before .before .before .before .before .before .before .before .before
+    .before .before .before .before .pre .2 .sound) (c .before .before .before .before .before .before .before .before .before
+    .before .before .before .before .innermost .ensures) (c .before .before .before .before .before .before .before .before
+    .before .before .before .parent-of .ensures) (c .before .before .before .before .before .before .before .before .before
+    .fit-of .ensures) (c .before .before .before .before .before .before .before .before .verdict-on .ensures)
+    (c .before .before .before .before .before .before .before .deeper .ensures) (c .before .before .before .tag-step .ensures) (c
+    .after .ensures)
+
+other-step-requires : tie.Need-other-step-requires Inv-loop μ-loop
+other-step-requires c κs =
+    let v = c .before .before .before .before .before .before .before .before .before .before .before .before .before .loop .inv in
+    let e = c .before .before .before .before .before .before .before .before .before .before .before .before .item .ensures in
+    let q = c .before .before .before .before .before .before .before .before .before .place .ensures in
+    let h = c .before .before .before .before .before .before .before .enum-told2 .given .1 in
+    let k = c .before .before .before .before .keep .ensures in (
+      pass-ready v (c .before .before .before .before .before .before .before .before .before .before .before .before .before
+          .before .before .before .before .before .before .before .before .pre .1) (pass-within v e q h),
+      v .order,
+      pass-inside v e q h,
+      v .judging .within,
+      pass-placed v e q h (k .0) (k .1),
+    )
+
+after-requires-2 : tie.Need-after-requires-2 Inv-loop μ-loop
+after-requires-2 c κs =
+    pass-deep (c .before .before .before .before .before .before .before .before .before .before .before .before .before .before
+    .before .before .loop .inv) (c .before .before .before .before .before .before .before .before .before .before .before
+    .before .before .before .before .before .before .before .before .before .before .before .before .before .pre .1)
+
+end-of-requires : tie.Need-end-of-requires Inv-loop μ-loop
+end-of-requires c κs = search needs
+
+loop-less-2 : tie.Need-loop-less-2 Inv-loop μ-loop
+loop-less-2 c =
+    pass-less (c .before .before .before .before .before .before .before .before .before .before .before .before .before .before
+    .before .before .before .before .loop .inv) (c .before .before .before .before .before .before .before .before .before
+    .before .before .before .before .before .before .before .before .item .ensures) (c .before .before .before .before .before
+    .before .before .before .before .before .before .before .before .before .place .ensures) (c .before .before .before .before
+    .before .before .before .before .before .before .before .before .enum-told2 .given .1) (c .end-of .ensures)
+
+loop-again-2 : tie.Need-loop-again-2 Inv-loop μ-loop
+loop-again-2 c =
+    let k = c .before .before .before .before .before .before .before .before .before .keep .ensures in
+    pass-other (c .before .before .before .before .before .before .before .before .before .before .before .before .before .before
+    .before .before .before .before .loop .inv) (c .before .before .before .before .before .before .before .before .before
+    .before .before .before .before .before .before .before .before .item .ensures) (c .before .before .before .before .before
+    .before .before .before .before .before .before .before .before .before .place .ensures) (c .before .before .before .before
+    .before .before .before .before .before .before .before .before .enum-told2 .given .1) (k .0) (k .1)
+    (c .before .before .before .before .before .before .before .before .match2 .keys2) (c .before .before .before .before
+    .other-step .ensures) (c .before .after2 .ensures) (c .end-of .ensures)
+
+pub pass-spec : {M : Type 1} → statement M
+pass-spec =
+    tie.close
+    (tie.spec
+    Inv-loop
+    μ-loop
+    fresh-requires
+    none-requires
+    none-requires-2
+    start-of-requires
+    loop-holds
+    item-requires
+    place-requires
+    enum-known-why
+    same-length
+    returns
+    enum-told
+    same-length-2
+    returns-2
+    enum-told-2
+    keep-requires
+    enum-known-next
+    innermost-requires
+    mul-top
+    array-copy-out-top
+    parent-of-requires
+    add-a
+    add-fit-of
+    sub-fit-of
+    part-fit-of-start
+    part-fit-of-end
+    fit-of-requires
+    verdict-on-requires
+    deeper-requires
+    mul-states
+    array-set-from-states
+    tag-step-requires
+    after-requires
+    loop-less
+    loop-again
+    other-step-requires
+    after-requires-2
+    end-of-requires
+    loop-less-2
+    loop-again-2)

@@ -1,0 +1,146 @@
+// One pass over the items of a document: each is read and put in its place, its element is matched, and what is written of it is laid into
+// the buffer as far as the buffer reaches. Into one byte a pass measures; into a buffer that is long enough it writes.
+//
+//     levels          1     2     3                 starts, lens   the names of the open elements, by their places
+//     <g><p><v>       g     p     v                 states         below each of them, what each path has come to
+//     <g><p><v></v>   g     p     .                 an end tag goes back to the state of the parent
+ghost use mathlib.Core.Path.{_≡_};
+ghost use Prim.Native.Nat.{_-_, _≤_};
+ghost use lib.ListN.{length};
+ghost use Rattle.points.specs.Class.{classTable};
+ghost use Rattle.matcher.specs.Fit.{Serves};
+ghost use Rattle.matcher.specs.State.{freshState};
+ghost use Rattle.passes.specs.Passed.{Passed};
+use compiled::Compiled;
+use document::InputLevel;
+use document::Open;
+use document::Placement;
+use document::Why;
+use document::judge::start_of;
+use document::place::end_of;
+use document::place::keep;
+use document::place::place;
+use items::told::item;
+use matcher::fit::fit_of;
+use matcher::state::MatchState;
+use output::Run;
+use output::step::other_step;
+use output::step::tag_step;
+use points::table::Classes;
+use tags::Item;
+
+// What a pass comes to: the length of the cut and the number of elements selected, or the item at fault.
+pub enum Outcome {
+    Fine(usize, usize),
+    Fault(Why, usize),
+}
+
+// The index of the innermost open element; 0 where nothing is open.
+fn innermost(level: usize) -> usize
+    ensures { λ r. ⌜ r ≡ level - 1 ⌝ }
+{
+    if level == 0 {
+        return 0;
+    }
+    level - 1
+}
+
+// The state under which an element stands: that of the innermost open element, or a fresh one.
+fn parent_of(level: usize, top: MatchState) -> MatchState
+    ensures { λ r. ⌜ (level ≡ 0 → r ≡ freshState) × ((level ≡ 0 → ⊥) → r ≡ top) ⌝ }
+{
+    if level == 0 {
+        return MatchState::fresh();
+    }
+    top
+}
+
+// By the tables of a sound list.
+pub fn pass(
+    table: &Classes,
+    list: &[u8],
+    places: &[u16; Compiled::NAMES],
+    sizes: &[u16; Compiled::NAMES],
+    heads: &[u16; Compiled::HEADS],
+    nexts: &[u16; Compiled::NAMES],
+    rows: &[u16; Compiled::ENTRIES],
+    descends: &[u16; MatchState::PATHS],
+    lasts: &[u16; MatchState::PATHS],
+    marks: &[u16; MatchState::PATHS],
+    doc: &[u8],
+    out: &mut [u8],
+) -> Outcome
+    requires { ⌜ (now table ≡ classTable) × (length (now doc) ≤ 16777216)
+        × Serves (now list) (now places) (now sizes) (now heads) (now nexts) (now rows) (now descends) (now lasts) (now marks) ⌝ }
+    ensures { λ r. ⌜ Passed (now (list .entry)) (now (doc .entry)) (now (out .entry)) r (now (out .exit)) ⌝ }
+{
+    let fresh = MatchState::fresh();
+    let mut states = [fresh; MatchState::LEVELS];
+    let mut starts = [0usize; Open::LEVELS];
+    let mut lens = [0usize; Open::LEVELS];
+    let mut opened = Open::none();
+    let mut run = Run::none();
+    let mut at = start_of(doc);
+    let mut first = true;
+    loop {
+        let next = item(table, doc, at, first);
+        match place(doc, &starts, &lens, opened, at, next) {
+            Placement::Fault(why) => {
+                return Outcome::Fault(why, at);
+            }
+            Placement::Over => {
+                return Outcome::Fine(run.len, run.count);
+            }
+            Placement::Fine => {
+                keep(&mut starts, &mut lens, opened, at, next);
+                let level = opened.level.0;
+                if let Item::Start {
+                    name,
+                    head,
+                    end,
+                    empty,
+                    twice: _,
+                } = next {
+                    let top = states[innermost(level)];
+                    let parent = parent_of(level, top);
+                    let a = at + 1;
+                    let fit = fit_of(
+                        list,
+                        places,
+                        sizes,
+                        heads,
+                        nexts,
+                        rows,
+                        descends,
+                        lasts,
+                        marks,
+                        &doc[a..a + name],
+                    );
+                    let verdict = parent.verdict_on(fit);
+                    states[level] = parent.deeper(fit);
+                    run = tag_step(
+                        run,
+                        InputLevel(level),
+                        doc,
+                        &starts,
+                        &lens,
+                        out,
+                        verdict,
+                        at,
+                        head,
+                        end,
+                        empty,
+                    );
+                    opened = opened.after(next);
+                    at = end;
+                    first = false;
+                    continue;
+                }
+                run = other_step(run, InputLevel(level), doc, &starts, &lens, out, at, next);
+                opened = opened.after(next);
+                at = end_of(at, next);
+                first = false;
+            }
+        }
+    }
+}
