@@ -1,0 +1,3 @@
+-- Laws:
+-- a cut that is written fits the room.
+pub mod Fits

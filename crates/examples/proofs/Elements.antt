@@ -1,0 +1,139 @@
+-- Worked examples, a table under one statement: lists, elements by the names from the root down, and the verdicts by document 01. antt
+-- computes the verdicts by states and fits (`computed`), and so each is the one that matcher/specs/Says says (`meant`).
+use mathlib.Core.Path.{_≡_, refl}
+use mathlib.Core.List.{List, [], _∷_, _++_, map, head-eq-of-cons-eq, tail-eq-of-cons-eq}
+use Prim.Native.Nat.{ℕ, zero, suc}
+use lib.ListN.{replicate}
+use Rattle.xml.specs.Utf8.{utf8, isScalar}
+use Rattle.xml.specs.Notation.{bytes}
+use Rattle.xml.specs.Productions.{isNameStart, isNameMore, isName}
+use Rattle.xml.specs.Character.{valueOf, guess, character, starts, run}
+use Rattle.chars.specs.Name.{nameOf}
+use Rattle.paths.specs.Path.{All, none, more, printStep, printLine}
+use Rattle.paths.specs.Reader.{readAll, kindAt, testAt, stepAt, steps, endAt, lineAt}
+use Rattle.paths.specs.Judge.{within, soundAt, lines, judge, listAnswer, listPaths}
+use Rattle.paths.specs.declared.ListAnswer.the-variants.{Sound}
+use Rattle.lookup.specs.Index.{padded}
+use Rattle.compiled.specs.Bits.{column, descendsOf, lastsOf, marksOf, fitOf}
+use Rattle.matcher.specs.Says.{Says}
+use Rattle.matcher.specs.Fit.{fitFor}
+use Rattle.matcher.specs.State.{carried, carriedAt, freshState, deeperOf, stateOf, hitAt, anyHit, verdictBy}
+use Rattle.matcher.specs.declared.Verdict.{Verdict}
+use Rattle.matcher.specs.declared.Verdict.the-variants.{Unselected, Selected, Marked}
+use Rattle.matcher.proofs.Meaning.{told}
+
+-- a list; the names down to an element's parent, and its own
+pub record Row : Type 0 where
+  pub list : List ℕ
+  pub above : List (List ℕ)
+  pub own : List ℕ
+  pub verdict : Verdict
+
+-- a list, an element's name, the names above it, and the verdict
+infix 10 _at_under_gives_
+abbrev _at_under_gives_ : List ℕ → List ℕ → List (List ℕ) → Verdict → Row
+l at n under ns gives v = record { list = l; above = ns; own = n; verdict = v }
+
+abbrev a : List ℕ
+a = bytes "a"
+
+abbrev b : List ℕ
+b = bytes "b"
+
+abbrev c : List ℕ
+c = bytes "c"
+
+-- n times w
+abbrev times : ℕ → List ℕ → List ℕ
+times zero w = []
+times (suc n) w = w ++ times n w
+
+-- n elements a, one in the other
+abbrev nested : ℕ → List (List ℕ)
+nested n = replicate n a
+
+-- é in one code point, and in two
+abbrev composed : List ℕ
+composed = 0xC3 ∷ 0xA9 ∷ []
+
+abbrev decomposed : List ℕ
+decomposed = 0x65 ∷ 0xCC ∷ 0x81 ∷ []
+
+pub rows : List Row
+rows =
+    -- example d of document 01: after c is closed, b stands under a again
+    (bytes "//a/b\n" at a under [] gives Unselected)
+    ∷ (bytes "//a/b\n" at c under (a ∷ []) gives Unselected)
+    ∷ (bytes "//a/b\n" at b under (a ∷ []) gives Selected)
+    ∷ (bytes "//a/b\n" at b under (a ∷ c ∷ []) gives Unselected)
+    -- example e: the first step may take the second a
+    ∷ (bytes "//a/a/b\n" at b under (nested 3) gives Selected)
+    ∷ (bytes "//a/a/b\n" at b under (nested 1) gives Unselected)
+    ∷ (bytes "//a/a/b\n" at a under (nested 2) gives Unselected)
+    -- a child step first: the root and nothing else
+    ∷ (bytes "/a\n" at a under [] gives Selected)
+    ∷ (bytes "/a\n" at a under (nested 1) gives Unselected)
+    ∷ (bytes "/a\n" at a under (b ∷ []) gives Unselected)
+    -- the same name down to depth 64
+    ∷ (bytes "//a\n" at a under (nested 63) gives Selected)
+    ∷ (bytes "/a/a\n" at a under (nested 63) gives Unselected)
+    ∷ (bytes "/a//a\n" at a under (nested 63) gives Selected)
+    ∷ (bytes "//a/b\n" at b under (nested 63) gives Selected)
+    ∷ (bytes "//b/a\n" at a under (nested 63) gives Unselected)
+    -- //a//a//a wants three
+    ∷ (bytes "//a//a//a\n" at a under (nested 1) gives Unselected)
+    ∷ (bytes "//a//a//a\n" at a under (nested 2) gives Selected)
+    ∷ (bytes "//a//a//a\n" at a under (nested 9) gives Selected)
+    ∷ (bytes "//a//a//a\n" at a under (a ∷ b ∷ b ∷ a ∷ b ∷ []) gives Selected)
+    ∷ (bytes "//a//a//a\n" at b under (nested 9) gives Unselected)
+    -- /*//* : all but the root
+    ∷ (bytes "/*//*\n" at a under [] gives Unselected)
+    ∷ (bytes "/*//*\n" at b under (nested 1) gives Selected)
+    ∷ (bytes "/*//*\n" at c under (nested 63) gives Selected)
+    -- 16 steps, of either kind
+    ∷ (times 16 (bytes "//a") ++ bytes "\n" at a under (nested 14) gives Unselected)
+    ∷ (times 16 (bytes "//a") ++ bytes "\n" at a under (nested 15) gives Selected)
+    ∷ (times 16 (bytes "//a") ++ bytes "\n" at a under (nested 63) gives Selected)
+    ∷ (times 16 (bytes "/a") ++ bytes "\n" at a under (nested 15) gives Selected)
+    ∷ (times 16 (bytes "/a") ++ bytes "\n" at a under (nested 16) gives Unselected)
+    -- the mark is the path's that selects
+    ∷ (bytes "//a #\n" at a under (b ∷ []) gives Marked)
+    ∷ (bytes "//a\n//a #\n" at a under (b ∷ []) gives Marked)
+    ∷ (bytes "//a #\n//a\n" at a under (b ∷ []) gives Marked)
+    ∷ (bytes "//a\n//b #\n" at a under (b ∷ []) gives Selected)
+    ∷ (bytes "//a\n//b #\n" at b under (a ∷ []) gives Marked)
+    -- names by their bytes
+    ∷ (bytes "/" ++ composed ++ bytes "\n" at composed under [] gives Selected)
+    ∷ (bytes "/" ++ composed ++ bytes "\n" at decomposed under [] gives Unselected)
+    ∷ (bytes "/" ++ decomposed ++ bytes "\n" at composed under [] gives Unselected)
+    ∷ (bytes "/" ++ decomposed ++ bytes "\n" at decomposed under [] gives Selected)
+    -- the empty list
+    ∷ ([] at a under [] gives Unselected)
+    ∷ ([] at a under (nested 63) gives Unselected)
+    ∷ []
+
+abbrev verdictIn : Row → Verdict
+verdictIn r = verdictBy (stateOf (listPaths (r .list)) (r .above)) (fitFor (listPaths (r .list)) (r .own))
+
+-- every list is sound
+pub sound : map (λ r. listAnswer (r .list)) rows ≡ map (λ r. Sound) rows
+unfolding rows listAnswer judge lines soundAt within lineAt steps readAll endAt stepAt testAt kindAt printStep printLine nameOf run starts
+    character guess valueOf utf8 isScalar isNameStart isNameMore isName
+sound = refl
+
+pub computed : map verdictIn rows ≡ map (λ r. r .verdict) rows
+unfolding rows listPaths listAnswer judge lines soundAt within lineAt steps readAll endAt stepAt testAt kindAt printStep printLine
+    nameOf run starts character guess valueOf utf8 isScalar isNameStart isNameMore isName verdictBy anyHit hitAt stateOf deeperOf freshState
+    carriedAt carried fitFor fitOf descendsOf lastsOf marksOf column padded
+computed = refl
+
+all-meant : (rs : List Row) → map (λ r. listAnswer (r .list)) rs ≡ map (λ r. Sound) rs → map verdictIn rs ≡ map (λ r. r .verdict) rs
+    → All (λ r. Says (listPaths (r .list)) (r .above ++ r .own ∷ []) (r .verdict)) rs
+all-meant [] e q = none
+all-meant (r ∷ rs) e q =
+    more {x = r}
+    (rw (← head-eq-of-cons-eq q) (told (r .list) (head-eq-of-cons-eq e) (r .above) (r .own)))
+    (all-meant rs (tail-eq-of-cons-eq e) (tail-eq-of-cons-eq q))
+
+pub meant : All (λ r. Says (listPaths (r .list)) (r .above ++ r .own ∷ []) (r .verdict)) rows
+meant = all-meant rows sound computed

@@ -1,0 +1,213 @@
+-- Worked examples of `listAnswer` and `listPaths`, each table under one statement that antt computes: lists, and beside them the answers by
+-- document 01. In order: how the lists are written; the lines; the steps and marks of a line; names; sizes; which fault decides; paths.
+use mathlib.Core.Path.{_≡_, refl}
+use mathlib.Core.Bool.{true, false}
+use mathlib.Core.List.{List, [], _∷_, _++_}
+use Prim.Native.Nat.{ℕ, zero, suc}
+use Rattle.xml.specs.Utf8.{utf8, isScalar}
+use Rattle.xml.specs.Notation.{bytes}
+use Rattle.xml.specs.Productions.{isNameStart, isNameMore, isName}
+use Rattle.xml.specs.Character.{valueOf, guess, character, starts, run}
+use Rattle.utf8.proofs.Examples.{Row, _at_gives_, answers, expected}
+use Rattle.chars.specs.Name.{nameOf}
+use Rattle.paths.specs.Path.{Test, any, named, Step, Path, printStep, printLine}
+use Rattle.paths.specs.Reader.{readAll, kindAt, testAt, stepAt, steps, endAt, lineAt}
+use Rattle.paths.specs.Judge.{within, soundAt, lines, judge, listAnswer, listPaths}
+use Rattle.paths.specs.declared.Kind.the-variants.{Child, Descendant}
+use Rattle.paths.specs.declared.ListAnswer.{ListAnswer}
+use Rattle.paths.specs.declared.ListAnswer.the-variants.{Sound, TooLong, Malformed, TooLarge}
+
+-- ---- how the lists are written
+
+infix 10 _gives_
+abbrev _gives_ : {A : Type 0} → List ℕ → A → Row A
+s gives a = s at 0 gives a
+
+-- n times w
+abbrev times : ℕ → List ℕ → List ℕ
+times zero w = []
+times (suc n) w = w ++ times n w
+
+-- n letters, n steps, n lines
+abbrev letters : ℕ → List ℕ
+letters n = times n (bytes "a")
+
+abbrev manySteps : ℕ → List ℕ
+manySteps n = times n (bytes "/a")
+
+abbrev manyLines : ℕ → List ℕ
+manyLines n = times n (bytes "/a\n")
+
+-- é in one code point, and in two; U+3042, of three bytes; the first byte of é alone; an overlong `a`
+abbrev composed : List ℕ
+composed = 0xC3 ∷ 0xA9 ∷ []
+
+abbrev decomposed : List ℕ
+decomposed = 0x65 ∷ 0xCC ∷ 0x81 ∷ []
+
+abbrev wide : List ℕ
+wide = 0xE3 ∷ 0x81 ∷ 0x82 ∷ []
+
+abbrev cutOff : List ℕ
+cutOff = 0xC3 ∷ []
+
+abbrev overlong : List ℕ
+overlong = 0xC1 ∷ 0xA1 ∷ []
+
+-- a line with the name n in a child step
+abbrev line : List ℕ → List ℕ
+line n = bytes "/" ++ n ++ bytes "\n"
+
+-- ---- the lines of a list
+
+pub wholeLines : List (Row ListAnswer)
+wholeLines =
+    ([] gives Sound)
+    ∷ (bytes "/a\n" gives Sound)
+    ∷ (bytes "//v\n" gives Sound)
+    ∷ (bytes "/*\n" gives Sound)
+    ∷ (bytes "/a/*//b #\n//*\n" gives Sound)
+    ∷ (bytes "/a\n/a\n/a #\n" gives Sound)
+    ∷ (bytes "/v" gives Malformed 1)
+    ∷ (bytes "/v #" gives Malformed 1)
+    ∷ (bytes "/v\n/w" gives Malformed 2)
+    ∷ (bytes "\n" gives Malformed 1)
+    ∷ (bytes "/v\n\n" gives Malformed 2)
+    ∷ (bytes "\n/v\n" gives Malformed 1)
+    ∷ (bytes "/a\r\n" gives Malformed 1)
+    ∷ []
+
+-- ---- blanks, marks and steps
+
+pub blanks : List (Row ListAnswer)
+blanks =
+    (bytes " /a\n" gives Malformed 1)
+    ∷ (bytes "/ a\n" gives Malformed 1)
+    ∷ (bytes "/a \n" gives Malformed 1)
+    ∷ (bytes "/a /b\n" gives Malformed 1)
+    ∷ (bytes "/a#\n" gives Malformed 1)
+    ∷ (bytes "/a  #\n" gives Malformed 1)
+    ∷ (bytes "/a\t#\n" gives Malformed 1)
+    ∷ (bytes "/a # \n" gives Malformed 1)
+    ∷ (bytes "/a # #\n" gives Malformed 1)
+    ∷ (bytes " #\n" gives Malformed 1)
+    ∷ (bytes "#\n" gives Malformed 1)
+    ∷ []
+
+pub badSteps : List (Row ListAnswer)
+badSteps =
+    (bytes "a\n" gives Malformed 1)
+    ∷ (bytes "/\n" gives Malformed 1)
+    ∷ (bytes "//\n" gives Malformed 1)
+    ∷ (bytes "///a\n" gives Malformed 1)
+    ∷ (bytes "/a/\n" gives Malformed 1)
+    ∷ (bytes "/a//\n" gives Malformed 1)
+    ∷ (bytes "/*a\n" gives Malformed 1)
+    ∷ (bytes "/**\n" gives Malformed 1)
+    ∷ (bytes "/a*\n" gives Malformed 1)
+    ∷ (bytes "/@a\n" gives Malformed 1)
+    ∷ []
+
+-- ---- names: production [5], in UTF-8
+
+pub nameLines : List (Row ListAnswer)
+nameLines =
+    (bytes "/a-1.b:c\n" gives Sound)
+    ∷ (bytes "/:\n" gives Sound)
+    ∷ (bytes "/1a\n" gives Malformed 1)
+    ∷ (bytes "/-a\n" gives Malformed 1)
+    ∷ (line composed gives Sound)
+    ∷ (line decomposed gives Sound)
+    ∷ (line (composed ++ decomposed) gives Sound)
+    ∷ (line (0xCC ∷ 0x81 ∷ []) gives Malformed 1)
+    ∷ (line (bytes "a" ++ cutOff) gives Malformed 1)
+    ∷ (line cutOff gives Malformed 1)
+    ∷ (line (bytes "a" ++ overlong) gives Malformed 1)
+    ∷ (line overlong gives Malformed 1)
+    ∷ []
+
+-- ---- sizes
+
+pub sizes : List (Row ListAnswer)
+sizes =
+    ((manySteps 16 ++ bytes "\n") gives Sound)
+    ∷ ((manySteps 16 ++ bytes " #\n") gives Sound)
+    ∷ ((manySteps 17 ++ bytes "\n") gives TooLarge 1)
+    ∷ ((times 17 (bytes "//*") ++ bytes "\n") gives TooLarge 1)
+    ∷ (line (letters 255) gives Sound)
+    ∷ (line (letters 256) gives TooLarge 1)
+    ∷ (line (letters 253 ++ composed) gives Sound)
+    ∷ (line (letters 254 ++ composed) gives TooLarge 1)
+    ∷ (line (letters 252 ++ wide) gives Sound)
+    ∷ (line (letters 253 ++ wide) gives TooLarge 1)
+    ∷ ((bytes "/b" ++ line (letters 256)) gives TooLarge 1)
+    ∷ (manyLines 32 gives Sound)
+    ∷ (manyLines 33 gives TooLarge 33)
+    ∷ (times 32 (line (letters 254)) gives Sound)
+    ∷ ((times 31 (line (letters 254)) ++ line (letters 255)) gives TooLong)
+    ∷ []
+
+-- ---- which fault decides
+
+pub firstFault : List (Row ListAnswer)
+firstFault =
+    ((manySteps 17 ++ bytes " \n") gives Malformed 1)
+    ∷ ((bytes "a" ++ manySteps 17 ++ bytes "\n") gives Malformed 1)
+    ∷ ((manySteps 17 ++ bytes "/\n") gives Malformed 1)
+    ∷ (manySteps 17 gives Malformed 1)
+    ∷ (line (letters 256 ++ cutOff) gives Malformed 1)
+    ∷ (line (letters 256 ++ bytes "!") gives Malformed 1)
+    ∷ (line (letters 256 ++ bytes "/") gives Malformed 1)
+    ∷ ((manySteps 17 ++ bytes "\nx\n") gives TooLarge 1)
+    ∷ ((bytes "x\n" ++ manySteps 17 ++ bytes "\n") gives Malformed 1)
+    ∷ ((bytes "/a\n" ++ manySteps 17 ++ bytes "\nx\n") gives TooLarge 2)
+    ∷ ((manyLines 31 ++ bytes "x\n") gives Malformed 32)
+    ∷ ((manyLines 31 ++ manySteps 17 ++ bytes "\n") gives TooLarge 32)
+    ∷ ((manyLines 32 ++ bytes "x\n") gives TooLarge 33)
+    ∷ ((manyLines 32 ++ bytes "\n") gives TooLarge 33)
+    ∷ ((manyLines 32 ++ bytes "/a") gives TooLarge 33)
+    ∷ ((manyLines 34 ++ bytes "x") gives TooLarge 33)
+    ∷ ((bytes "x\n" ++ manyLines 33) gives Malformed 1)
+    ∷ ((bytes "x\n" ++ times 32 (line (letters 254))) gives TooLong)
+    ∷ []
+
+-- all of them
+abbrev pub lists : List (Row ListAnswer)
+lists = wholeLines ++ blanks ++ badSteps ++ nameLines ++ sizes ++ firstFault
+
+pub answers-computed : answers (λ s k. listAnswer s) lists ≡ expected lists
+unfolding wholeLines blanks badSteps nameLines sizes firstFault listAnswer judge lines soundAt within lineAt steps readAll endAt stepAt
+    testAt kindAt printStep printLine nameOf run starts character guess valueOf utf8 isScalar isNameStart isNameMore isName
+answers-computed = refl
+
+-- ---- the paths of a list
+
+abbrev child : Test → Step
+child x = record { kind = Child; test = x }
+
+abbrev below : Test → Step
+below x = record { kind = Descendant; test = x }
+
+abbrev plain : List Step → Path
+plain xs = record { steps = xs; marked = false }
+
+abbrev marked : List Step → Path
+marked xs = record { steps = xs; marked = true }
+
+-- none of an empty list and of one that is refused; the kinds of step and the mark; the two names é
+pub pathLists : List (Row (List Path))
+pathLists =
+    ([] gives [])
+    ∷ (bytes "//v\n" gives plain (below (named (bytes "v")) ∷ []) ∷ [])
+    ∷ (bytes "/*//b #\n/a\n" gives marked (child any ∷ below (named (bytes "b")) ∷ []) ∷ plain (child (named (bytes "a")) ∷ []) ∷ [])
+    ∷ (bytes "/a\n/a\n" gives plain (child (named (bytes "a")) ∷ []) ∷ plain (child (named (bytes "a")) ∷ []) ∷ [])
+    ∷ ((line composed ++ line decomposed) gives plain (child (named composed) ∷ []) ∷ plain (child (named decomposed) ∷ []) ∷ [])
+    ∷ (bytes "/a\nb\n" gives [])
+    ∷ ((bytes "/a\n" ++ manySteps 17 ++ bytes "\n") gives [])
+    ∷ (manyLines 33 gives [])
+    ∷ []
+
+pub paths-computed : answers (λ s k. listPaths s) pathLists ≡ expected pathLists
+unfolding pathLists listPaths listAnswer judge lines soundAt within lineAt steps readAll endAt stepAt testAt kindAt printStep printLine
+    nameOf run starts character guess valueOf utf8 isScalar isNameStart isNameMore isName
+paths-computed = refl
