@@ -1,5 +1,6 @@
 // The check of a document's characters, in megabytes a second, beside the standard library's UTF-8 alone, which asks for less, and beside
 // UTF-8 and a loop over the characters for [2] Char.
+use crate::ours::chars::whole::{check, Checked};
 use crate::rounds::{best, work, Work};
 use std::hint::black_box;
 
@@ -18,10 +19,18 @@ type Check = (&'static str, fn(&[u8]) -> usize);
 
 /// The library's: the source read as Rust, and the compiled one where it is linked.
 const OURS: &[Check] = &[
-    ("ours", crate::exported::choughbell_check),
+    ("ours", said),
     #[cfg(linked)]
     ("ours, linked", crate::linked::check),
 ];
+
+/// As the exported function says it.
+fn said(s: &[u8]) -> usize {
+    match check(s) {
+        Checked::All => s.len(),
+        Checked::BadAt(o) => o,
+    }
+}
 
 /// Megabytes a second of each check on some eight megabytes of a text.
 fn rates(piece: &str, checks: &[Check]) -> Vec<f64> {
@@ -36,10 +45,10 @@ fn rates(piece: &str, checks: &[Check]) -> Vec<f64> {
 }
 
 pub fn measure() {
-    println!("\nThe check of characters, MB/s, and how many times as fast as UTF-8 alone, and as UTF-8 and Char");
+    println!("The check of characters, MB/s, and how many times as fast as UTF-8 alone, and as UTF-8 and Char");
     let mut checks: Vec<Check> = OURS.to_vec();
     checks.push(("UTF-8 alone", |s| std::str::from_utf8(s).map_or(0, str::len)));
-    checks.push(("UTF-8, Char", crate::plain::check));
+    checks.push(("UTF-8, Char", crate::plain::chars::check));
     print!("{:<20}", "text");
     checks.iter().for_each(|(what, _)| print!("{what:>14}"));
     println!("{:>10}{:>10}", "ratio", "ratio");

@@ -1,10 +1,10 @@
 // The matcher, in nanoseconds an element: 32 paths of 8 steps on a walk through nested places, beside the same in ordinary Rust; and the
 // parts of it by themselves.
-use crate::compiled::compile::read;
-use crate::compiled::find::find;
-use crate::compiled::Compiled;
-use crate::matcher::fit::{fit_of, Fit};
-use crate::matcher::state::MatchState;
+use crate::ours::compiled::Compiled;
+use crate::ours::compiled::compile::read;
+use crate::ours::lookup::find::find;
+use crate::ours::matcher::fit::{fit_of, Fit};
+use crate::ours::matcher::state::MatchState;
 use crate::places::{self, Tag, Walk};
 use crate::rounds::{best, work, Work};
 use crate::steps::{self, Bits, Flags, Matcher};
@@ -108,7 +108,7 @@ pub fn measure() {
     ];
     let (names, mut works): (Vec<&str>, Vec<Work>) = works.into_iter().unzip();
     let [_, selected, marked] = counts;
-    println!("\nThe matcher: {} paths of 8 steps; {} elements, {selected} selected, {marked} marked", paths.len(), places::ELEMENTS);
+    println!("The matcher: {} paths of 8 steps; {} elements, {selected} selected, {marked} marked", paths.len(), places::ELEMENTS);
     println!("{:<30}{:>12}{:>12}", "what", "ns/element", "times ours");
     let seconds = best(&mut works);
     for (what, time) in names.iter().zip(&seconds) {

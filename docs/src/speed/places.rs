@@ -1,5 +1,6 @@
 // A list of 32 paths of 8 steps, and a walk through nested places, the same at each run. Twelve kinds of place lie within each other, with
 // five names each. The list has 40 of the 60 names; the last of each kind is not among them.
+use crate::numbers::Numbers;
 use std::ops::Range;
 
 pub const ELEMENTS: usize = 100_000;
@@ -9,21 +10,6 @@ const NAMES: usize = 5;
 const KINDS: [&str; 12] = [
     "country", "region", "province", "district", "county", "commune", "town", "parish", "village", "quarter", "street", "house",
 ];
-
-/// Numbers that look random.
-struct Numbers(u64);
-
-impl Numbers {
-    fn below(&mut self, n: usize) -> usize {
-        self.0 = self.0.wrapping_mul(6364136223846793005).wrapping_add(1442695040888963407);
-        (self.0 >> 33) as usize % n
-    }
-
-    /// Which name of a kind: the first ones come more often.
-    fn pick(&mut self, names: usize) -> usize {
-        self.below(names).min(self.below(names))
-    }
-}
 
 /// The first name of a kind is its word, the others have a number: `village`, `village017`.
 fn name(kind: usize, k: usize) -> String {

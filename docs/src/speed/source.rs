@@ -1,4 +1,5 @@
-// Reads the Rattle source of crates as Rust, so that it can be timed on any machine: one file of nested modules, on the standard output.
+// Reads the Rattle source of crates as Rust, so that it can be timed on any machine: one file of nested modules, on the standard output,
+// to be the module `ours`.
 // Names of crates are the arguments. Ghost lines, contracts and comments go; structs and enums are Clone and Copy; extern functions are
 // plain ones. With --unchecked first, no index is checked, as in the compiled library, where a proof stands for the check.
 // What is left has to be Rust: a form that is not known here stops it, or stops rustc.
@@ -35,7 +36,8 @@ fn still_open(line: &str, mut open: usize) -> Option<usize> {
 /// The line with every `base[index]` left unchecked; or nothing where an index ends on another line or is indexed again.
 fn unchecked(line: &str) -> Option<String> {
     let word = |c: char| c.is_alphanumeric() || c == '_';
-    let open = match line.char_indices().find(|&(i, c)| c == '[' && line[..i].ends_with(word)) {
+    let quoted = |i: usize| line[..i].matches('"').count() % 2 == 1;
+    let open = match line.char_indices().find(|&(i, c)| c == '[' && line[..i].ends_with(word) && !quoted(i)) {
         Some((open, _)) => open,
         None => return Some(line.to_string()),
     };
@@ -62,8 +64,8 @@ fn unchecked(line: &str) -> Option<String> {
 /// The module of a file, with those that it names; `folder` is where they stand.
 fn module(file: &Path, folder: &Path, own: &str, crates: &[String], checked: bool) -> String {
     let text = fs::read_to_string(file).unwrap_or_else(|e| stop(file, 0, &e.to_string()));
-    let others = crates.iter().filter(|c| *c != own);
-    let mut out: String = others.map(|c| format!("use crate::{c};\n")).collect();
+    let others = crates.iter().filter(|c| *c != own && !text.contains(&format!("mod {c};")));
+    let mut out: String = others.map(|c| format!("use crate::ours::{c};\n")).collect();
     let mut open = 0; // braces of a clause
     for (i, line) in text.lines().enumerate() {
         let line = code(line);
@@ -81,7 +83,7 @@ fn module(file: &Path, folder: &Path, own: &str, crates: &[String], checked: boo
             if ["struct ", "enum "].iter().any(|w| line.trim_start_matches("pub ").starts_with(w)) {
                 out += "#[derive(Clone, Copy)]\n";
             }
-            let line = line.replace("crate::", &format!("crate::{own}::")).replace("extern \"C\" ", "");
+            let line = line.replace("crate::", &format!("crate::ours::{own}::")).replace("extern \"C\" ", "");
             let line = if checked { Some(line) } else { unchecked(&line) };
             out += &line.unwrap_or_else(|| stop(file, i + 1, "an index over two lines, or indexed again"));
             out += "\n";
@@ -102,6 +104,6 @@ fn main() {
     for own in &crates {
         let src = Path::new("crates").join(own).join("src");
         let inner = module(&src.join("lib.rt"), &src, own, &crates, checked);
-        println!("#[allow(dead_code, unused_imports, unused_parens)]\npub mod {own} {{\n{inner}}}");
+        println!("#[allow(dead_code, unused_imports, unused_parens, unused_variables)]\npub mod {own} {{\n{inner}}}");
     }
 }

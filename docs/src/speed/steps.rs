@@ -9,13 +9,13 @@ pub trait Matcher {
 }
 
 pub struct Step<'a> {
-    descends: bool,
-    test: Option<&'a [u8]>, // nothing is `*`
+    pub descends: bool,
+    pub test: Option<&'a [u8]>, // nothing is `*`
 }
 
 pub struct Path<'a> {
-    steps: Vec<Step<'a>>,
-    marked: bool,
+    pub steps: Vec<Step<'a>>,
+    pub marked: bool,
 }
 
 fn path(line: &str) -> Path<'_> {
