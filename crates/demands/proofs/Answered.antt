@@ -1,0 +1,77 @@
+-- Demand 1: "Every list, document and output buffer gets an answer. A bad list, a bad document or too little room is refused by a number
+-- and a place, never left to the caller to check, and a refused call changes no byte of the output." And under 0 the bytes after the
+-- cut stay.
+use mathlib.Core.Path.{_≡_, refl, sym, ap, _∙_}
+use mathlib.Core.List.{List, _++_}
+use Prim.Native.Nat.{ℕ, _≤_}
+use native.Mathlib.Omega.{arith}
+use lib.ListN.{length, drop}
+use Rattle.cutter.specs.Answer.{answerOf, after, bytesAfter, numberOf, secondOf, thirdOf}
+use Rattle.cutter.specs.declared.Answer.{Answer}
+use Rattle.cutter.specs.declared.Answer.the-variants.{Written, ListTooLong, ListMalformed, ListTooLarge, TooLong, NotChar}
+use Rattle.cutter.specs.declared.Answer.the-variants.{Doctype, Malformed, TooLarge, Short}
+use Rattle.trees.specs.Written.{cutOf}
+
+-- every call has an answer, and one of document 01's ten numbers; `cut` is a total function, so it has one in the code too
+pub numbered : (list d : List ℕ) (room : ℕ) → numberOf (answerOf list d room) ≤ 9
+numbered list d room = ten (answerOf list d room)
+  where
+    ten : (a : Answer) → numberOf a ≤ 9
+    ten (Written n c) = omega arith
+    ten ListTooLong = omega arith
+    ten (ListMalformed n) = omega arith
+    ten (ListTooLarge n) = omega arith
+    ten TooLong = omega arith
+    ten (NotChar n) = omega arith
+    ten (Doctype n) = omega arith
+    ten (Malformed n) = omega arith
+    ten (TooLarge n) = omega arith
+    ten (Short n) = omega arith
+
+-- "a refused call changes no byte of the output"
+refused-keeps : (a : Answer) (w o : List ℕ) → (numberOf a ≡ 0 → ⊥) → after a w o ≡ o
+refused-keeps (Written n c) w o h = absurd (h refl)
+refused-keeps ListTooLong w o h = refl
+refused-keeps (ListMalformed n) w o h = refl
+refused-keeps (ListTooLarge n) w o h = refl
+refused-keeps TooLong w o h = refl
+refused-keeps (NotChar n) w o h = refl
+refused-keeps (Doctype n) w o h = refl
+refused-keeps (Malformed n) w o h = refl
+refused-keeps (TooLarge n) w o h = refl
+refused-keeps (Short n) w o h = refl
+
+pub refused : (list d o : List ℕ) → (numberOf (answerOf list d (length o)) ≡ 0 → ⊥) → bytesAfter list d o ≡ o
+unfolding bytesAfter
+refused list d o h = refused-keeps (answerOf list d (length o)) (cutOf list d) o h
+
+-- "On 0 the bytes after the cut stay as they were"
+written-front : (a : Answer) (w o : List ℕ) → numberOf a ≡ 0 → after a w o ≡ w ++ drop (secondOf a) o
+written-front (Written n c) w o h = refl
+written-front ListTooLong w o h = absurd (omega arith)
+written-front (ListMalformed n) w o h = absurd (omega arith)
+written-front (ListTooLarge n) w o h = absurd (omega arith)
+written-front TooLong w o h = absurd (omega arith)
+written-front (NotChar n) w o h = absurd (omega arith)
+written-front (Doctype n) w o h = absurd (omega arith)
+written-front (Malformed n) w o h = absurd (omega arith)
+written-front (TooLarge n) w o h = absurd (omega arith)
+written-front (Short n) w o h = absurd (omega arith)
+
+pub written : (list d o : List ℕ) → numberOf (answerOf list d (length o)) ≡ 0
+    → bytesAfter list d o ≡ cutOf list d ++ drop (secondOf (answerOf list d (length o))) o
+unfolding bytesAfter
+written list d o h = written-front (answerOf list d (length o)) (cutOf list d) o h
+
+-- "The third number is 0 except under 0"
+pub third : (a : Answer) → (numberOf a ≡ 0 → ⊥) → thirdOf a ≡ 0
+third (Written n c) h = absurd (h refl)
+third ListTooLong h = refl
+third (ListMalformed n) h = refl
+third (ListTooLarge n) h = refl
+third TooLong h = refl
+third (NotChar n) h = refl
+third (Doctype n) h = refl
+third (Malformed n) h = refl
+third (TooLarge n) h = refl
+third (Short n) h = refl
