@@ -1,4 +1,24 @@
--- The demands of the request, each in a file of its own.
--- What is not here yet is named in docs/DEMANDS.md.
+-- The demands of the request, each in a file of its own, after what it rests on beside the other crates' theorems. In order: demand 1;
+-- what is selected and counted; what is accepted, by production [1]; demand 3; the first fault; the twelve examples; wrong filters.
 pub mod Answered
 pub mod Selected
+pub mod Parts
+pub mod Tagged
+pub mod Told
+pub mod Sound
+pub mod First
+pub mod Begins
+pub mod Goes
+pub mod Complete
+pub mod Accepted
+pub mod Refused
+pub mod Allowed
+pub mod Productions
+pub mod Characters
+pub mod Narrow
+pub mod Reread
+pub mod Recut
+pub mod Demand3
+pub mod Faults
+pub mod Examples
+pub mod Wrong

@@ -1,6 +1,6 @@
 -- Demand 2: "A path selects an element exactly when its steps can be laid on the names from the root down to that element as XPath 1.0
 -- means child and descendant steps. The bytes written are those that the rule gives, and the number handed back with them is that of the
--- elements selected." That a document is accepted exactly when it is derived by production [1] is not here.
+-- elements selected." That a document is accepted exactly when it is derived by production [1] is in Accepted.antt.
 use mathlib.Core.Path.{_≡_, refl, sym, ap, ap₂, _∙_}
 use mathlib.Core.Bool.{Bool, true, false, cond, false≢true}
 use mathlib.Core.Logic.{_↔_}
@@ -32,7 +32,7 @@ use Rattle.demands.specs.Elements.{elements, howMany}
 
 -- ---- "A path selects an element exactly when ..": the verdict is that of a choice of places
 
-marked-some : {ps : List Path} {names : List Name} → ByMarked ps names → BySome ps names
+pub marked-some : {ps : List Path} {names : List Name} → ByMarked ps names → BySome ps names
 marked-some (this h) = this (h .1)
 marked-some (later h) = later (marked-some h)
 

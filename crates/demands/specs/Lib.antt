@@ -1,3 +1,5 @@
--- What the demands are stated with beside the definitions of the other crates:
--- the elements of a forest, and how many of some pass a test.
+-- What the demands are stated with beside the definitions of the other crates: the elements of a forest, and how many of some pass a test;
+-- one list within another; the first item at fault.
 pub mod Elements
+pub mod Within
+pub mod Reached

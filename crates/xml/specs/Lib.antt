@@ -1,4 +1,4 @@
--- Definitions, in the order to read them: what a reader must believe are the first six; Character and Computes find by computing what the
+-- Definitions, in the order to read them: what a reader must believe are the first seven; Character and Computes find by computing what the
 -- others say, and Judged states worked examples.
 pub mod Range
 pub mod Utf8
@@ -6,6 +6,7 @@ pub mod Notation
 pub mod Productions
 pub mod Language
 pub mod Forest
+pub mod Document
 pub mod Character
 pub mod Computes
 pub mod Judged

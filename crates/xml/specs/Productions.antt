@@ -2,7 +2,7 @@
 -- stand in the Recommendation's order, but for what a production is made of, which has to stand before it: [66] [68] [67] before [10], [17]
 -- before [16], [19]-[21] before [18], [25] [26] before [24], [81] [80] [32] before [23], [41] before [40].
 -- A document has no document type: so "Entity Declared" leaves the five predefined names, and "No < in Attribute Values" holds by [10]
--- itself. Unique attribute names, matching tags and [1] [22] [39] [43] belong to the document as a whole and are not here.
+-- itself. Unique attribute names, matching tags and [1] [22] [39] [43] belong to the document as a whole: Document.antt.
 use mathlib.Core.Bool.{Bool, true, false, not, _&&_, _||_}
 use mathlib.Core.List.{List, [], _∷_}
 use Prim.Native.Nat.{ℕ, _+_, _-_, _*_}
