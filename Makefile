@@ -36,8 +36,39 @@ rt:
 	    echo 'missing: the Rattle toolchain. Its command rt must be on the PATH; nothing here can be checked without it.'; exit 1; }
 
 rust:
-	@command -v rustc > /dev/null || { echo 'installing rustc'; apt-get update -q && apt-get install -y -q rustc; } > /dev/null || { \
+	@command -v rustc > /dev/null || $(call install,rustc) || { \
 	    echo 'missing: rustc, which makes the expected outputs anew. Install the Debian package rustc.'; exit 1; }
+
+# $(call install,PACKAGES) installs Debian's packages, and says only that.
+install = { echo 'installing $(1)'; { apt-get update -q && apt-get install -y -q --no-install-recommends $(1); } > $(MADE)/apt 2>&1; }
+
+# The static library is x86-64 code. Rust and C that call it are compiled by these, and $(RUN) starts what they make. Elsewhere than on
+# x86-64 that takes Debian's compilers for it, since they come with that machine's standard library, and an emulator.
+ifeq ($(shell uname -m),x86_64)
+X86_RUSTC = rustc
+X86_CC = cc
+RUN =
+X86_MISSING = command -v rustc cc
+X86_PACKAGES = rustc gcc libc6-dev
+else
+X86_RUSTC = /usr/bin/rustc --target x86_64-unknown-linux-gnu -C linker=x86_64-linux-gnu-gcc \
+    -C target-feature=+crt-static -C relocation-model=static
+X86_CC = x86_64-linux-gnu-gcc -static
+RUN = qemu-x86_64
+X86_MISSING = ls /usr/bin/rustc /usr/lib/rustlib/x86_64-unknown-linux-gnu/lib /usr/lib/x86_64-linux-gnu/libc.a && \
+    command -v x86_64-linux-gnu-gcc qemu-x86_64
+X86_PACKAGES = rustc libstd-rust-dev:amd64 gcc-x86-64-linux-gnu libc6-dev:amd64 qemu-user
+endif
+
+x86:
+	@mkdir -p $(MADE)
+	@{ $(X86_MISSING); } > $(MADE)/found 2>&1 || { dpkg --add-architecture amd64 && $(call install,$(X86_PACKAGES)); } || { \
+	    echo 'missing: what compiles for x86-64 and runs it. Install the Debian packages $(X86_PACKAGES).'; cat $(MADE)/apt; exit 1; }
+
+# The proved static library, and the crate over it that Rust calls.
+library: rt x86
+	@mkdir -p target/log && rt staticlib exported > target/log/library 2>&1 || { cat target/log/library; exit 1; }
+	$(X86_RUSTC) --edition 2021 -O --crate-type rlib --crate-name choughbell -L target/staticlib -o $(MADE)/libchoughbell.rlib host/src/lib.rs
 
 format:
 	rt fmt --check
