@@ -1,0 +1,71 @@
+//! The filter of document 01, written a second time from that page alone, slow and obvious. Here: the numbers handed
+//! back and the three public questions. The list is in `list`, the characters in `chars`, the productions in
+//! `declaration`, `markup`, `reference` and `tag` over `reader`, the items in `items`, their faults in `faults`, the
+//! tree in `tree` and `document`, the choice of places in `select`, the bytes in `write`, what the program prints in
+//! `program`.
+
+mod chars;
+mod declaration;
+mod document;
+mod faults;
+mod items;
+mod limits;
+mod list;
+mod markup;
+pub mod program;
+mod reader;
+mod reference;
+mod select;
+mod tag;
+#[cfg(test)]
+mod tests;
+mod tree;
+mod write;
+
+/// Document 01's answer: the number, the second number and the third.
+#[derive(Clone, Copy, PartialEq, Eq, Debug)]
+pub struct Numbers {
+    pub number: u64,
+    pub second: u64,
+    pub third: u64,
+}
+
+/// "The third number is 0 except under 0."
+fn refusal(number: u64, second: usize) -> Numbers {
+    Numbers {
+        number,
+        second: second as u64,
+        third: 0,
+    }
+}
+
+/// The cut's bytes and the number of elements selected, whatever room there is; or the refusal, which is never 9.
+/// The list is judged before the document: "1; 2 and 3 by line; 4; 5; 6 to 8 by item".
+pub fn whole(list: &[u8], doc: &[u8]) -> Result<(Vec<u8>, u64), Numbers> {
+    let paths = list::paths(list)?;
+    let mut root = document::root(doc)?;
+    select::mark(&mut root, &mut Vec::new(), &paths);
+    Ok((write::cut(&root, doc), select::count(&root)))
+}
+
+/// The answer for the document alone, 4 to 8, or `None` if it is sound.
+pub fn judge(doc: &[u8]) -> Option<Numbers> {
+    document::root(doc).err()
+}
+
+/// Document 01's answer. The output is touched only under 0, and only as far as the cut reaches.
+pub fn cut(list: &[u8], doc: &[u8], out: &mut [u8]) -> Numbers {
+    let (bytes, selected) = match whole(list, doc) {
+        Ok(found) => found,
+        Err(numbers) => return numbers,
+    };
+    if bytes.len() > out.len() {
+        return refusal(9, bytes.len());
+    }
+    out[..bytes.len()].copy_from_slice(&bytes);
+    Numbers {
+        number: 0,
+        second: bytes.len() as u64,
+        third: selected,
+    }
+}

@@ -1,0 +1,72 @@
+//! What a path selects, by trying every choice of places for its steps, as the definition in document 01 reads. The
+//! choices are tried one by one and nothing is remembered between them, so a path of many `//` steps on a deep chain
+//! of names that nearly fit takes very long.
+
+use crate::list::{Axis, Path, Step, Test};
+use crate::tree::{Element, Selection};
+
+/// Notes on every element of the tree how the paths select it. `above` holds the names from the root to its parent.
+pub fn mark<'a>(element: &mut Element<'a>, above: &mut Vec<&'a str>, paths: &[Path]) {
+    above.push(element.name);
+    element.selection = selection(above, paths);
+    for child in &mut element.children {
+        mark(child, above, paths);
+    }
+    above.pop();
+}
+
+/// How many elements of the tree are selected, "those inside a kept entry too".
+pub fn count(element: &Element) -> u64 {
+    let here = u64::from(element.selection != Selection::No);
+    here + element.children.iter().map(count).sum::<u64>()
+}
+
+/// How the paths select the element whose names from the root down are `names`. A marked path wins over a plain one.
+fn selection(names: &[&str], paths: &[Path]) -> Selection {
+    if paths
+        .iter()
+        .any(|path| path.is_marked && selects(path, names))
+    {
+        Selection::Marked
+    } else if paths.iter().any(|path| selects(path, names)) {
+        Selection::Plain
+    } else {
+        Selection::No
+    }
+}
+
+/// "A path of m steps selects it if places can be chosen for its steps so that: the last step has place k".
+fn selects(path: &Path, names: &[&str]) -> bool {
+    can_be_laid(&path.steps, names, names.len())
+}
+
+/// Can places be chosen for these steps so that the last of them has this place? Places count from 1; "before the first
+/// step is place 0", so no steps at all have place 0 and no other.
+fn can_be_laid(steps: &[Step], names: &[&str], place: usize) -> bool {
+    let (last, earlier) = match steps.split_last() {
+        Some(split) => split,
+        None => return place == 0,
+    };
+    if place == 0 || !fits(&last.test, names[place - 1]) {
+        return false;
+    }
+    // Each earlier step needs a place of its own, so lower places than these need not be tried.
+    (earlier.len()..place)
+        .any(|before| is_below(&last.axis, before, place) && can_be_laid(earlier, names, before))
+}
+
+/// "each name test equals the name there, `*` any name"
+fn fits(test: &Test, name: &str) -> bool {
+    match test {
+        Test::Any => true,
+        Test::Name(wanted) => *wanted == name,
+    }
+}
+
+/// "a child step stands exactly one place below the step before, a descendant step at least one"
+fn is_below(axis: &Axis, before: usize, place: usize) -> bool {
+    match axis {
+        Axis::Child => place == before + 1,
+        Axis::Descendant => place >= before + 1,
+    }
+}
