@@ -1,0 +1,159 @@
+// Sound documents over a few names, so that paths hit: elements inside elements to a moderate depth, and every kind of item among them.
+// With the bytes come the chains, the names from the root down to each element, for the lists to be made by.
+
+use super::random::Random;
+
+/// Names alike in their fronts, composed and decomposed accents, characters of four bytes, colons and what looks like markup elsewhere.
+#[rustfmt::skip]
+const NAMES: &[&str] = &[
+    "a", "b", "c", "g", "v", "n", "aa", "ab", "\u{e9}", "e\u{301}", "e", "x:y", "_", "a-1.b", "\u{10000}", "xml", ":",
+];
+#[rustfmt::skip]
+const ATTRIBUTES: &[&str] = &["k", "kk", "l", "xmlns:a", "xmlns", "\u{e9}", "e\u{301}", "a", "_", "\u{10000}"];
+#[rustfmt::skip]
+const VALUES: &[&str] = &[
+    "'1'", "\"1\"", "''", "\"\"", "\"&lt;\"", "'\"'", "\"'\"", "'>'", "\"/>\"", "'a\n b'", "']]>'", "'\u{e9}&#xe9;'", "'--'",
+];
+#[rustfmt::skip]
+const TEXTS: &[&str] = &[
+    "Aar", " ", "\n", "\t", "\r\n", "\u{e9}", "\u{10000}", ">", "]]", "]", "' \"", "/>", "-->", "?>", "\u{feff}", "#", "x]>",
+];
+#[rustfmt::skip]
+const REFERENCES: &[&str] = &["&amp;", "&lt;", "&gt;", "&apos;", "&quot;", "&#65;", "&#x41;", "&#0009;", "&#x10FFFF;", "&#xD7ff;"];
+#[rustfmt::skip]
+const SECTIONS: &[&str] = &["<![CDATA[]]>", "<![CDATA[<a>&]]>", "<![CDATA[]]]]>", "<![CDATA[<!DOCTYPE]]>", "<![CDATA[ ]]>"];
+#[rustfmt::skip]
+const MISC: &[&str] = &[
+    "<!--c-->", "<!---->", "<!-- - <a> & -->", "<!--<!DOCTYPE-->", "<?p?>", "<?p x?>", "<?xml-s a='<'?>", "<?a ??>", "<?p <!DOCTYPE?>",
+];
+const DECLARATIONS: &[&str] = &[
+    "<?xml version=\"1.0\"?>",
+    "<?xml version='1.10' encoding='UTF-8' ?>",
+    "<?xml version=\"1.0\" standalone='yes'?>",
+    "<?xml\nversion = '1.1'\tencoding=\"x-y_1.2\" standalone = \"no\"?>",
+];
+const BLANKS: &[&str] = &[" ", " ", " ", "  ", "\n", "\t", "\r\n"];
+const EQUALS: &[&str] = &["=", "=", "=", " = ", "=\n", "\t="];
+
+/// The depth that no document of the general kind passes: the second program tries every choice of places.
+const DEPTH: usize = 7;
+
+pub struct Grown {
+    pub bytes: Vec<u8>,
+    pub names: Vec<&'static str>,
+    pub chains: Vec<Vec<&'static str>>,
+}
+
+struct Grower<'a> {
+    random: &'a mut Random,
+    grown: Grown,
+    chain: Vec<&'static str>,
+    /// How many elements may still begin.
+    left: usize,
+}
+
+pub fn document(random: &mut Random) -> Grown {
+    let names = (0..random.between(2, 4))
+        .map(|_| random.pick(NAMES))
+        .collect();
+    let left = random.between(1, 14);
+    let grown = Grown {
+        bytes: Vec::new(),
+        names,
+        chains: Vec::new(),
+    };
+    let mut grower = Grower {
+        random,
+        grown,
+        chain: Vec::new(),
+        left,
+    };
+    grower.document();
+    grower.grown
+}
+
+impl Grower<'_> {
+    fn put(&mut self, text: &str) {
+        self.grown.bytes.extend_from_slice(text.as_bytes());
+    }
+
+    fn any(&mut self, texts: &[&'static str]) {
+        let text = self.random.pick(texts);
+        self.put(text);
+    }
+
+    fn maybe(&mut self, times: usize, texts: &[&'static str]) {
+        if self.random.one_in(times) {
+            self.any(texts);
+        }
+    }
+
+    fn document(&mut self) {
+        self.maybe(10, &["\u{feff}"]);
+        self.maybe(5, DECLARATIONS);
+        self.maybe(6, &[" ", "\n"]);
+        self.maybe(8, MISC);
+        self.element();
+        self.maybe(4, &[" ", "\n"]);
+        self.maybe(8, MISC);
+    }
+
+    fn element(&mut self) {
+        self.left = self.left.saturating_sub(1);
+        let name = self.random.pick(&self.grown.names);
+        self.chain.push(name);
+        self.grown.chains.push(self.chain.clone());
+        self.put("<");
+        self.put(name);
+        self.attributes();
+        self.maybe(8, BLANKS);
+        if self.left == 0 || self.chain.len() > 1 && self.random.one_in(3) {
+            self.put("/>");
+        } else {
+            self.put(">");
+            self.content();
+            self.put("</");
+            self.put(name);
+            self.maybe(8, BLANKS);
+            self.put(">");
+        }
+        self.chain.pop();
+    }
+
+    fn attributes(&mut self) {
+        let mut told: Vec<&str> = Vec::new();
+        while self.random.one_in(4) && told.len() < 4 {
+            let name = self.random.pick(ATTRIBUTES);
+            if !told.contains(&name) {
+                told.push(name);
+                self.any(BLANKS);
+                self.put(name);
+                self.any(EQUALS);
+                self.any(VALUES);
+            }
+        }
+    }
+
+    /// Two texts never stand side by side, since `]]` and `>` would make what no text may hold.
+    fn content(&mut self) {
+        let mut after_text = false;
+        for _ in 0..self.random.between(1, 5) {
+            after_text = match self.random.below(9) {
+                0..=3 if self.left > 0 && self.chain.len() < DEPTH => {
+                    self.element();
+                    false
+                }
+                0..=5 => {
+                    if !after_text {
+                        self.any(TEXTS);
+                    }
+                    true
+                }
+                kind => {
+                    self.any([REFERENCES, SECTIONS, MISC][kind - 6]);
+                    false
+                }
+            };
+        }
+    }
+}

@@ -1,0 +1,186 @@
+// Lists and documents with one size near its limit, on either side of it: levels, attributes, names in each place, lines, steps, and the
+// bytes of the list. No path has over three descendant steps where the document is deep: the second program tries every choice of places.
+
+use super::documents;
+use super::lists;
+use super::random::Random;
+
+/// A list and a document, and from where on their relatives may differ: what stands before would only be repeated in a pack.
+pub struct Near {
+    pub list: Vec<u8>,
+    pub doc: Vec<u8>,
+    pub list_from: usize,
+    pub doc_from: usize,
+}
+
+pub fn near(random: &mut Random) -> Near {
+    let (list, doc) = match random.below(15) {
+        0..=2 => deep(random),
+        3 | 4 => attributes(random),
+        5..=8 => names(random),
+        9 | 10 => lines(random),
+        11 | 12 => steps(random),
+        _ => bytes(random),
+    };
+    let (list_from, doc_from) = (list.len().saturating_sub(60), doc.len().saturating_sub(120));
+    Near {
+        list: list.into_bytes(),
+        doc: doc.into_bytes(),
+        list_from,
+        doc_from,
+    }
+}
+
+/// The list with a line more that makes it too large, or nearly.
+pub fn too_large(list: &[u8], random: &mut Random) -> Vec<u8> {
+    let more = match random.below(3) {
+        0 => format!("{}\n", "/a".repeat(random.between(16, 18))),
+        1 => format!("//{}\n", "n".repeat(random.between(255, 257))),
+        _ => "/a\n".repeat(random.between(24, 33)),
+    };
+    [list, more.as_bytes()].concat()
+}
+
+/// The document with an element put in, before what begins an item or seems to, whose name or attributes are near the limit.
+pub fn crowded(doc: &[u8], random: &mut Random) -> Vec<u8> {
+    let mut at = random.below(doc.len());
+    at += doc[at..].iter().take_while(|b| **b != b'<').count();
+    let tag = match random.below(3) {
+        0 => format!("<{}/>", "a".repeat(random.between(254, 257))),
+        1 => format!("<a{}/>", many(random.between(31, 34), 99)),
+        _ => format!("</{}>", "a".repeat(random.between(254, 257))),
+    };
+    [&doc[..at], tag.as_bytes(), &doc[at..]].concat()
+}
+
+/// 63 to 66 levels, the last of them by an empty tag or by a start tag.
+fn deep(random: &mut Random) -> (String, String) {
+    let levels = random.between(63, 66);
+    let names: Vec<&str> = (0..levels).map(|_| random.pick(&["a", "a", "b"])).collect();
+    let mut doc: String = names[..levels - 1]
+        .iter()
+        .map(|name| format!("<{name}>"))
+        .collect();
+    let last = names[levels - 1];
+    doc += &if random.one_in(2) {
+        format!("<{last}/>")
+    } else {
+        format!("<{last}>Aar</{last}>")
+    };
+    for name in names[..levels - 1].iter().rev() {
+        doc += &format!("</{name}>");
+        if random.one_in(20) {
+            doc += random.pick(&["<a/>", "<b/>", "Aar"]);
+        }
+    }
+    let list = random.pick(&[
+        "//a//b//a\n",
+        "//a/a/a\n//b #\n",
+        "/a/*//b/a\n",
+        "//*\n",
+        "//b//a #\n/*\n",
+        "//a/b/a/b\n",
+    ]);
+    (list.into(), doc)
+}
+
+/// So many attributes. The one at `twice` has the name of another.
+fn many(count: usize, twice: usize) -> String {
+    let names = (0..count).map(|i| if i == twice { (i + 7) % count } else { i });
+    names.map(|i| format!(" k{i}=''")).collect()
+}
+
+/// 31 to 34 attributes in one tag, at times with a name twice.
+fn attributes(random: &mut Random) -> (String, String) {
+    let count = random.between(31, 34);
+    let twice = if random.one_in(4) {
+        random.below(count)
+    } else {
+        count
+    };
+    let tag = many(count, twice);
+    let doc = match random.below(3) {
+        0 => format!("<g{tag}/>"),
+        1 => format!("<g><v{tag}/><n/></g>"),
+        _ => format!("<g><v{tag}><n/></v></g>"),
+    };
+    (
+        random
+            .pick(&["//v\n", "//n\n", "//* #\n", "/g\n", ""])
+            .into(),
+        doc,
+    )
+}
+
+/// A name of so many bytes, of characters of one to four bytes; what is over is filled up by one byte each.
+fn name(random: &mut Random, bytes: usize) -> String {
+    let mut name = String::from(random.pick(&["a", "_", "\u{e9}"]));
+    let usual = random.pick(&["a", "\u{e9}", "\u{3001}", "\u{10000}"]);
+    while name.len() + usual.len() <= bytes {
+        name += usual;
+    }
+    while name.len() < bytes {
+        name += "z";
+    }
+    name
+}
+
+/// A name of 254 to 257 bytes in the list, a start tag and its end tag, an empty tag, an end tag alone or an attribute.
+fn names(random: &mut Random) -> (String, String) {
+    let bytes = random.between(254, 257);
+    let name = name(random, bytes);
+    let list = random.pick(&["//v\n", "/g/*\n", "//n #\n"]);
+    match random.below(6) {
+        0 => (format!("//n\n//{name}\n"), "<g><n/></g>".into()),
+        1 => (list.into(), format!("<g><n/><{name}><n/></{name}></g>")),
+        2 => (list.into(), format!("<g><n/><{name}/></g>")),
+        3 => (list.into(), format!("<g><n/></{name}></g>")),
+        4 => (list.into(), format!("<g><n/><v {name}=''/></g>")),
+        _ => (format!("//{name}\n"), format!("<g><n/><{name} k='1'/></g>")),
+    }
+}
+
+/// 31 to 34 lines. The last may be malformed, or lack its line feed.
+fn lines(random: &mut Random) -> (String, String) {
+    let doc = documents::document(random);
+    let count = random.between(31, 34);
+    let mut list: String = (1..count)
+        .map(|_| random.pick(&["/a\n", "/b\n", "//a\n", "/* #\n"]))
+        .collect();
+    list += &match random.below(4) {
+        0 => random.pick(&["\n", "a\n", "/a", "/a #", "/"]).to_string(),
+        _ => lists::line(random, &doc),
+    };
+    (list, String::from_utf8_lossy(&doc.bytes).into_owned())
+}
+
+/// A line of 15 to 18 steps, and a document of so many levels.
+fn steps(random: &mut Random) -> (String, String) {
+    let count = random.between(15, 18);
+    let descends: Vec<usize> = (0..3).map(|_| random.below(count)).collect();
+    let mut list = String::from(random.pick(&["", "//b\n"]));
+    for i in 0..count {
+        list += if descends.contains(&i) { "//" } else { "/" };
+        list += random.pick(&["a", "a", "a", "*"]);
+    }
+    list += random.pick(&["\n", "\n", " #\n", " # \n", "/\n"]);
+    let levels = random.between(count - 1, count + 2);
+    (
+        list,
+        format!(
+            "{}<a k='1'/><b/>{}",
+            "<a>".repeat(levels - 1),
+            "</a>".repeat(levels - 1)
+        ),
+    )
+}
+
+/// A list of 8,191 to 8,194 bytes, of 32 lines of up to 256 bytes. The last line is the one that varies.
+fn bytes(random: &mut Random) -> (String, String) {
+    let count = random.between(8_191, 8_194);
+    let mut list = format!("//{}\n", "n".repeat(253)).repeat(31);
+    let left = count - list.len() - 4;
+    list += &format!("/g/{}/n\n", "v".repeat(left - 2))[..left + 3];
+    list += "\n";
+    (list, "<g><v><n/></v></g>".into())
+}

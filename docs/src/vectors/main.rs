@@ -1,0 +1,120 @@
+// Makes the cases that the filter is held to, and their answers by the second program (docs/src/second), which shares nothing with the
+// filter. Here are the commands; the cases are in suite.rs (W3C files), named/ (by hand) and made/ (by a generator), the files that hold
+// them in pack.rs, a case asked and its digest in asked.rs and crc.rs, a case shown in show.rs. Run from the repository's top:
+//
+//     rustc --edition 2021 -O --crate-type rlib --crate-name second -o target/rust/libsecond.rlib docs/src/second/lib.rs
+//     rustc --edition 2021 -O --extern second=target/rust/libsecond.rlib -o target/rust/vectors docs/src/vectors/main.rs
+
+mod asked;
+mod crc;
+mod made;
+mod named;
+mod pack;
+mod show;
+mod suite;
+
+use made::{Case, Random};
+use std::fs;
+use std::process::ExitCode;
+
+const PACKS: [&str; 3] = ["suite", "named", "made"];
+
+/// The seed of the pack `made`, and how many cases it has at least. The last batch is not broken off.
+const SEED: u64 = 19_980_210;
+const MADE: usize = 24_000;
+
+const COMMANDS: &str =
+    "pack FOLDER | answers FOLDER | verdicts [--folder DIR] | counts FOLDER | show FOLDER PACK N";
+
+fn main() -> ExitCode {
+    let words: Vec<String> = std::env::args().skip(1).collect();
+    let words: Vec<&str> = words.iter().map(String::as_str).collect();
+    let done = match words[..] {
+        ["pack", folder] => write(folder),
+        ["answers", folder] => answers(folder),
+        ["verdicts"] => suite::verdicts(suite::FILES),
+        ["verdicts", "--folder", folder] => suite::verdicts(folder),
+        ["counts", folder] => counts(folder),
+        ["show", folder, pack, n] => show(folder, pack, n),
+        _ => Err(COMMANDS.into()),
+    };
+    match done {
+        Ok(true) => ExitCode::SUCCESS,
+        Ok(false) => ExitCode::from(1),
+        Err(why) => {
+            eprintln!("{why}");
+            ExitCode::from(2)
+        }
+    }
+}
+
+/// Writes the packs, if the second program says of every named case what is written by hand.
+fn write(folder: &str) -> Result<bool, String> {
+    if !named::agree() {
+        return Ok(false);
+    }
+    fs::create_dir_all(folder).map_err(|e| format!("{folder}: {e}"))?;
+    for (name, cases) in PACKS
+        .iter()
+        .zip([suite::cases()?, named::cases(), made_cases()])
+    {
+        let bytes = pack::write(&cases);
+        println!("{name}: {} cases, {} bytes", cases.len(), bytes.len());
+        fs::write(format!("{folder}/{name}"), bytes)
+            .map_err(|e| format!("{folder}/{name}: {e}"))?;
+    }
+    Ok(true)
+}
+
+fn made_cases() -> Vec<Case> {
+    let mut random = Random::new(SEED);
+    let mut cases = Vec::new();
+    while cases.len() < MADE {
+        cases.append(&mut made::batch(&mut random));
+    }
+    cases
+}
+
+fn read(folder: &str, name: &str) -> Result<Vec<Case>, String> {
+    let bytes =
+        fs::read(format!("{folder}/{name}")).map_err(|e| format!("{folder}/{name}: {e}"))?;
+    pack::read(&bytes).ok_or(format!("{folder}/{name} is no pack"))
+}
+
+fn answers(folder: &str) -> Result<bool, String> {
+    for name in PACKS {
+        println!("{name}");
+        for case in read(folder, name)? {
+            println!("{}", asked::line(&case));
+        }
+    }
+    Ok(true)
+}
+
+/// How many cases each pack has, in all and by number.
+fn counts(folder: &str) -> Result<bool, String> {
+    for name in PACKS {
+        let cases = read(folder, name)?;
+        let mut by_number = [0; 10];
+        for case in &cases {
+            by_number[asked::ask(case).0.number as usize] += 1;
+        }
+        println!("{name}: {} cases", cases.len());
+        for (number, count) in by_number.iter().enumerate() {
+            println!(
+                "  {number}: {count}, {:.1} %",
+                100.0 * f64::from(*count) / cases.len() as f64
+            );
+        }
+    }
+    Ok(true)
+}
+
+/// Case N of a pack, from 1, so that it is the Nth line after the pack's name in the answers.
+fn show(folder: &str, name: &str, n: &str) -> Result<bool, String> {
+    let cases = read(folder, name)?;
+    let place: usize = n.parse().map_err(|e| format!("{n}: {e}"))?;
+    let case = place.checked_sub(1).and_then(|i| cases.get(i));
+    show::show(case.ok_or(format!("{name} has cases 1 to {}", cases.len()))?);
+    Ok(true)
+}
