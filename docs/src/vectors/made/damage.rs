@@ -7,11 +7,22 @@ const TELLING: &[u8] = b"<>&/!-]?'\"= \t\n\r\0#;*:x0\x7f\x80\xbf\xc0\xe0\xed\xef
 
 #[rustfmt::skip]
 const IN_DOCUMENTS: &[&[u8]] = &[
-    b"<!--", b"-->", b"--", b"--->", b"]]>", b"<![CDATA[", b"<!doctype", b"<?xml ", b"<?xml version='1.0'?>",
-    b"<?XML?>", b"<?p?>", b"?>", b"&#0;", b"&#x10FFFF;", b"&#x110000;", b"&#xD800;", b"&#65;", b"&amp;", b"&lt", b"&nbsp;", b"&#X41;",
-    b" xmlns:a='1'", b" k='1'", b" k='1' k='2'", b" k=1", b" k", b"<a>", b"</a>", b"<a/>", b"</ a>", b"<a / >", b"</>", b"<>", b"/>",
-    b"\xef\xbb\xbf", b"\xef\xbf\xbe", b"\xed\xa0\x80", b"\xc0\x80", b"\xe0\x80\x80", b"\xf0\x90\x80", b"\xf4\x90\x80\x80", b"\xc3\xa9",
-    b"e\xcc\x81", b"\xf0\x90\x80\x80", b"\xc2\x85", b"\xe2\x80\xa8", b"\x0b", b"Aar", b"\n",
+    b"<!--", b"-->", b"--", b"--->", b"]]>", b"<![CDATA[", b"<!DOCTYPE", b"<!doctype", b"<?xml ", b"<?xml version='1.0'?>", b"<?XML?>",
+    b"<?p?>", b"?>", b"&#0;", b"&#x10FFFF;", b"&#x110000;", b"&#xD800;", b"&#65;", b"&#x100000041;", b"&#0000000000065;", b"&amp;", b"&lt",
+    b"&nbsp;", b"&#X41;", b" xmlns:a='1'", b" k='1'", b" k='1' k='2'", b" k=1", b" k", b"<a>", b"</a>", b"<a/>", b"</ a>", b"<a / >",
+    b"</>", b"<>", b"/>", b"\xef\xbb\xbf", b"\xef\xbf\xbe", b"\xed\xa0\x80", b"\xc0\x80", b"\xe0\x80\x80", b"\xf0\x90\x80",
+    b"\xf4\x90\x80\x80", b"\xc3\xa9", b"e\xcc\x81", b"\xf0\x90\x80\x80", b"\xc2\x85", b"\xe2\x80\xa8", b"\x0b", b"Aar", b"\n",
+];
+
+/// Sound and unsound declarations, and what may stand outside the root or not.
+#[rustfmt::skip]
+const OUTSIDE: &[&str] = &[
+    "<?xml version='1.0'?>", " <?xml version='1.0'?>", "<?xml version='2.0'?>", "<?xml version='1.'?>", "<?xml ?>", "<?xml?>", "<?XML a?>",
+    "<?xml version='1.0' encoding='a:b'?>", "<?xml version='1.0' encoding='1'?>", "<?xml version='1.0'encoding='a'?>",
+    "<?xml version='1.0' standalone='YES'?>", "<?xml version='1.0' standalone='yes' encoding='a'?>", "<?xml encoding='a'?>",
+    "<?xml version=\"1.0' ?>", "<?xml version='1.0' a='b'?>", "\u{feff}", "\u{feff}\u{feff}", "\u{feff} ", " \u{feff}", "\u{a0}",
+    "\u{85}", " \t\r\n", "x", "]]>", "&amp;", "&#32;", "<![CDATA[]]>", "<![CDATA[ ]]>", "<a/>", "<a></a>", "<a>", "</a>", "<a", "<!---->",
+    "<?p?>", "<?xml-s?>",
 ];
 
 const DOCTYPES: &[&str] = &[
@@ -31,6 +42,16 @@ const IN_LISTS: &[&[u8]] = &[
 
 pub fn document(doc: &[u8], from: usize, random: &mut Random) -> Vec<u8> {
     damaged(doc, from, IN_DOCUMENTS, random)
+}
+
+/// Something put in front of the document or behind it.
+pub fn outside(doc: &[u8], random: &mut Random) -> Vec<u8> {
+    let more = random.pick(OUTSIDE).as_bytes();
+    if random.one_in(2) {
+        [more, doc].concat()
+    } else {
+        [doc, more].concat()
+    }
 }
 
 /// A document type put in before some byte that begins an item, or seems to.

@@ -45,9 +45,10 @@ pub fn too_large(list: &[u8], random: &mut Random) -> Vec<u8> {
 pub fn crowded(doc: &[u8], random: &mut Random) -> Vec<u8> {
     let mut at = random.below(doc.len());
     at += doc[at..].iter().take_while(|b| **b != b'<').count();
-    let tag = match random.below(3) {
+    let tag = match random.below(4) {
         0 => format!("<{}/>", "a".repeat(random.between(254, 257))),
         1 => format!("<a{}/>", many(random.between(31, 34), 99)),
+        2 => format!("<a {}=''/>", "k".repeat(random.between(254, 257))),
         _ => format!("</{}>", "a".repeat(random.between(254, 257))),
     };
     [&doc[..at], tag.as_bytes(), &doc[at..]].concat()

@@ -16,6 +16,11 @@ pub struct Case {
     pub room: usize,
 }
 
+fn case(list: &[u8], doc: &[u8], room: usize) -> Case {
+    let (list, doc) = (list.to_vec(), doc.to_vec());
+    Case { list, doc, room }
+}
+
 /// The cases of one list and one document. Relatives follow each other, which makes a pack small.
 pub fn batch(random: &mut Random) -> Vec<Case> {
     let mut cases = Vec::new();
@@ -45,7 +50,7 @@ pub fn narrower(list: &[u8], random: &mut Random) -> Vec<u8> {
     narrow
 }
 
-/// A sound list and document in every room, other lists on the document, damaged lists, and last damaged documents.
+/// A sound list and document in every room, narrower lists, damaged lists, other lists, and last other documents.
 fn general(cases: &mut Vec<Case>, random: &mut Random) {
     let grown = documents::document(random);
     let doc = &grown.bytes;
@@ -64,25 +69,28 @@ fn general(cases: &mut Vec<Case>, random: &mut Random) {
         push(cases, &lists::list(random, &grown), doc, random);
     }
     let list = lists::list(random, &grown);
+    other_documents(cases, &list, doc, random);
+}
+
+/// A sound document cut off, with more in it, cut by the list (demand 3), and damaged.
+fn other_documents(cases: &mut Vec<Case>, list: &[u8], doc: &[u8], random: &mut Random) {
     if doc.len() < 70 && random.one_in(8) {
-        cut_off(cases, &list, doc);
+        cut_off(cases, list, doc);
     }
     if random.one_in(3) {
-        push(cases, &list, &damage::doctype(doc, random), random);
-    }
-    if random.one_in(4) {
-        push(cases, &list, &limits::crowded(doc, random), random);
+        push(cases, list, &damage::doctype(doc, random), random);
     }
     if random.one_in(2) {
-        push(
-            cases,
-            &narrower(&list, random),
-            &written(&list, doc),
-            random,
-        );
+        push(cases, list, &damage::outside(doc, random), random);
+    }
+    if random.one_in(3) {
+        push(cases, list, &limits::crowded(doc, random), random);
+    }
+    if random.one_in(2) {
+        push(cases, &narrower(list, random), &written(list, doc), random);
     }
     for _ in 0..random.between(5, 9) {
-        push(cases, &list, &damage::document(doc, 0, random), random);
+        push(cases, list, &damage::document(doc, 0, random), random);
     }
 }
 
@@ -118,11 +126,7 @@ fn every_room(cases: &mut Vec<Case>, list: &[u8], doc: &[u8], random: &mut Rando
     let length = written(list, doc).len();
     let large = length + random.between(2, 300);
     for room in [large, length, length + 1, length.saturating_sub(1), 0] {
-        cases.push(Case {
-            list: list.to_vec(),
-            doc: doc.to_vec(),
-            room,
-        });
+        cases.push(case(list, doc, room));
     }
 }
 
@@ -137,21 +141,13 @@ fn push(cases: &mut Vec<Case>, list: &[u8], doc: &[u8], random: &mut Random) {
         9..=11 => length + 1,
         _ => length + random.between(2, 100),
     };
-    cases.push(Case {
-        list: list.to_vec(),
-        doc: doc.to_vec(),
-        room,
-    });
+    cases.push(case(list, doc, room));
 }
 
 /// The document cut off at every place, the longest first.
 fn cut_off(cases: &mut Vec<Case>, list: &[u8], doc: &[u8]) {
     for end in (0..doc.len()).rev() {
-        cases.push(Case {
-            list: list.to_vec(),
-            doc: doc[..end].to_vec(),
-            room: 100,
-        });
+        cases.push(case(list, &doc[..end], 100));
     }
 }
 
