@@ -1,12 +1,17 @@
 # make run    cuts a sample gazetteer by two lists
 # make test   every check, and last what the toolchain's gate, rt ci, said last: 'N passed, 0 failed'
 # make runs   the program on further cases
+# make big    the library, called from Rust, on documents of 16 MiB and about, beside the second program
+# make fuzz   the same on CASES cases of a generator, from SEED on
+# make suite  all 399 files of the W3C's suite that have no document type, which it fetches, by the library and the second program
+# make peers  whether documents are well-formed, beside two XML processors from Debian
+# make cases  writes the packed cases and their answers anew, by the second program
 # make speed  how fast the library is beside ordinary Rust and other parsers; WHAT=characters, matcher or cut names one part of it
 
 RUST = docs/src
 MADE = target/rust
 
-.PHONY: run test runs speed parsers toolchain rt rust format lines expected cut
+.PHONY: run test runs big fuzz suite peers cases speed parsers toolchain rt rust x86 library trials format lines expected cut
 
 run: rt cut
 	@for list in atlas desk; do \
@@ -67,8 +72,9 @@ x86:
 
 # The proved static library, and the crate over it that Rust calls.
 library: rt x86
-	@mkdir -p target/log && rt staticlib exported > target/log/library 2>&1 || { cat target/log/library; exit 1; }
-	$(X86_RUSTC) --edition 2021 -O --crate-type rlib --crate-name choughbell -L target/staticlib -o $(MADE)/libchoughbell.rlib host/src/lib.rs
+	@mkdir -p target/log $(MADE)/x86 && rt staticlib exported > target/log/library 2>&1 || { cat target/log/library; exit 1; }
+	$(X86_RUSTC) --edition 2021 -O --crate-type rlib --crate-name choughbell -L target/staticlib \
+	    -o $(MADE)/x86/libchoughbell.rlib host/src/lib.rs
 
 format:
 	rt fmt --check
@@ -78,12 +84,63 @@ lines:
 	@! git ls-files '*.rt' '*.antt' '*.rs' '*.md' '*.sh' Makefile .ci/run | LC_ALL=C.UTF-8 xargs grep -nE '^.{141,}' || { \
 	    echo 'lines over 140 characters, above'; exit 1; }
 
-# The outputs that programs are held to are those of ordinary Rust, which shares nothing with the Rattle source.
-expected:
-	@mkdir -p $(MADE)
-	rustc -O -o $(MADE)/expected $(RUST)/expected/main.rs
+# The outputs that programs are held to are those of ordinary Rust, which shares nothing with the Rattle source. They are made again, the
+# packed cases too, and compared; and the suite's verdicts are held against the second program.
+VECTORS = crates/vectors
+expected: $(MADE)/vectors
+	rustc --edition 2021 -O -o $(MADE)/expected $(RUST)/expected/main.rs
 	$(MADE)/expected cases | cmp - crates/cases/stdout
 	$(MADE)/expected walks | cmp - crates/walks/stdout
+	rustc --edition 2021 -O --test -o $(MADE)/second-tests $(RUST)/second/lib.rs
+	$(MADE)/second-tests -q
+	$(MADE)/vectors pack $(MADE)/packs
+	for pack in suite named made; do cmp $(MADE)/packs/$$pack $(VECTORS)/data/$$pack || exit 1; done
+	$(MADE)/vectors answers $(VECTORS)/data | cmp - $(VECTORS)/stdout
+	$(MADE)/vectors verdicts
+
+cases: $(MADE)/vectors
+	$(MADE)/vectors pack $(VECTORS)/data
+	$(MADE)/vectors answers $(VECTORS)/data > $(VECTORS)/stdout
+
+# Ordinary Rust for this machine: the second program, and the cases with their answers by it.
+$(MADE)/libsecond.rlib: rust $(wildcard $(RUST)/second/*.rs)
+	@mkdir -p $(MADE)
+	rustc --edition 2021 -O --crate-type rlib --crate-name second -o $@ $(RUST)/second/lib.rs
+
+$(MADE)/libvectors.rlib: $(MADE)/libsecond.rlib
+	rustc --edition 2021 -O --crate-type rlib --crate-name vectors --extern second=$< -o $@ $(RUST)/vectors/lib.rs
+
+$(MADE)/vectors $(MADE)/peers: $(MADE)/%: $(MADE)/libvectors.rlib
+	rustc --edition 2021 -O -L $(MADE) --extern second=$(MADE)/libsecond.rlib --extern vectors=$< -o $@ $(RUST)/$*/main.rs
+
+# Outside judges, on the documents of the packs.
+PEERS = rxp xmllint
+peers: $(MADE)/peers
+	@command -v $(PEERS) > $(MADE)/found || $(call install,rxp libxml2-utils) || { \
+	    echo 'missing: an XML processor to compare with. Install the Debian packages rxp and libxml2-utils.'; exit 1; }
+	$(MADE)/peers $(VECTORS)/data
+
+# The static library and the second program in one program for x86-64.
+TRIALS = $(MADE)/x86/trials
+CASES = 1000000
+SEED = 1
+big: trials
+	$(RUN) $(TRIALS) big
+
+fuzz: trials
+	$(RUN) $(TRIALS) fuzz $(CASES) $(SEED)
+
+suite: trials
+	xmlconf/fetch.sh
+	$(RUN) $(TRIALS) suite target/xmlconf
+
+trials: library
+	@mkdir -p $(MADE)/x86
+	$(X86_RUSTC) --edition 2021 -O --crate-type rlib --crate-name second -o $(MADE)/x86/libsecond.rlib $(RUST)/second/lib.rs
+	$(X86_RUSTC) --edition 2021 -O --crate-type rlib --crate-name vectors --extern second=$(MADE)/x86/libsecond.rlib \
+	    -o $(MADE)/x86/libvectors.rlib $(RUST)/vectors/lib.rs
+	$(X86_RUSTC) --edition 2021 -O -L $(MADE)/x86 --extern second=$(MADE)/x86/libsecond.rlib --extern vectors=$(MADE)/x86/libvectors.rlib \
+	    --extern choughbell=$(MADE)/x86/libchoughbell.rlib -o $(TRIALS) $(RUST)/trials/main.rs
 
 # The crates' source, read as Rust, is timed on every machine. On x86-64, for which the toolchain makes code, the static library is too.
 # UNCHECKED= leaves index checks in. One unit, so that what is inlined does not go by modules.

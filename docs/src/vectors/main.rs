@@ -1,23 +1,18 @@
 // Makes the cases that the filter is held to, and their answers by the second program (docs/src/second), which shares nothing with the
-// filter. Here are the commands; the cases are in suite.rs (W3C files), named/ (by hand) and made/ (by a generator), the files that hold
-// them in pack.rs, a case asked and its digest in asked.rs and crc.rs, a case shown in show.rs. Run from the repository's top:
-//
-//     rustc --edition 2021 -O --crate-type rlib --crate-name second -o target/rust/libsecond.rlib docs/src/second/lib.rs
-//     rustc --edition 2021 -O --extern second=target/rust/libsecond.rlib -o target/rust/vectors docs/src/vectors/main.rs
+// filter. Here are the commands; the cases are in named/ (by hand) and the library's suite.rs (W3C files) and made/ (by a generator),
+// the files that hold them in its pack.rs, a case asked and its digest in asked.rs and crc.rs, a case shown in show.rs. It is run from the
+// repository's top; `make target/rust/vectors` builds it.
 
 mod asked;
 mod crc;
-mod made;
 mod named;
-mod pack;
 mod show;
-mod suite;
 
-use made::{Case, Random};
 use std::fs;
 use std::process::ExitCode;
-
-const PACKS: [&str; 3] = ["suite", "named", "made"];
+use vectors::made::{self, Case, Random};
+use vectors::pack::{self, read, PACKS};
+use vectors::suite;
 
 /// The seed of the pack `made`, and how many cases it has at least. The last batch is not broken off.
 const SEED: u64 = 19_980_210;
@@ -32,8 +27,8 @@ fn main() -> ExitCode {
     let done = match words[..] {
         ["pack", folder] => write(folder),
         ["answers", folder] => answers(folder),
-        ["verdicts"] => suite::verdicts(suite::FILES),
-        ["verdicts", "--folder", folder] => suite::verdicts(folder),
+        ["verdicts"] => suite::verdicts(suite::FILES, numbers),
+        ["verdicts", "--folder", folder] => suite::verdicts(folder, numbers),
         ["counts", folder] => counts(folder),
         ["show", folder, pack, n] => show(folder, pack, n),
         _ => Err(COMMANDS.into()),
@@ -46,6 +41,12 @@ fn main() -> ExitCode {
             ExitCode::from(2)
         }
     }
+}
+
+/// What the second program answers.
+fn numbers(case: &Case) -> (u64, u64) {
+    let (numbers, _) = asked::ask(case);
+    (numbers.number, numbers.second)
 }
 
 /// Writes the packs, if the second program says of every named case what is written by hand.
@@ -73,12 +74,6 @@ fn made_cases() -> Vec<Case> {
         cases.append(&mut made::batch(&mut random));
     }
     cases
-}
-
-fn read(folder: &str, name: &str) -> Result<Vec<Case>, String> {
-    let bytes =
-        fs::read(format!("{folder}/{name}")).map_err(|e| format!("{folder}/{name}: {e}"))?;
-    pack::read(&bytes).ok_or(format!("{folder}/{name} is no pack"))
 }
 
 fn answers(folder: &str) -> Result<bool, String> {

@@ -3,10 +3,21 @@
 // list before and then these; its document likewise. Before the first case both are empty.
 
 use crate::made::Case;
+use std::fs;
 
-pub const LIST: usize = 16_000;
-pub const DOC: usize = 60_000;
-pub const ROOM: usize = 65_535;
+/// The packs of the program `vectors`, in its order.
+pub const PACKS: [&str; 3] = ["suite", "named", "made"];
+
+const LIST: usize = 16_000;
+const DOC: usize = 60_000;
+const ROOM: usize = 65_535;
+
+/// The cases of a pack in a folder.
+pub fn read(folder: &str, name: &str) -> Result<Vec<Case>, String> {
+    let path = format!("{folder}/{name}");
+    let bytes = fs::read(&path).map_err(|e| format!("{path}: {e}"))?;
+    cases(&bytes).ok_or(format!("{path} is no pack"))
+}
 
 /// The pack's bytes.
 pub fn write(cases: &[Case]) -> Vec<u8> {
@@ -32,8 +43,8 @@ pub fn write(cases: &[Case]) -> Vec<u8> {
     pack
 }
 
-/// The cases of a pack, or nothing if the bytes are no pack.
-pub fn read(mut pack: &[u8]) -> Option<Vec<Case>> {
+/// The cases that these bytes hold, or nothing if they are no pack.
+fn cases(mut pack: &[u8]) -> Option<Vec<Case>> {
     let mut cases: Vec<Case> = Vec::new();
     while !pack.is_empty() {
         let mut numbers = [0; 5];

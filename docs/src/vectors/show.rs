@@ -2,7 +2,7 @@
 // everything but printable ASCII stands as Rust would write it in a byte string; a line feed also ends the line.
 
 use crate::asked::{ask, line};
-use crate::made::Case;
+use vectors::made::Case;
 
 pub fn show(case: &Case) {
     println!("list, {} bytes", case.list.len());

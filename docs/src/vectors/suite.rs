@@ -1,7 +1,6 @@
-// The W3C conformance files: the pack made of those in xmlconf/files, and the suite's verdicts held against the second program's. The
-// suite says accepted or refused and no more, so the verdicts hold against the answer 0 only.
+// The W3C conformance files: the pack made of those in xmlconf/files, and the suite's verdicts held against a program's. The suite says
+// accepted or refused and no more, so the verdicts hold against the answer 0 only.
 
-use crate::asked::ask;
 use crate::made::Case;
 use std::fs;
 use std::path::Path;
@@ -58,8 +57,11 @@ pub fn cases() -> Result<Vec<Case>, String> {
     Ok(cases)
 }
 
+/// The number and the second number that a program answers to a case.
+pub type Program = fn(&Case) -> (u64, u64);
+
 /// Prints how many rows agree, by class and verdict, and each row that does not; says whether all agree.
-pub fn verdicts(folder: &str) -> Result<bool, String> {
+pub fn verdicts(folder: &str, program: Program) -> Result<bool, String> {
     let rows = rows()?;
     let (mut wrong, mut missing) = (0, 0);
     for class in ["direct", "derived"] {
@@ -69,7 +71,7 @@ pub fn verdicts(folder: &str) -> Result<bool, String> {
                 .iter()
                 .filter(|r| r.class == class && r.accepted == accepted)
             {
-                match judged(folder, row) {
+                match judged(folder, row, program) {
                     None => missing += 1,
                     Some(true) => right += 1,
                     Some(false) => wrong += 1,
@@ -93,13 +95,12 @@ fn verdict(accepted: bool) -> &'static str {
     }
 }
 
-/// Whether the row's verdict is the second program's; nothing if the file is not here.
-fn judged(folder: &str, row: &Row) -> Option<bool> {
+/// Whether the row's verdict is the program's; nothing if the file is not here.
+fn judged(folder: &str, row: &Row, program: Program) -> Option<bool> {
     let doc = fs::read(Path::new(folder).join(&row.file)).ok()?;
-    let (numbers, _) = ask(&case("//*\n", &doc));
-    let right = (numbers.number == 0) == row.accepted;
+    let (number, place) = program(&case("//*\n", &doc));
+    let right = (number == 0) == row.accepted;
     if !right {
-        let (number, place) = (numbers.number, numbers.second);
         println!(
             "wrong: {} should be {}, answer {number} {place}",
             row.file,

@@ -34,7 +34,7 @@ mod tags;
 mod written;
 
 use crate::asked::{ask, fresh};
-use crate::made::Case;
+use vectors::made::Case;
 use crate::show::show;
 
 /// A case, and by hand: its three numbers, and the cut under 0.

@@ -1,0 +1,42 @@
+// The function that the static library exports, beside the second program: the same numbers, and the same bytes in the whole buffer.
+//
+//     big                  documents at the most bytes that one may have and about it, and a gazetteer of 8 MiB by several lists
+//     fuzz CASES [SEED]    so many cases of the generator that makes the pack `made`, from other seeds
+//     suite FOLDER         the W3C's files in a folder: both programs have to give the suite's verdict as well
+//
+// The first two try demand 3 as well. The first difference ends the run, and is shown.
+mod big;
+mod fuzz;
+#[path = "../speed/gazetteer.rs"]
+mod gazetteer;
+#[path = "../speed/lists.rs"]
+mod lists;
+mod narrow;
+// The gazetteer and its lists draw in some of its ways only.
+#[allow(dead_code)]
+#[path = "../speed/numbers.rs"]
+mod numbers;
+mod same;
+
+use vectors::made::Case;
+use vectors::suite::verdicts;
+
+fn main() {
+    let args: Vec<String> = std::env::args().skip(1).collect();
+    let number = |i: usize, default: u64| args.get(i).map_or(default, |a| a.parse().expect("a number"));
+    match args.first().map(String::as_str) {
+        Some("big") => big::run(),
+        Some("fuzz") => fuzz::run(number(1, 100_000) as usize, number(2, 1)),
+        Some("suite") if args.len() == 2 => assert_eq!(verdicts(&args[1], answered), Ok(true)),
+        _ => {
+            eprintln!("usage: trials big | trials fuzz CASES [SEED] | trials suite FOLDER");
+            std::process::exit(64);
+        }
+    }
+}
+
+/// What both programs answer.
+fn answered(case: &Case) -> (u64, u64) {
+    let (numbers, _) = same::both(&case.list, &case.doc, case.room);
+    (numbers.number, numbers.second)
+}

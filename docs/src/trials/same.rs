@@ -1,0 +1,40 @@
+// One call of both programs, on buffers that hold the same bytes before it. What they say and what they leave has to be the same.
+use choughbell::Numbers;
+
+/// Byte i is i modulo 251, so that a byte that is moved or left out shows.
+fn prepared(room: usize) -> Vec<u8> {
+    (0..room).map(|i| (i % 251) as u8).collect()
+}
+
+/// What both programs answer, and what both leave in a buffer of so many bytes; or how they differ.
+pub fn tried(list: &[u8], doc: &[u8], room: usize) -> Result<(Numbers, Vec<u8>), String> {
+    let (mut ours, mut theirs) = (prepared(room), prepared(room));
+    let found = choughbell::cut(list, doc, &mut ours);
+    let expected = second::cut(list, doc, &mut theirs);
+    if (found.number, found.second, found.third) != (expected.number, expected.second, expected.third) {
+        return Err(format!("the library says {found:?}, the second program {expected:?}"));
+    }
+    match ours.iter().zip(&theirs).position(|(a, b)| a != b) {
+        Some(at) => Err(format!("under {found:?} the buffers differ at {at}")),
+        None => Ok((found, ours)),
+    }
+}
+
+/// The same, where a difference ends the run and shows the case, if it is small.
+pub fn both(list: &[u8], doc: &[u8], room: usize) -> (Numbers, Vec<u8>) {
+    tried(list, doc, room).unwrap_or_else(|difference| {
+        let doc = if doc.len() < 4096 { String::from_utf8_lossy(doc).into_owned() } else { format!("{} bytes", doc.len()) };
+        panic!("{difference}\nlist:\n{}\ndocument:\n{doc}\nroom: {room}", String::from_utf8_lossy(list));
+    })
+}
+
+/// The cut and the number of elements selected, where there is one; the room is first too small, then just enough.
+pub fn cut(list: &[u8], doc: &[u8]) -> Option<(Vec<u8>, u64)> {
+    let (short, _) = both(list, doc, 0);
+    if short.number != 9 {
+        return None;
+    }
+    let (written, bytes) = both(list, doc, short.second as usize);
+    assert_eq!((written.number, written.second), (0, short.second));
+    Some((bytes, written.third))
+}
