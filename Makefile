@@ -6,12 +6,15 @@
 # make suite  all 399 files of the W3C's suite that have no document type, which it fetches, by the library and the second program
 # make peers  whether documents are well-formed, beside two XML processors from Debian
 # make cases  writes the packed cases and their answers anew, by the second program
+# make choughbell   the command, target/host/choughbell
+# make install      the command, its man page, the header and the library, below PREFIX (/usr/local); make uninstall removes them
 # make speed  how fast the library is beside ordinary Rust and other parsers; WHAT=characters, matcher or cut names one part of it
 
 RUST = docs/src
 MADE = target/rust
 
 .PHONY: run test runs big fuzz suite peers cases speed parsers toolchain rt rust x86 library trials format lines expected cut
+.PHONY: cargo proving choughbell install uninstall
 
 run: rt cut
 	@for list in atlas desk; do \
@@ -75,6 +78,60 @@ library: rt x86
 	@mkdir -p target/log $(MADE)/x86 && rt staticlib exported > target/log/library 2>&1 || { cat target/log/library; exit 1; }
 	$(X86_RUSTC) --edition 2021 -O --crate-type rlib --crate-name choughbell -L target/staticlib \
 	    -o $(MADE)/x86/libchoughbell.rlib host/src/lib.rs
+
+# The command over the library, by cargo. For another machine Debian's cargo and rustc are taken, since they have the standard library.
+HOST_CARGO_WORDS = --release --offline --locked --manifest-path host/Cargo.toml --target-dir target/cargo
+ifeq ($(shell uname -m),x86_64)
+HOST_CARGO = cargo
+HOST_ENV =
+HOST_MADE = target/cargo/release
+else
+HOST_CARGO = /usr/bin/cargo
+HOST_ENV = RUSTC=/usr/bin/rustc RUSTDOC=/usr/bin/rustdoc RUSTFLAGS='-C target-feature=+crt-static -C relocation-model=static' \
+    CARGO_TARGET_X86_64_UNKNOWN_LINUX_GNU_LINKER=x86_64-linux-gnu-gcc CARGO_TARGET_X86_64_UNKNOWN_LINUX_GNU_RUNNER=$(RUN)
+HOST_CARGO_WORDS += --target x86_64-unknown-linux-gnu
+HOST_MADE = target/cargo/x86_64-unknown-linux-gnu/release
+endif
+
+cargo:
+	@mkdir -p $(MADE)
+	@command -v $(HOST_CARGO) > /dev/null || $(call install,cargo) || { \
+	    echo 'missing: cargo, which builds the command. Install the Debian package cargo.'; exit 1; }
+
+# Said first, since the proof says nothing while it lasts.
+proving:
+	@echo 'proving the library and building the command: minutes the first time, then seconds'
+
+choughbell: proving library cargo
+	$(HOST_ENV) $(HOST_CARGO) build -q $(HOST_CARGO_WORDS)
+	@mkdir -p target/host && cp $(HOST_MADE)/choughbell target/host/choughbell
+
+# Where the machine is not x86-64, bin/choughbell starts the program by the emulator. It finds the program from its own place, so what is
+# installed can be moved as a whole.
+PREFIX = /usr/local
+PUT = $(DESTDIR)$(PREFIX)
+STARTED = "$$(dirname "$$(readlink -f "$$0")")/../libexec/choughbell/choughbell" "$$@"
+
+# What is built and no older than its source is taken as it is: who installs as root may have no toolchain.
+install:
+	@[ -x target/host/choughbell ] && [ -z "$$(find host/src crates -name '*.r[st]' -newer target/host/choughbell)" ] || \
+	    $(MAKE) --no-print-directory choughbell
+	install -d '$(PUT)/bin' '$(PUT)/share/man/man1' '$(PUT)/include' '$(PUT)/lib'
+ifeq ($(RUN),)
+	install target/host/choughbell '$(PUT)/bin/choughbell'
+else
+	install -D target/host/choughbell '$(PUT)/libexec/choughbell/choughbell'
+	printf '%s\n' '#!/bin/sh' 'exec $(RUN) $(STARTED)' > '$(PUT)/bin/choughbell'
+	chmod 755 '$(PUT)/bin/choughbell'
+endif
+	install -m 644 host/man/choughbell.1 '$(PUT)/share/man/man1/choughbell.1'
+	install -m 644 host/include/choughbell.h '$(PUT)/include/choughbell.h'
+	install -m 644 target/staticlib/libexported.a '$(PUT)/lib/libchoughbell.a'
+
+uninstall:
+	rm -f '$(PUT)/bin/choughbell' '$(PUT)/libexec/choughbell/choughbell' '$(PUT)/share/man/man1/choughbell.1' \
+	    '$(PUT)/include/choughbell.h' '$(PUT)/lib/libchoughbell.a'
+	@! [ -d '$(PUT)/libexec/choughbell' ] || rmdir '$(PUT)/libexec/choughbell'
 
 format:
 	rt fmt --check

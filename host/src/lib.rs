@@ -1,8 +1,27 @@
-//! The proved filter, for callers in Rust: one function on byte slices.
+//! The proved filter, for callers in Rust: functions on byte slices. `cut` writes into a lent buffer, as the library does; `cut_of` brings
+//! a buffer of its own; `check` judges a document alone.
 //!
 //! The static library comes from Rattle. Its contract asks nothing of the lists and documents that it is given, and says of every byte of
 //! the buffer what it is afterwards. What a caller of the library's own function owes is that the buffer overlaps neither the list nor the
 //! document; here the types see to that, since `out` is borrowed for writing and the others for reading.
+//!
+//! ```
+//! let cut = choughbell::cut_of(b"//v\n", b"<g><p><v/></p></g>").unwrap();
+//! assert_eq!((cut.bytes.as_slice(), cut.selected), (&b"<g><p><v></v></p></g>"[..], 1));
+//!
+//! let refusal = choughbell::check(b"<g><v></g>").unwrap_err();
+//! assert_eq!((refusal.number(), refusal.offset()), (7, Some(6)));
+//! assert_eq!(refusal.to_string(), "7: not well-formed, at offset 6");
+//! ```
+
+mod answer;
+
+pub use answer::{Refusal, Written};
+
+/// A longer list is answer 1.
+pub const LIST_LIMIT: usize = 8_192;
+/// A longer document is answer 4.
+pub const DOCUMENT_LIMIT: usize = 16_777_216;
 
 /// The numbers handed back: which answer it is, and what goes with it.
 #[repr(C)]
@@ -23,6 +42,84 @@ extern "C" {
 }
 
 /// Writes the cut of a document by a list to the front of `out`, or refuses and leaves all of `out` as it was.
+///
+/// ```
+/// let mut out = [0; 20];
+/// let numbers = choughbell::cut(b"//v\n", b"<g><p><v/></p></g>", &mut out);
+/// assert_eq!((numbers.number, numbers.second, numbers.third), (9, 21, 0));
+/// assert_eq!(out, [0; 20]);
+/// ```
 pub fn cut(list: &[u8], doc: &[u8], out: &mut [u8]) -> Numbers {
     unsafe { choughbell_cut(list.as_ptr(), list.len(), doc.as_ptr(), doc.len(), out.as_mut_ptr(), out.len()) }
+}
+
+/// A cut with its bytes.
+#[derive(Clone, PartialEq, Eq, Debug)]
+pub struct Cut {
+    /// What is written.
+    pub bytes: Vec<u8>,
+    /// How many elements the list selects, those inside a kept entry too.
+    pub selected: u64,
+}
+
+/// The cut of a document by a list, in a buffer that suffices: `Refusal::Short` is never the answer.
+pub fn cut_of(list: &[u8], doc: &[u8]) -> Result<Cut, Refusal> {
+    // A tag of n bytes is written in less than 2n, so the first room is enough; should it not be, the library names the one that is.
+    let mut room = 2 * doc.len() + 64;
+    loop {
+        let mut bytes = vec![0; room];
+        match cut(list, doc, &mut bytes).answer() {
+            Err(Refusal::Short { needed }) if needed as usize > room => room = needed as usize,
+            Err(refusal) => return Err(refusal),
+            Ok(Written { length, selected }) => {
+                bytes.truncate(length as usize);
+                return Ok(Cut { bytes, selected });
+            }
+        }
+    }
+}
+
+/// Whether a document is sound, within the sizes: the answer of `cut` by an empty list, whatever the room. It is never 1 to 3 or 9.
+pub fn check(doc: &[u8]) -> Result<(), Refusal> {
+    // A cut is never empty, so without room a sound document is answered by 9.
+    match cut(&[], doc, &mut []).answer() {
+        Ok(_) | Err(Refusal::Short { .. }) => Ok(()),
+        Err(refusal) => Err(refusal),
+    }
+}
+
+#[cfg(test)]
+mod tests {
+    use super::*;
+
+    #[test]
+    fn short_buffer_is_refused_and_left_alone() {
+        let mut out = *b"twenty bytes of room";
+        let numbers = cut(b"//v\n", b"<g><p><v/></p></g>", &mut out);
+        assert_eq!(numbers, Numbers { number: 9, second: 21, third: 0 });
+        assert_eq!(numbers.answer(), Err(Refusal::Short { needed: 21 }));
+        assert_eq!(&out, b"twenty bytes of room");
+    }
+
+    #[test]
+    fn room_of_the_cut_is_enough_and_what_follows_stays() {
+        let mut out = *b"_____________________++";
+        let numbers = cut(b"//v\n", b"<g><p><v/></p></g>", &mut out);
+        assert_eq!(numbers.answer(), Ok(Written { length: 21, selected: 1 }));
+        assert_eq!(&out, b"<g><p><v></v></p></g>++");
+    }
+
+    #[test]
+    fn cut_of_brings_its_room() {
+        assert_eq!(cut_of(b"", b"<g/>"), Ok(Cut { bytes: b"<g></g>".to_vec(), selected: 0 }));
+        assert_eq!(cut_of(b"v\n", b"<g/>"), Err(Refusal::ListMalformed { line: 1 }));
+    }
+
+    #[test]
+    fn check_looks_at_the_document_alone() {
+        assert_eq!(check(b"<g/>"), Ok(()));
+        assert_eq!(check(b"<g><v></g>"), Err(Refusal::NotWellFormed { offset: 6 }));
+        assert_eq!(check(b""), Err(Refusal::NotWellFormed { offset: 0 }));
+        assert_eq!(check(&vec![b' '; DOCUMENT_LIMIT + 1]), Err(Refusal::DocumentTooLong));
+    }
 }

@@ -1,0 +1,54 @@
+/* cut LIST DOCUMENT [ROOM]: cuts a file by a list of paths and prints the cut; or says which number it was refused by, and its place. ROOM
+ * is the size of the output buffer, to see answer 9; without it the buffer is twice as long as the document, which always suffices.
+ * The exit status is the number; 64 where the words are wrong, 66 where a file can't be read. */
+#include "choughbell.h"
+
+#include <stdio.h>
+#include <stdlib.h>
+
+/* The bytes of a file, at most one more than `limit`: that is enough for the library to refuse it. */
+static uint8_t *file(const char *name, size_t limit, size_t *length)
+{
+    uint8_t *bytes = malloc(limit + 1);
+    FILE *f = fopen(name, "rb");
+    if (bytes == NULL || f == NULL) {
+        perror(name);
+        exit(66);
+    }
+    *length = fread(bytes, 1, limit + 1, f);
+    if (ferror(f)) {
+        perror(name);
+        exit(66);
+    }
+    fclose(f);
+    return bytes;
+}
+
+int main(int argc, char **argv)
+{
+    if (argc < 3 || argc > 4) {
+        fprintf(stderr, "usage: cut LIST DOCUMENT [ROOM]\n");
+        return 64;
+    }
+    size_t list_len, doc_len;
+    uint8_t *list = file(argv[1], 8192, &list_len);
+    uint8_t *doc = file(argv[2], 16777216, &doc_len);
+    size_t room = argc == 4 ? strtoul(argv[3], NULL, 10) : 2 * doc_len;
+    uint8_t *out = malloc(room + 1);
+    if (out == NULL) {
+        perror("cut");
+        return 71;
+    }
+
+    struct choughbell_numbers n = choughbell_cut(list, list_len, doc, doc_len, out, room);
+    if (n.number == 0) {
+        fwrite(out, 1, n.second, stdout);
+        fprintf(stderr, "%llu selected\n", (unsigned long long)n.third);
+    } else {
+        fprintf(stderr, "refused %llu %llu\n", (unsigned long long)n.number, (unsigned long long)n.second);
+    }
+    free(out);
+    free(doc);
+    free(list);
+    return fflush(stdout) == 0 ? (int)n.number : 74;
+}

@@ -1,0 +1,54 @@
+/* The proved filter, for callers in C: two functions of the static library. Link with -lchoughbell, or with libexported.a as `make library`
+ * leaves it. They allocate nothing, keep nothing between calls and call nothing but memset, so threads may call them at once. A call takes
+ * less than 64 KiB of stack.
+ *
+ * A byte slice is passed as a pointer and a length. What the caller owes, and nothing else is asked:
+ *   - each pointer leads to as many bytes as its length says, and is not null, also where the length is 0;
+ *   - `out` overlaps neither `list` nor `doc`, which may be the same bytes;
+ *   - no other thread writes to these bytes during the call.
+ * The bytes of the list and the document may be any.
+ */
+#ifndef CHOUGHBELL_H
+#define CHOUGHBELL_H
+
+#include <stddef.h>
+#include <stdint.h>
+
+#ifdef __cplusplus
+extern "C" {
+#endif
+
+/* The numbers handed back.
+ *
+ *   number                                  second
+ *   0  written                              length written; third: how many elements are selected, those inside a kept entry too
+ *   1  list over 8,192 bytes                0
+ *   2  malformed line                       line, from 1
+ *   3  line too large, or line 33           line
+ *   4  document over 16,777,216 bytes       0
+ *   5  not UTF-8, or not a Char             offset where the first bad sequence begins
+ *   6  document type                        offset of the item
+ *   7  not well-formed                      offset of the item, or the document's length: an element is open, or there is no root
+ *   8  over a size                          offset of the item
+ *   9  output shorter than the cut          length needed
+ *
+ * The third number is 0 except under 0. */
+struct choughbell_numbers {
+    uint64_t number;
+    uint64_t second;
+    uint64_t third;
+};
+
+/* Writes the cut of a document by a list to the front of `out`. Under 0 the bytes after the cut stay as they were, under any other number
+ * the whole of `out` does. A cut has less than twice the bytes of its document. */
+struct choughbell_numbers choughbell_cut(const uint8_t *list, size_t list_len, const uint8_t *doc, size_t doc_len, uint8_t *out,
+                                         size_t out_len);
+
+/* How many bytes at the front are characters that XML allows, in UTF-8: `s_len`, or the offset of the first bad sequence. */
+size_t choughbell_check(const uint8_t *s, size_t s_len);
+
+#ifdef __cplusplus
+}
+#endif
+
+#endif

@@ -1,0 +1,149 @@
+//! The answers of the library as Rust has them: what was written, or why nothing was. Each refusal has its number, its meaning in words and
+//! its place. The words are those of document 01's table.
+use crate::Numbers;
+use std::error::Error;
+use std::fmt;
+
+/// Answer 0.
+#[derive(Clone, Copy, PartialEq, Eq, Debug)]
+pub struct Written {
+    /// How many bytes at the front of the buffer are the cut.
+    pub length: u64,
+    /// How many elements the list selects, those inside a kept entry too.
+    pub selected: u64,
+}
+
+/// Answers 1 to 9. A line counts from 1, an offset from 0.
+#[derive(Clone, Copy, PartialEq, Eq, Debug)]
+pub enum Refusal {
+    /// 1: the list has over 8,192 bytes.
+    ListTooLong,
+    /// 2: a line of the list is malformed.
+    ListMalformed { line: u64 },
+    /// 3: a line of the list is too large, or it is line 33.
+    ListTooLarge { line: u64 },
+    /// 4: the document has over 16,777,216 bytes.
+    DocumentTooLong,
+    /// 5: something in the document is not UTF-8, or no character of XML.
+    NotCharacter { offset: u64 },
+    /// 6: the document has a type.
+    DocumentType { offset: u64 },
+    /// 7: an item is not well-formed, or not in its place. At the document's length: an element is open, or there is no root.
+    NotWellFormed { offset: u64 },
+    /// 8: an element is too deep, a name too long, or a tag has too many attributes.
+    OverSize { offset: u64 },
+    /// 9: the buffer is shorter than the cut.
+    Short { needed: u64 },
+}
+
+impl Numbers {
+    /// The answer that the numbers stand for. Panics on a number over 9, which the library never gives.
+    pub fn answer(self) -> Result<Written, Refusal> {
+        let second = self.second;
+        Err(match self.number {
+            0 => return Ok(Written { length: second, selected: self.third }),
+            1 => Refusal::ListTooLong,
+            2 => Refusal::ListMalformed { line: second },
+            3 => Refusal::ListTooLarge { line: second },
+            4 => Refusal::DocumentTooLong,
+            5 => Refusal::NotCharacter { offset: second },
+            6 => Refusal::DocumentType { offset: second },
+            7 => Refusal::NotWellFormed { offset: second },
+            8 => Refusal::OverSize { offset: second },
+            9 => Refusal::Short { needed: second },
+            number => panic!("{number} is no answer of the library"),
+        })
+    }
+}
+
+impl Refusal {
+    /// The number, 1 to 9.
+    pub fn number(self) -> u64 {
+        match self {
+            Refusal::ListTooLong => 1,
+            Refusal::ListMalformed { .. } => 2,
+            Refusal::ListTooLarge { .. } => 3,
+            Refusal::DocumentTooLong => 4,
+            Refusal::NotCharacter { .. } => 5,
+            Refusal::DocumentType { .. } => 6,
+            Refusal::NotWellFormed { .. } => 7,
+            Refusal::OverSize { .. } => 8,
+            Refusal::Short { .. } => 9,
+        }
+    }
+
+    /// What the number means.
+    pub fn meaning(self) -> &'static str {
+        match self {
+            Refusal::ListTooLong => "list over 8,192 bytes",
+            Refusal::ListMalformed { .. } => "malformed line",
+            Refusal::ListTooLarge { .. } => "line too large",
+            Refusal::DocumentTooLong => "document over 16,777,216 bytes",
+            Refusal::NotCharacter { .. } => "not a character",
+            Refusal::DocumentType { .. } => "document type",
+            Refusal::NotWellFormed { .. } => "not well-formed",
+            Refusal::OverSize { .. } => "over a size",
+            Refusal::Short { .. } => "output shorter than the cut",
+        }
+    }
+
+    /// The line of the list at fault, under 2 and 3.
+    pub fn line(self) -> Option<u64> {
+        match self {
+            Refusal::ListMalformed { line } | Refusal::ListTooLarge { line } => Some(line),
+            _ => None,
+        }
+    }
+
+    /// The offset in the document at fault, under 5 to 8.
+    pub fn offset(self) -> Option<u64> {
+        match self {
+            Refusal::NotCharacter { offset } | Refusal::DocumentType { offset } => Some(offset),
+            Refusal::NotWellFormed { offset } | Refusal::OverSize { offset } => Some(offset),
+            _ => None,
+        }
+    }
+
+    /// The second number: the line, the offset or the length needed, or 0.
+    pub fn second(self) -> u64 {
+        match self {
+            Refusal::Short { needed } => needed,
+            _ => self.line().or_else(|| self.offset()).unwrap_or(0),
+        }
+    }
+}
+
+impl fmt::Display for Refusal {
+    fn fmt(&self, f: &mut fmt::Formatter) -> fmt::Result {
+        write!(f, "{}: {}", self.number(), self.meaning())?;
+        match *self {
+            Refusal::Short { needed } => write!(f, ", which has {needed} bytes"),
+            Refusal::ListMalformed { line } | Refusal::ListTooLarge { line } => write!(f, ", line {line} of the list"),
+            _ => self.offset().map_or(Ok(()), |offset| write!(f, ", at offset {offset}")),
+        }
+    }
+}
+
+impl Error for Refusal {}
+
+#[cfg(test)]
+mod tests {
+    use super::*;
+
+    #[test]
+    fn numbers_come_back_as_they_were() {
+        for number in 1..=9 {
+            let second = if number == 1 || number == 4 { 0 } else { 12 };
+            let refusal = Numbers { number, second, third: 0 }.answer().unwrap_err();
+            assert_eq!((refusal.number(), refusal.second()), (number, second));
+        }
+    }
+
+    #[test]
+    fn refusals_in_words() {
+        assert_eq!(Refusal::ListTooLong.to_string(), "1: list over 8,192 bytes");
+        assert_eq!(Refusal::ListMalformed { line: 3 }.to_string(), "2: malformed line, line 3 of the list");
+        assert_eq!(Refusal::OverSize { offset: 17 }.to_string(), "8: over a size, at offset 17");
+        assert_eq!(Refusal::Short { needed: 21 }.to_string(), "9: output shorter than the cut, which has 21 bytes");
+    }
+}

@@ -1,0 +1,120 @@
+//! What each number means and what to do about it: the answers 0 to 9, and the exit statuses from 64 on.
+
+/// The text on a number, as it is written on the command line.
+pub fn text(number: &[u8]) -> Option<&'static str> {
+    TEXTS.iter().find(|(name, _)| name.as_bytes() == number).map(|&(_, text)| text)
+}
+
+const TEXTS: [(&str, &str); 14] = [
+    ("0", ZERO),
+    ("1", ONE),
+    ("2", TWO),
+    ("3", THREE),
+    ("4", FOUR),
+    ("5", FIVE),
+    ("6", SIX),
+    ("7", SEVEN),
+    ("8", EIGHT),
+    ("9", NINE),
+    ("64", USAGE),
+    ("66", NO_INPUT),
+    ("73", CANT_CREATE),
+    ("74", IO),
+];
+
+const ZERO: &str = "\
+0: written. The second number is the length of the cut, the third how many elements
+the list selects, those inside a kept entry too. Under `check` it says that the
+document is sound; there is no cut, and the other numbers are 0.
+";
+
+const ONE: &str = "\
+1: the list has over 8,192 bytes. Nothing of it was judged.
+A list has at most 32 lines, so such a list is mostly something else: see that LIST is
+not the document. Else shorten it: // and * stand for many paths.
+";
+
+const TWO: &str = "\
+2: a line of the list is malformed; the second number is the line, from 1.
+A line is one or more steps, then perhaps one space and #. A step is / (child) or
+// (descendant) and then * or a name. There are no other blanks, no empty lines and no
+comments, and every line ends in a line feed, the last too, with no carriage return.
+";
+
+const THREE: &str = "\
+3: a line of the list is too large, or it is line 33; the second number is the line.
+A list has at most 32 lines, a line 16 steps, a name 255 bytes. Repeated lines count.
+Cut once by each half of the list, or name less: // passes over any number of levels.
+";
+
+const FOUR: &str = "\
+4: the document has over 16,777,216 bytes. Nothing of it was judged.
+Split it into parts that are documents of their own, and cut each by the same list.
+";
+
+const FIVE: &str = "\
+5: the document is not in UTF-8, or has a character that XML does not allow; the
+second number is the offset where the first bad sequence begins.
+Save it as UTF-8, or convert it: iconv -f ISO-8859-1 -t UTF-8. XML has no control
+characters but tab, line feed and carriage return, and no U+FFFE and U+FFFF.
+";
+
+const SIX: &str = "\
+6: the document has a type, <!DOCTYPE; the second number is its offset.
+Documents with a type are not taken, since a type can declare entities and defaults.
+Take the type out, and write out what it declares: xmllint --noent --dropdtd does both.
+";
+
+const SEVEN: &str = "\
+7: the document is not well-formed XML 1.0; the second number is the offset of the
+first item at fault. At the length of the document: an element is still open, or there
+is no root. Mend the document there: end tags that match, values in quotes, no attribute
+twice, & and < written &amp; and &lt;, outside the root only comments and instructions.
+";
+
+const EIGHT: &str = "\
+8: the document is over a size; the second number is the offset of the tag.
+Elements stand at most 64 deep, the root being 1; names of elements and attributes have
+at most 255 bytes, counted in UTF-8; a tag has at most 32 attributes.
+";
+
+const NINE: &str = "\
+9: the output is shorter than the cut; the second number is the length needed.
+This answer is for programs that call the library with a buffer of their own: call again
+with one that long. The command always has room enough.
+";
+
+const USAGE: &str = "\
+64: wrong usage. The words of the command line don't go together; nothing was read.
+choughbell --help has them all.
+";
+
+const NO_INPUT: &str = "\
+66: the list or the document can't be opened, or is a directory.
+See that the name is right and that you may read the file.
+";
+
+const CANT_CREATE: &str = "\
+73: the output can't be created. What was there is as it was.
+OUTPUT must not be a directory, you must be allowed to write it where it exists, and a
+file must fit beside it, since the cut is written there first.
+";
+
+const IO: &str = "\
+74: reading or writing failed: a full disk, a broken pipe. An output that is a regular
+file is as it was.
+";
+
+#[cfg(test)]
+mod tests {
+    use super::*;
+
+    #[test]
+    fn each_text_begins_with_its_number_and_is_short() {
+        for (number, text) in TEXTS {
+            assert!(text.starts_with(&format!("{number}: ")), "{number}");
+            assert!((2..=6).contains(&text.lines().count()), "{number}");
+            assert!(text.lines().all(|line| line.len() <= 90), "{number}");
+        }
+    }
+}

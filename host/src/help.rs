@@ -1,0 +1,31 @@
+//! The texts of `--help` and `--version`. The man page, man/choughbell.1, says more.
+
+pub const VERSION: &str = concat!("choughbell ", env!("CARGO_PKG_VERSION"), "\n");
+
+pub const HELP: &str = "\
+choughbell cuts XML by a list of paths, by a filter that is proved.
+
+  choughbell cut -l LIST [DOCUMENT] [-o OUTPUT]   the cut of a document by a list
+  choughbell check [DOCUMENT]                     whether a document would be taken
+  choughbell explain NUMBER                       what an answer or an exit status means
+
+A file that is not named, or named -, is the standard input or output.
+
+  -l, --list LIST      the paths, one to a line: / or // and then * or a name, again and
+                       again; one space and # at the end keep the whole entry
+  -o, --output OUTPUT  is replaced when the cut is there, and else stays as it was
+      --count          print only: kept, the elements selected, the length of the cut
+  -q, --quiet          no message, only the exit status
+      --json           print the numbers as one line of JSON, on the standard output, or on
+                       the standard error where the cut goes to the other
+  -h, --help           this text
+      --version        the version
+      --               what follows is no option
+
+Exit status: 0 written, or sound; 1 to 3 the list is refused, 4 to 8 the document;
+64 wrong usage; 66 no input; 73 no output; 74 reading or writing failed.
+
+For example, with `//commune/hamlet #` as a line of atlas.lst:
+
+  choughbell cut -l atlas.lst master.xml -o atlas.xml
+";

@@ -1,0 +1,61 @@
+//! Documents with a fault, each judged by the library, and the hint that is given.
+use super::*;
+
+/// The number and the hint for a document.
+fn said(document: &[u8]) -> (u64, String) {
+    let refusal = choughbell::check(document).unwrap_err();
+    (refusal.number(), hint(refusal, document, refusal.offset().unwrap() as usize))
+}
+
+fn says(document: &[u8], number: u64, text: &str) {
+    assert_eq!(said(document), (number, text.to_string()), "{}", shown::all(document));
+}
+
+#[test]
+fn characters() {
+    says(b"<g>\xFF</g>", 5, "FF is not UTF-8");
+    says(b"<g>\xE9t\xE9</g>", 5, "E9 is not UTF-8");
+    says(b"<g>\xE2\x82", 5, "the end cuts E2 82 off");
+    says(b"<g>\xFF", 5, "FF is not UTF-8");
+    says("<g>\u{FFFE}</g>".as_bytes(), 5, "U+FFFE is no character of XML");
+    says(b"<g>\x01</g>", 5, "U+0001 is no character of XML");
+    says(b"\xFF\xFE<\0g\0/\0>\0", 5, "this seems to be UTF-16; a document is in UTF-8");
+}
+
+#[test]
+fn ends_and_roots() {
+    says(b"", 7, "there is no root");
+    says(b"<!-- <g> -->", 7, "there is no root");
+    says(b"<g>\n<v>\n", 7, "<v> of line 2 is open");
+    says(b"<g>\n<v>\n</g>", 7, "<v> of line 2 is open");
+    says(b"<g></ g>", 7, "an end tag is </, the name and >");
+    says(b"<g></g", 7, "an end tag is </, the name and >");
+    says(b"<g/></g>", 7, "no element is open");
+    says(b"<g/><g/>", 7, "the root is closed, and there is only one");
+    says(b"<g/>text", 7, OUTSIDE);
+    says(b"<g/>&lt;", 7, OUTSIDE);
+    says(b"<g/><![CDATA[]]>", 7, OUTSIDE);
+}
+
+#[test]
+fn items() {
+    says(b"<!DOCTYPE g><g/>", 6, "documents with a type are not taken");
+    says(b"<g><!-- a -- b --></g>", 7, "a comment ends in --> and has no -- inside");
+    says(b"<g><![CDATA[</g>", 7, "a section ends in ]]>");
+    says(b"<!ELEMENT g ANY><g/>", 7, "<! begins a comment, <!--, or a section, <![CDATA[");
+    says(b"<g a=1/>", 7, TAG);
+    says(b"<g>1 < 2</g>", 7, "a < that begins no tag is written &lt;");
+    says(b"<g><", 7, "a < that begins no tag is written &lt;");
+    says(b"<g>]]></g>", 7, "text has no ]]>");
+    says(b"<g>&nbsp;</g>", 7, "a reference is &lt; &gt; &amp; &apos; &quot; or a character's number, as &#233;");
+    says(b"\n<?xml version='1.0'?><g/>", 7, "the declaration stands at the very front");
+    says(b"<g><?XML a?></g>", 7, "an instruction is <?, a name other than xml, a blank and its text, and ?>");
+    let declaration = "a declaration is <?xml version=\"1.0\"?>, after the version perhaps encoding=\"...\" and standalone=\"yes\"";
+    says(b"\xEF\xBB\xBF<?xml encoding='UTF-8'?><g/>", 7, declaration);
+}
+
+#[test]
+fn sizes() {
+    says("<g>".repeat(65).as_bytes(), 8, &format!("65 deep: {SIZES}"));
+    says(format!("<{}/>", "g".repeat(256)).as_bytes(), 8, SIZES);
+}

@@ -1,0 +1,48 @@
+//! Where a list or a document comes from, and its bytes. At most one byte more than the limit is read: that is enough for the library to
+//! refuse it, and no input is read without bound.
+use crate::shown;
+use crate::trouble::{self, Trouble};
+use std::ffi::OsStr;
+use std::fs::File;
+use std::io::{self, Read};
+use std::os::unix::ffi::OsStrExt;
+use std::path::PathBuf;
+
+#[derive(PartialEq, Eq, Debug)]
+pub enum Source {
+    Standard,
+    File(PathBuf),
+}
+
+impl Source {
+    /// The source that a word of the command line names. `/dev/stdin` is the standard input too, so that it is not taken twice.
+    pub fn named(word: &OsStr) -> Source {
+        if word == "-" || word == "/dev/stdin" {
+            return Source::Standard;
+        }
+        Source::File(PathBuf::from(word))
+    }
+
+    /// How messages call it.
+    pub fn name(&self) -> String {
+        match self {
+            Source::Standard => "standard input".to_string(),
+            Source::File(path) => shown::all(path.as_os_str().as_bytes()),
+        }
+    }
+
+    /// Its bytes, up to one more than `limit`.
+    pub fn read(&self, limit: usize) -> Result<Vec<u8>, Trouble> {
+        let mut bytes = Vec::new();
+        let most = limit as u64 + 1;
+        match self {
+            Source::Standard => io::stdin().lock().take(most).read_to_end(&mut bytes),
+            Source::File(path) => {
+                let file = File::open(path).map_err(|e| trouble::opening(&self.name(), &e))?;
+                file.take(most).read_to_end(&mut bytes)
+            }
+        }
+        .map_err(|e| trouble::reading(&self.name(), &e))?;
+        Ok(bytes)
+    }
+}

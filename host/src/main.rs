@@ -1,0 +1,61 @@
+//! The command `choughbell`: cuts XML by a list of paths, by the proved library. This file goes from the words of the command line to the
+//! exit status; `usage` reads the words, `task` does the work, `help` and `explain` have the texts.
+#![forbid(unsafe_code)]
+mod advice;
+mod caret;
+mod explain;
+mod help;
+mod hints;
+mod input;
+mod json;
+mod names;
+mod outline;
+mod output;
+mod places;
+mod report;
+mod shown;
+mod task;
+mod trouble;
+mod usage;
+
+use std::env;
+use std::io::{self, Write};
+use std::process::ExitCode;
+use trouble::Trouble;
+use usage::Request;
+
+fn main() -> ExitCode {
+    let request = match usage::read(env::args_os().skip(1)) {
+        Ok(request) => request,
+        Err(message) => {
+            say(&format!("choughbell: {message}\nchoughbell --help tells more"));
+            return ExitCode::from(trouble::USAGE);
+        }
+    };
+    let quiet = matches!(&request, Request::Task(task) if task.quiet);
+    match answer(&request) {
+        Ok(status) => ExitCode::from(status),
+        Err(Trouble { status, message }) => {
+            if let Some(message) = message.filter(|_| !quiet) {
+                say(&format!("choughbell: {message}"));
+            }
+            ExitCode::from(status)
+        }
+    }
+}
+
+/// Does what is asked, and gives the exit status.
+fn answer(request: &Request) -> Result<u8, Trouble> {
+    match request {
+        Request::Task(task) => return task::run(task),
+        Request::Explain(text) => output::print(text)?,
+        Request::Help => output::print(help::HELP)?,
+        Request::Version => output::print(help::VERSION)?,
+    }
+    Ok(0)
+}
+
+/// A message on the standard error. Where that can't be written, there is nobody to tell.
+fn say(message: &str) {
+    let _ = writeln!(io::stderr(), "{message}");
+}

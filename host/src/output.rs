@@ -1,0 +1,133 @@
+//! Where a cut goes. A file is replaced as a whole: the cut is written to a temporary file in the same folder, which then takes the file's
+//! name. So a run that fails leaves the old file as it was. What is no regular file, as a pipe, is written directly.
+use crate::shown;
+use crate::trouble::{self, Trouble};
+use std::ffi::OsStr;
+use std::fs::{self, File, Metadata, OpenOptions};
+use std::io::{self, Write};
+use std::os::unix::ffi::OsStrExt;
+use std::os::unix::fs::OpenOptionsExt;
+use std::path::{Path, PathBuf};
+use std::process;
+
+#[derive(PartialEq, Eq, Debug)]
+pub enum Sink {
+    Standard,
+    File(PathBuf),
+}
+
+impl Sink {
+    /// The sink that a word of the command line names. The system's names for the standard output are told here: opened as files they
+    /// would begin anew what the shell has already written there.
+    pub fn named(word: &OsStr) -> Sink {
+        if ["-", "/dev/stdout", "/dev/fd/1", "/proc/self/fd/1"].iter().any(|name| word == *name) {
+            return Sink::Standard;
+        }
+        Sink::File(PathBuf::from(word))
+    }
+
+    pub fn write(&self, bytes: &[u8]) -> Result<(), Trouble> {
+        match self {
+            Sink::Standard => standard(bytes),
+            Sink::File(path) => to_file(path, bytes),
+        }
+    }
+}
+
+/// Text for the standard output.
+pub fn print(text: &str) -> Result<(), Trouble> {
+    standard(text.as_bytes())
+}
+
+fn standard(bytes: &[u8]) -> Result<(), Trouble> {
+    let mut out = io::stdout().lock();
+    out.write_all(bytes).and_then(|()| out.flush()).map_err(|e| trouble::writing("standard output", &e))
+}
+
+fn to_file(path: &Path, bytes: &[u8]) -> Result<(), Trouble> {
+    let name = shown::all(path.as_os_str().as_bytes());
+    match fs::metadata(path) {
+        Ok(old) if old.is_dir() => Err(trouble::creating(&name, "Is a directory")),
+        Ok(old) if old.is_file() => {
+            // Only a file that may be written is replaced, though a rename would ask for the folder alone.
+            OpenOptions::new().write(true).open(path).map_err(|e| trouble::creating(&name, &trouble::words(&e)))?;
+            replace(&name, &behind(path), Some(&old), bytes)
+        }
+        Ok(_) => {
+            let mut file = OpenOptions::new().write(true).open(path).map_err(|e| trouble::creating(&name, &trouble::words(&e)))?;
+            file.write_all(bytes).map_err(|e| trouble::writing(&name, &e))
+        }
+        Err(e) if e.kind() == io::ErrorKind::NotFound => replace(&name, &behind(path), None, bytes),
+        Err(e) => Err(trouble::creating(&name, &trouble::words(&e))),
+    }
+}
+
+/// What a path leads to through symbolic links, whether it is there or not. The system has refused a ring of links before.
+fn behind(path: &Path) -> PathBuf {
+    let mut path = path.to_path_buf();
+    for _ in 0..64 {
+        match fs::read_link(&path) {
+            Ok(to) => path = folder(&path).join(to),
+            Err(_) => break,
+        }
+    }
+    path
+}
+
+/// The folder that a path stands in.
+fn folder(path: &Path) -> &Path {
+    match path.parent() {
+        Some(parent) if !parent.as_os_str().is_empty() => parent,
+        _ => Path::new("."),
+    }
+}
+
+/// Gives a file new bytes, with the permissions of the old file where there is one.
+fn replace(name: &str, path: &Path, old: Option<&Metadata>, bytes: &[u8]) -> Result<(), Trouble> {
+    // Until it has the old file's permissions, nobody else may read it.
+    let mode = if old.is_some() { 0o600 } else { 0o666 };
+    let (mut file, scratch) = Scratch::beside(path, mode)
+        .map_err(|e| trouble::creating(name, &format!("no temporary file beside it: {}", trouble::words(&e))))?;
+    file.write_all(bytes).map_err(|e| trouble::writing(name, &e))?;
+    if let Some(old) = old {
+        file.set_permissions(old.permissions()).map_err(|e| trouble::writing(name, &e))?;
+    }
+    file.sync_all().map_err(|e| trouble::writing(name, &e))?;
+    scratch.rename(path).map_err(|e| trouble::creating(name, &trouble::words(&e)))
+}
+
+/// A temporary file. It is removed when it is let go, unless it has got its name.
+struct Scratch {
+    path: PathBuf,
+    renamed: bool,
+}
+
+impl Scratch {
+    /// A file of its own in the folder of `path`. The name has nothing of the other's, which may be as long as names can be.
+    fn beside(path: &Path, mode: u32) -> io::Result<(File, Scratch)> {
+        let mut tries = 0;
+        loop {
+            let scratch = folder(path).join(format!(".choughbell-{}-{tries}", process::id()));
+            match OpenOptions::new().write(true).create_new(true).mode(mode).open(&scratch) {
+                Ok(file) => return Ok((file, Scratch { path: scratch, renamed: false })),
+                // One that a killed run has left.
+                Err(e) if e.kind() == io::ErrorKind::AlreadyExists && tries < 100 => tries += 1,
+                Err(e) => return Err(e),
+            }
+        }
+    }
+
+    fn rename(mut self, path: &Path) -> io::Result<()> {
+        fs::rename(&self.path, path)?;
+        self.renamed = true;
+        Ok(())
+    }
+}
+
+impl Drop for Scratch {
+    fn drop(&mut self) {
+        if !self.renamed {
+            let _ = fs::remove_file(&self.path);
+        }
+    }
+}

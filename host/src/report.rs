@@ -1,0 +1,154 @@
+//! A refusal for a person, as one line and for a list two more, and for a script, as JSON.
+use crate::advice::{self, Advice};
+use crate::caret;
+use crate::hints;
+use crate::json::Object;
+use crate::places;
+use choughbell::Refusal;
+
+/// What a run has read: a name for messages, and the bytes.
+pub struct Read {
+    pub name: String,
+    pub bytes: Vec<u8>,
+}
+
+/// What is said of a refusal.
+pub struct Report {
+    refusal: Refusal,
+    file: String,
+    place: Place,
+}
+
+enum Place {
+    /// The file as a whole.
+    Whole,
+    /// A line of a list: its number, its bytes and the advice on it.
+    Line(u64, Vec<u8>, Advice),
+    /// A place in a document.
+    Item(Item),
+}
+
+struct Item {
+    offset: u64,
+    line: usize,
+    column: usize,
+    /// What stands there, or nothing at the end of the document.
+    there: String,
+    hint: String,
+}
+
+/// The report on a refusal of a list or a document.
+pub fn report(refusal: Refusal, list: &Read, document: &Read) -> Report {
+    if let Some(line) = refusal.line() {
+        return Report { refusal, file: list.name.clone(), place: in_list(refusal, line, &list.bytes) };
+    }
+    if let Some(offset) = refusal.offset() {
+        return Report { refusal, file: document.name.clone(), place: in_document(refusal, offset, &document.bytes) };
+    }
+    let file = if refusal == Refusal::ListTooLong { list } else { document };
+    Report { refusal, file: file.name.clone(), place: Place::Whole }
+}
+
+fn in_list(refusal: Refusal, number: u64, list: &[u8]) -> Place {
+    let mut lines = list.split(|&b| b == b'\n').skip(number as usize - 1);
+    let line = lines.next().unwrap_or(b"");
+    // Another piece follows where a line feed does.
+    let ended = lines.next().is_some();
+    let advice = match refusal {
+        Refusal::ListTooLarge { .. } => advice::too_large(line, number as usize),
+        _ => advice::malformed(line, ended),
+    };
+    Place::Line(number, line.to_vec(), advice)
+}
+
+fn in_document(refusal: Refusal, offset: u64, document: &[u8]) -> Place {
+    let at = (offset as usize).min(document.len());
+    let (line, column) = places::line_and_column(document, at);
+    Place::Item(Item { offset, line, column, there: places::item(document, at), hint: hints::hint(refusal, document, at) })
+}
+
+impl Report {
+    /// The message, without its last line feed.
+    pub fn message(&self) -> String {
+        let (file, number, meaning) = (&self.file, self.refusal.number(), self.refusal.meaning());
+        match &self.place {
+            Place::Whole => format!("{file}: {number}: {meaning}"),
+            Place::Line(line, bytes, Advice { at, hint }) => {
+                let (there, caret) = (places::quoted(bytes), caret::caret(bytes, *at));
+                format!("{file}:{line}: {number}: {meaning}: \"{there}\": {hint}\n{caret}")
+            }
+            Place::Item(Item { offset, line, column, there, hint }) => {
+                let there = if there.is_empty() { "at the end".to_string() } else { format!("\"{there}\"") };
+                format!("{file}:{line}:{column}: {number}: {meaning}: {there}: {hint} (offset {offset})")
+            }
+        }
+    }
+
+    /// The numbers and the place, as one line of JSON.
+    pub fn json(&self) -> String {
+        let mut object = numbers(self.refusal.number(), self.refusal.second(), 0, self.refusal.meaning());
+        object.string("file", &self.file);
+        match &self.place {
+            Place::Whole => {}
+            Place::Line(line, bytes, Advice { hint, .. }) => {
+                object.number("line", *line);
+                object.string("there", &places::quoted(bytes));
+                object.string("hint", hint);
+            }
+            Place::Item(Item { offset, line, column, there, hint }) => {
+                object.number("offset", *offset);
+                object.number("line", *line as u64);
+                object.number("column", *column as u64);
+                object.string("there", there);
+                object.string("hint", hint);
+            }
+        }
+        object.line()
+    }
+}
+
+/// The members that every answer has.
+pub fn numbers(number: u64, second: u64, third: u64, meaning: &str) -> Object {
+    let mut object = Object::new();
+    object.number("number", number);
+    object.number("second", second);
+    object.number("third", third);
+    object.string("meaning", meaning);
+    object
+}
+
+#[cfg(test)]
+mod tests {
+    use super::*;
+
+    fn read(name: &str, bytes: &[u8]) -> Read {
+        Read { name: name.to_string(), bytes: bytes.to_vec() }
+    }
+
+    /// The report on the first fault of a list and a document.
+    fn said(list: &[u8], document: &[u8]) -> Report {
+        let refusal = choughbell::cut_of(list, document).unwrap_err();
+        report(refusal, &read("a.lst", list), &read("m.xml", document))
+    }
+
+    #[test]
+    fn a_line_has_a_caret() {
+        let report = said(b"/a\n/b\n/a b\n", b"<g/>");
+        let line = "a.lst:3: 2: malformed line: \"/a b\": a step is / or // and then * or a name\n    /a b\n      ^";
+        assert_eq!(report.message(), line);
+    }
+
+    #[test]
+    fn an_item_has_its_place() {
+        let report = said(b"", "<g>\n é<v></g>".as_bytes());
+        assert_eq!(report.message(), "m.xml:2:6: 7: not well-formed: \"</g>\": <v> of line 2 is open (offset 10)");
+        let place = r#""offset":10,"line":2,"column":6,"there":"</g>","hint":"<v> of line 2 is open""#;
+        let json = format!(r#"{{"number":7,"second":10,"third":0,"meaning":"not well-formed","file":"m.xml",{place}}}"#) + "\n";
+        assert_eq!(report.json(), json);
+    }
+
+    #[test]
+    fn a_whole_file_has_none() {
+        assert_eq!(said(&[b'/'; 8193], b"").message(), "a.lst: 1: list over 8,192 bytes");
+    }
+}

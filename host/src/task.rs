@@ -1,0 +1,72 @@
+//! A run of `cut` or `check`: reads, asks the library, and writes the cut or says why there is none. Gives the exit status.
+use crate::input::Source;
+use crate::output::{self, Sink};
+use crate::report::{self, Read};
+use crate::say;
+use crate::trouble::Trouble;
+use choughbell::{Cut, Refusal, DOCUMENT_LIMIT, LIST_LIMIT};
+
+/// What is asked for.
+#[derive(PartialEq, Eq, Debug)]
+pub struct Task {
+    /// The list of `cut`; `check` has none.
+    pub list: Option<Source>,
+    pub document: Source,
+    /// Where the cut goes; nowhere under `check` and `--count`.
+    pub output: Option<Sink>,
+    pub quiet: bool,
+    pub json: bool,
+}
+
+pub fn run(task: &Task) -> Result<u8, Trouble> {
+    let list = match &task.list {
+        Some(list) => Read { name: list.name(), bytes: list.read(LIST_LIMIT)? },
+        None => Read { name: String::new(), bytes: Vec::new() },
+    };
+    let document = Read { name: task.document.name(), bytes: task.document.read(DOCUMENT_LIMIT)? };
+    let done = match &task.list {
+        Some(_) => choughbell::cut_of(&list.bytes, &document.bytes).map(|cut| written(task, &cut)),
+        None => choughbell::check(&document.bytes).map(|()| sound(task)),
+    };
+    match done {
+        Ok(written) => written.map(|()| 0),
+        Err(refusal) => refused(task, refusal, &list, &document),
+    }
+}
+
+/// Under 0: the cut goes where it is to go, and the numbers where they are asked for.
+fn written(task: &Task, cut: &Cut) -> Result<(), Trouble> {
+    let length = cut.bytes.len() as u64;
+    match &task.output {
+        Some(output) => output.write(&cut.bytes)?,
+        None if !task.json => output::print(&format!("kept {} {length}\n", cut.selected))?,
+        None => {}
+    }
+    numbers(task, || report::numbers(0, length, cut.selected, "written").line())
+}
+
+/// `check` has no numbers of its own.
+fn sound(task: &Task) -> Result<(), Trouble> {
+    numbers(task, || report::numbers(0, 0, 0, "sound").line())
+}
+
+fn refused(task: &Task, refusal: Refusal, list: &Read, document: &Read) -> Result<u8, Trouble> {
+    let report = report::report(refusal, list, document);
+    if !task.json && !task.quiet {
+        say(&report.message());
+    }
+    numbers(task, || report.json())?;
+    Ok(refusal.number() as u8)
+}
+
+/// A line of JSON where it is asked for: on the standard output, or on the standard error if the cut goes, or would go, to the other.
+fn numbers(task: &Task, line: impl FnOnce() -> String) -> Result<(), Trouble> {
+    if !task.json {
+        return Ok(());
+    }
+    if task.output == Some(Sink::Standard) {
+        say(line().trim_end_matches('\n'));
+        return Ok(());
+    }
+    output::print(&line())
+}
