@@ -6,7 +6,7 @@
 # make suite  all 399 files of the W3C's suite that have no document type, which it fetches, by the library and the second program
 # make peers  whether documents are well-formed, beside two XML processors from Debian
 # make cases  writes the packed cases and their answers anew, by the second program
-# make choughbell   the command, target/host/choughbell
+# make choughbell   the command, target/host/choughbell; make host-tests runs its tests
 # make install      the command, its man page, the header and the library, below PREFIX (/usr/local); make uninstall removes them
 # make speed  how fast the library is beside ordinary Rust and other parsers; WHAT=characters, matcher or cut names one part of it
 
@@ -14,7 +14,7 @@ RUST = docs/src
 MADE = target/rust
 
 .PHONY: run test runs big fuzz suite peers cases speed parsers toolchain rt rust x86 library trials format lines expected cut
-.PHONY: cargo proving choughbell install uninstall
+.PHONY: cargo proving choughbell host-tests install uninstall
 
 run: rt cut
 	@for list in atlas desk; do \
@@ -105,6 +105,11 @@ proving:
 choughbell: proving library cargo
 	$(HOST_ENV) $(HOST_CARGO) build -q $(HOST_CARGO_WORDS)
 	@mkdir -p target/host && cp $(HOST_MADE)/choughbell target/host/choughbell
+
+# The tests of its parts print only what fails. Those of the command print how many runs there were.
+host-tests: choughbell
+	@$(HOST_ENV) $(HOST_CARGO) test -q $(HOST_CARGO_WORDS) > target/log/host 2>&1 || { cat target/log/host; exit 1; }
+	RUN='$(RUN)' CC='$(X86_CC)' host/tests/run.sh target/host/choughbell
 
 # Where the machine is not x86-64, bin/choughbell starts the program by the emulator. It finds the program from its own place, so what is
 # installed can be moved as a whole.

@@ -1,0 +1,98 @@
+# Answers on lists: 0 as document 01's examples have it, and 1 to 3 with what is said of the line.
+printf '//v\n' > v.lst
+printf '<g><p><v/></p></g>' > b.xml
+: > none.lst
+
+prints '<g><p><v></v></p></g>'
+try 'a cut' 0 cut -l v.lst b.xml
+prints '<g></g>'
+try 'an empty list' 0 cut -l none.lst b.xml
+prints '<g></g>'
+try 'no list' 0 cut -l /dev/null b.xml
+printf '//v #\n//n\n' > two.lst
+printf '<g><v><n/></v></g>' > h.xml
+prints '<g><v><n/></v></g>'
+try 'a marked line' 0 cut -l two.lst h.xml
+lines 'kept 2 18'
+try 'numbers only' 0 cut --count -l two.lst h.xml
+lines 'kept 1 21'
+try 'numbers only, quiet' 0 cut --count --quiet -l v.lst b.xml
+prints '<g><p><v></v></p></g>'
+try 'a cut, quiet' 0 cut --quiet -l v.lst b.xml
+
+# 1
+repeat 8193 / > long.lst
+says 'long.lst: 1: list over 8,192 bytes'
+try 'list of 8,193 bytes' 1 cut -l long.lst b.xml
+input=long.lst
+says 'standard input: 1: list over 8,192 bytes'
+try 'long list on standard input' 1 cut -l - b.xml
+says '/dev/zero: 1: list over 8,192 bytes'
+try 'list without end' 1 cut -l /dev/zero b.xml
+repeat 32 "/$(repeat 254 a)
+" > full.lst
+prints '<g></g>'
+try 'list of 8,192 bytes' 0 cut -l full.lst b.xml
+
+# malformed NAME LINE HINT CARET: the third line of a list that is malformed. The caret stands after some blanks.
+malformed() {
+    printf '/a\n//b #\n%s\n/c\n' "$2" > atlas.lst
+    says "atlas.lst:3: 2: malformed line: \"$2\": $3" "    $2" "    $4"
+    try "$1" 2 cut -l atlas.lst b.xml
+}
+malformed 'blank' '/a b' 'a step is / or // and then * or a name' '  ^'
+malformed 'empty line' '' 'an empty line' '^'
+malformed 'no slash' 'v' 'a line begins with / or //' '^'
+malformed 'three slashes' '/a///b' 'at most two slashes stand before a name' '    ^'
+malformed 'no space before #' '/a#' 'one space and # mark a line, at its end' '  ^'
+malformed 'two spaces before #' '/a  #' 'one space and # mark a line, at its end' '  ^'
+malformed 'blank after #' '/a # ' 'one space and # mark a line, at its end' '  ^'
+malformed 'digit' '/a/1b' "a name can't begin with 1" '   ^'
+malformed 'attribute' '/a/@id' 'a path names elements alone: no attributes, conditions or functions' '   ^'
+malformed 'comment' '# lakes' 'a list has no comments; one space and # mark a line, at its end' '^'
+malformed 'accents, composed' '/préf é' 'a step is / or // and then * or a name' '     ^'
+malformed 'accents, decomposed' "$(printf '/pre\314\201f e\314\201')" 'a step is / or // and then * or a name' '     ^'
+
+printf '/a\r\n' > crlf.lst
+says 'crlf.lst:1: 2: malformed line: "/a\r": a line ends in a line feed alone, without a carriage return' '    /a\r' '      ^'
+try 'carriage return' 2 cut -l crlf.lst b.xml
+printf '/a\n/b' > open.lst
+says 'open.lst:2: 2: malformed line: "/b": a line ends in a line feed' '    /b' '      ^'
+try 'no line feed' 2 cut -l open.lst b.xml
+printf '/a\303(\n' > bad.lst
+says 'bad.lst:1: 2: malformed line: "/a\xC3(": not UTF-8: C3' '    /a\xC3(' '      ^'
+try 'not UTF-8' 2 cut -l bad.lst b.xml
+printf '\357\273\277/a\n' > bom.lst
+says 'bom.lst:1: 2: malformed line: "\u{FEFF}/a": a list has no byte order mark' '    \u{FEFF}/a' '    ^'
+try 'byte order mark' 2 cut -l bom.lst b.xml
+printf '/a\0\n' > null.lst
+says 'null.lst:1: 2: malformed line: "/a\u{0}": a step is / or // and then * or a name' '    /a\u{0}' '      ^'
+try 'a null byte' 2 cut -l null.lst b.xml
+printf '/%s b\n' "$(repeat 100 x)" > wide.lst
+says "wide.lst:1: 2: malformed line: \"/$(repeat 39 x)...\": a step is / or // and then * or a name" \
+    "    ...$(repeat 50 x) b" "       $(repeat 50 ' ')^"
+try 'a long line' 2 cut -l wide.lst b.xml
+try 'malformed, quiet' 2 cut -q -l atlas.lst b.xml
+says 'standard input:1: 2: malformed line: "v": a line begins with / or //' '    v' '    ^'
+printf 'v\n' > in.lst
+input=in.lst
+try 'malformed on standard input' 2 cut -l - b.xml
+
+# 3
+repeat 16 /a > steps.lst && echo >> steps.lst
+prints '<g></g>'
+try '16 steps' 0 cut -l steps.lst b.xml
+{ echo /a && repeat 17 /a && echo; } > steps.lst
+says "steps.lst:2: 3: line too large: \"$(repeat 17 /a)\": over 16 steps" "    $(repeat 17 /a)" "    $(repeat 32 ' ')^"
+try '17 steps' 3 cut -l steps.lst b.xml
+printf '//%s\n' "$(repeat 256 a)" > name.lst
+says "name.lst:1: 3: line too large: \"//$(repeat 38 a)...\": a name over 255 bytes" "    //$(repeat 40 a | cut -c 1-40)..." '      ^'
+try 'a name of 256 bytes' 3 cut -l name.lst b.xml
+repeat 33 '/a
+' > many.lst
+says 'many.lst:33: 3: line too large: "/a": line 33: a list has at most 32 lines' '    /a' '    ^'
+try 'line 33' 3 cut -l many.lst b.xml
+repeat 32 '/a
+' > many.lst
+prints '<g></g>'
+try 'line 32' 0 cut -l many.lst b.xml

@@ -1,0 +1,51 @@
+# What is beside the command: the header with the example in C, and what `make install` puts where.
+ran=$((ran + 1))
+# shellcheck disable=SC2086
+${CC:-cc} -std=c99 -Wall -Wextra -Werror -I "$root/host/include" -o example \
+    "$root/host/example/cut.c" "$root/target/staticlib/libexported.a" || fault 'the example in C' 'does not compile'
+
+# example NAME STATUS WORDS..: a run of the example.
+example() {
+    program_before=$program program=$room/example
+    try "C: $1" "$2" "$3" "$4" ${5+"$5"}
+    program=$program_before
+}
+prints '<g><p><v></v></p></g>'
+says '1 selected'
+example 'a cut' 0 v.lst b.xml
+prints '<g><p><v></v></p></g>'
+says '1 selected'
+example 'room enough' 0 v.lst b.xml 21
+says 'refused 9 21'
+example 'one byte short' 9 v.lst b.xml 20
+says 'refused 9 21'
+example 'no room' 9 v.lst b.xml 0
+says 'refused 2 3'
+example 'a malformed line' 2 atlas.lst b.xml
+says 'refused 7 3'
+example 'not well-formed' 7 v.lst bad.xml
+
+# put WHERE WORDS..: `make install` or `make uninstall`, quietly.
+put() { MAKEFLAGS='' make -s -C "$root" "$@" > "$notes/printed" 2>&1 || fault "make $*" "$(tr '\n' '~' < "$notes/printed")"; }
+ran=$((ran + 2))
+put install DESTDIR="$room/stage" PREFIX=/opt/chough
+for file in bin/choughbell share/man/man1/choughbell.1 include/choughbell.h lib/libchoughbell.a; do
+    [ -f "stage/opt/chough/$file" ] || fault 'make install' "no $file"
+done
+run_before=$run program_before=$program run='' program=$room/stage/opt/chough/bin/choughbell
+prints '<g><p><v></v></p></g>'
+try 'the installed command' 0 cut -l ' v.lst' 'a b.xml'
+ln -s "$program" started
+program=$room/started
+prints '<g><p><v></v></p></g>'
+try 'the installed command, by a link' 0 cut -l v.lst b.xml
+run=$run_before program=$program_before
+put uninstall DESTDIR="$room/stage" PREFIX=/opt/chough
+left=$(find stage -type f)
+[ -z "$left" ] || fault 'make uninstall' "left $left"
+
+ran=$((ran + 1))
+if command -v man > /dev/null; then
+    LC_ALL=C.UTF-8 MANWIDTH=100 man --warnings -l "$root/host/man/choughbell.1" > "$notes/page" 2> "$notes/said" || :
+    [ ! -s "$notes/said" ] || fault 'the man page' "$(head -n 3 "$notes/said" | tr '\n' '~')"
+fi

@@ -1,0 +1,97 @@
+# Output that breaks off, runs that are killed, and files that may not be read or written. The old file always stays.
+{ printf '<g>' && yes '<v/>' | head -n 100000 | tr -d '\n' && printf '</g>'; } > wide.xml
+
+says 'choughbell: /dev/full: No space left on device'
+try 'a full device' 74 cut -l v.lst wide.xml -o /dev/full
+got=0 ran=$((ran + 1))
+start cut -l v.lst wide.xml > /dev/full 2> "$notes/said" || got=$?
+status 'a full standard output' 74 "$got"
+says 'choughbell: standard output: No space left on device'
+same 'a full standard output' "$notes/says" "$notes/said"
+fresh
+
+# The cut is longer than a pipe holds, so the write lasts until the reader has gone.
+ran=$((ran + 1))
+{ got=0 && { start cut -l v.lst wide.xml 2> "$notes/said" || got=$?; } && echo $got > "$notes/got"; } | :
+status 'a broken pipe' 74 "$(cat "$notes/got")"
+same 'a broken pipe' "$notes/says" "$notes/said"
+mkfifo broken
+: < broken & reader=$!
+try 'a broken pipe as output' 74 cut -l v.lst wide.xml -o broken
+wait $reader
+
+# Killed while it waits for the rest of the document.
+printf old > kept.xml
+mkfifo slow
+ran=$((ran + 1)) got=0
+start cut -l v.lst -o kept.xml < slow & killed=$!
+exec 9> slow
+printf '<g><v/>' >&9
+kill -TERM $killed
+wait $killed 2> /dev/null || got=$?
+exec 9>&-
+status 'killed' 143 "$got"
+holds 'killed' kept.xml old
+
+# Stopped by the system while it writes: a file may have 4,096 bytes. The first run may go on and clean up; the second is killed.
+ran=$((ran + 2)) got=0
+(trap '' XFSZ && ulimit -f 8 && start cut -l v.lst wide.xml -o kept.xml) 2> "$notes/said" || got=$?
+status 'a file too large' 74 "$got"
+says 'choughbell: kept.xml: File too large'
+same 'a file too large' "$notes/says" "$notes/said"
+fresh
+holds 'a file too large' kept.xml old
+got=0
+# shellcheck disable=SC3045
+(ulimit -c 0 && ulimit -f 8 && start cut -l v.lst wide.xml -o kept.xml) 2> /dev/null || got=$?
+[ "$got" -gt 128 ] || fault 'killed while it writes' "status $got"
+rm -f .choughbell-*
+holds 'killed while it writes' kept.xml old
+
+# A temporary file that a killed run with the same process number has left is no hindrance, and stays.
+ran=$((ran + 1)) got=0
+# shellcheck disable=SC2016,SC2086
+sh -c 'printf left > ".choughbell-$$-0" && exec "$@"' sh $run "$program" cut -l v.lst b.xml -o kept.xml || got=$?
+status 'a temporary file that is left' 0 "$got"
+[ "$(cat .choughbell-*)" = left ] || fault 'a temporary file that is left' 'is gone'
+rm -f .choughbell-*
+holds 'a temporary file that is left' kept.xml '<g><p><v></v></p></g>'
+
+says 'choughbell: /proc/cut.xml: no temporary file beside it: No such file or directory'
+try 'a folder without files' 73 cut -l v.lst b.xml -o /proc/cut.xml
+
+# What a user may not read or write, root may: so these are run as nobody, where that can be done.
+printf old > shut.xml
+mkdir -p shut open
+printf old > shut/old.xml
+printf old > open/old.xml
+chmod 777 open
+chmod 666 shut/old.xml
+chmod 444 open/old.xml
+chmod 000 shut.xml
+chmod 555 shut
+nobody=
+[ "$(id -u)" != 0 ] || nobody='setpriv --reuid 65534 --regid 65534 --clear-groups'
+# shellcheck disable=SC2086
+if $nobody $run "$program" --version > /dev/null 2>&1; then
+    user=$nobody
+    says 'choughbell: shut.xml: Permission denied'
+    try 'an unreadable document' 66 check shut.xml
+    user=$nobody
+    says 'choughbell: shut.xml: Permission denied'
+    try 'an unreadable list' 66 cut -l shut.xml b.xml
+    user=$nobody
+    says 'choughbell: shut/new.xml: no temporary file beside it: Permission denied'
+    try 'an unwritable folder' 73 cut -l v.lst b.xml -o shut/new.xml
+    user=$nobody
+    says 'choughbell: shut/old.xml: no temporary file beside it: Permission denied'
+    try 'a file in an unwritable folder' 73 cut -l v.lst b.xml -o shut/old.xml
+    user=$nobody
+    says 'choughbell: open/old.xml: Permission denied'
+    try 'an unwritable file' 73 cut -l v.lst b.xml -o open/old.xml
+    holds 'an unwritable file' open/old.xml old
+else
+    echo 'choughbell: left out: files that may not be read, since root may read all and no run as nobody can be started here'
+fi
+chmod 755 shut
+holds 'a file in an unwritable folder' shut/old.xml old

@@ -1,0 +1,67 @@
+# Answers 5 to 8, with the place and what is said of it. Answer 9 can't be reached by the command, whose buffer always suffices: it is tried
+# by the C example in around.sh and by the tests of the crate.
+
+# refused NAME NUMBER DOCUMENT LINE: a document, its bytes as printf has them, and what follows its name in the message.
+refused() {
+    # shellcheck disable=SC2059
+    printf "$3" > master.xml
+    says "master.xml:$4"
+    try "$1" "$2" check master.xml
+    says "master.xml:$4"
+    try "$1, under cut" "$2" cut -l v.lst master.xml
+}
+try 'a sound document' 0 check b.xml
+input=b.xml
+try 'a sound document on standard input' 0 check
+
+# 5
+refused 'a byte that is not UTF-8' 5 '<g>\n\377</g>' '2:1: 5: not a character: "\xFF": FF is not UTF-8 (offset 4)'
+refused 'ISO 8859-1' 5 '<g>\n  Pr\351s</g>' '2:5: 5: not a character: "\xE9s": E9 is not UTF-8 (offset 8)'
+refused 'U+FFFE' 5 '<g>\357\277\276</g>' '1:4: 5: not a character: "\u{FFFE}": U+FFFE is no character of XML (offset 3)'
+refused 'a control' 5 '<g>a\001</g>' '1:5: 5: not a character: "\u{1}": U+0001 is no character of XML (offset 4)'
+refused 'cut off' 5 '<g/>\342\202' '1:5: 5: not a character: "\xE2\x82": the end cuts E2 82 off (offset 4)'
+refused 'UTF-16' 5 '\377\376<\000' \
+    '1:1: 5: not a character: "\xFF\xFE": this seems to be UTF-16; a document is in UTF-8 (offset 0)'
+
+# 6
+refused 'a type' 6 '<?xml version="1.0"?>\n<!DOCTYPE g>\n<g/>' \
+    '2:1: 6: document type: "<!DOCTYPE g>": documents with a type are not taken (offset 22)'
+
+# 7
+refused 'an end tag' 7 '<g>\n <v>\n</g>' '3:1: 7: not well-formed: "</g>": <v> of line 2 is open (offset 9)'
+refused 'open at the end' 7 '<g>\n<v/>\n' '3:1: 7: not well-formed: at the end: <g> of line 1 is open (offset 9)'
+refused 'empty' 7 '' '1:1: 7: not well-formed: at the end: there is no root (offset 0)'
+refused 'no root' 7 '<!-- <g> -->\n' '2:1: 7: not well-formed: at the end: there is no root (offset 13)'
+refused 'a second root' 7 '<g/><h/>' '1:5: 7: not well-formed: "<h/>": the root is closed, and there is only one (offset 4)'
+refused 'text outside' 7 '<g/>\nend\n' \
+    '1:5: 7: not well-formed: "\nend\n": outside the root stand only comments, instructions and white space (offset 4)'
+refused 'a reference' 7 '<g>\303\251 &nbsp; </g>' \
+    "1:6: 7: not well-formed: \"&nbsp;\": a reference is &lt; &gt; &amp; &apos; &quot; or a character's number, as &#233; (offset 6)"
+refused 'a sign in text' 7 '<g>1 < 2</g>' '1:6: 7: not well-formed: "< 2</g>": a < that begins no tag is written &lt; (offset 5)'
+refused 'a declaration below' 7 '\n<?xml version="1.0"?><g/>' \
+    '2:1: 7: not well-formed: "<?xml version="1.0"?>": the declaration stands at the very front (offset 1)'
+tag='a tag is <, a name, attributes as name="value", none twice, and > or />; a value has no <'
+refused 'an attribute twice' 7 '<g a="1" a="2"/>' "1:1: 7: not well-formed: \"<g a=\"1\" a=\"2\"/>\": $tag (offset 0)"
+refused 'after three bytes' 7 '\357\273\277</g>' '1:1: 7: not well-formed: "</g>": no element is open (offset 3)'
+refused 'a long item' 7 "<g>$(repeat 40 a)]]></g>" \
+    "1:4: 7: not well-formed: \"$(repeat 40 a)...\": text has no ]]> (offset 3)"
+try 'refused, quiet' 7 check --quiet master.xml
+says 'standard input:1:4: 7: not well-formed: "</v>": <g> of line 1 is open (offset 3)'
+printf '<g></v>' > in.xml
+input=in.xml
+try 'refused on standard input' 7 check -
+
+# 8
+sizes='elements stand at most 64 deep, names have at most 255 bytes, tags at most 32 attributes'
+printf '%s%s' "$(repeat 64 '<g>')" "$(repeat 64 '</g>')" > deep.xml
+try '64 deep' 0 check deep.xml
+refused '65 deep' 8 "$(repeat 64 '<g>')<v/>" "1:193: 8: over a size: \"<v/>\": 65 deep: $sizes (offset 192)"
+refused 'a name of 256 bytes' 8 "<g>\n<$(repeat 256 n)/></g>" "2:1: 8: over a size: \"<$(repeat 39 n)...\": $sizes (offset 4)"
+attributes=$(awk 'BEGIN { for (i = 1; i < 34; i++) printf " a%d=\"\"", i }')
+refused '33 attributes' 8 "<g$attributes/>" "1:1: 8: over a size: \"$(echo "<g$attributes" | cut -c 1-40)...\": $sizes (offset 0)"
+
+# The list is judged first, then the document; a bad character comes before what is at fault above it.
+printf 'v\n' > in.lst
+says 'in.lst:1: 2: malformed line: "v": a line begins with / or //' '    v' '    ^'
+try 'both at fault' 2 cut -l in.lst master.xml
+refused 'two faults' 5 '<g></v>\377' '1:8: 5: not a character: "\xFF": FF is not UTF-8 (offset 7)'

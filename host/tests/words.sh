@@ -1,0 +1,77 @@
+# Command lines: wrong ones of each kind, the forms of options, and the texts of explain, help and version.
+
+# wrong NAME MESSAGE WORDS..
+wrong() {
+    name=$1
+    usage "$2"
+    shift 2
+    try "wrong usage: $name" 64 "$@"
+}
+commands='it is cut, check or explain'
+wrong 'nothing' "there is no command: $commands"
+wrong 'another command' "there is no command trim: $commands" trim b.xml
+wrong 'an option first' "there is no command --quiet: $commands" --quiet check b.xml
+wrong 'a command with a line feed' "there is no command a\\nb: $commands" 'a
+b'
+wrong 'no list' 'cut wants a list: -l LIST; by /dev/null the root alone is kept' cut b.xml
+wrong 'a list without a name' "--list wants a file's name" cut b.xml -l
+wrong 'an output without a name' "--output wants a file's name" cut -l v.lst b.xml --output
+wrong 'two lists' '--list is given twice' cut -l v.lst --list=v.lst b.xml
+wrong 'two outputs' '--output is given twice' cut -l v.lst -o x -o y b.xml
+wrong 'two documents' 'cut takes one document, and h.xml is a second' cut -l v.lst b.xml h.xml
+wrong 'two documents to check' 'check takes one document, and h.xml is a second' check b.xml h.xml
+wrong 'an unknown option' 'there is no option --lists' cut --lists v.lst
+wrong 'an unknown short option' 'there is no option -x' check -x
+wrong 'a value for a flag' '--json takes no value' check --json=yes
+wrong 'two times standard input' "the list and the document can't both come from the standard input" cut -l -
+wrong 'two times standard input, by name' "the list and the document can't both come from the standard input" cut -l - /dev/stdin
+wrong 'count and output' '--count writes no cut, so it takes no --output' cut -l v.lst --count -o x b.xml
+wrong 'quiet and json' "--quiet and --json don't go together" check -q --json b.xml
+wrong 'check with a list' 'check takes no --list, --output or --count' check -l v.lst b.xml
+wrong 'check and count' 'check takes no --list, --output or --count' check --count b.xml
+wrong 'explain nothing' 'explain wants one number' explain
+wrong 'explain two' 'explain wants one number' explain 1 2
+wrong 'explain 10' '10 is no number that is explained: 0 to 9, 64, 66, 73 or 74' explain 10
+wrong 'explain a word' 'two is no number that is explained: 0 to 9, 64, 66, 73 or 74' explain two
+wrong 'explain with options' 'explain takes no options' explain --json 1
+[ ! -e x ] || fault 'wrong usage' 'a file is made'
+
+for words in '-l v.lst b.xml' '-lv.lst b.xml' '--list=v.lst b.xml' 'b.xml --list v.lst' '-l v.lst -o- b.xml' '-l v.lst --output=- b.xml'; do
+    prints '<g><p><v></v></p></g>'
+    # shellcheck disable=SC2086
+    try "cut $words" 0 cut $words
+done
+
+# explains NUMBER FRONT LINES: the front of the text and how many lines it has.
+explains() {
+    ran=$((ran + 1)) got=0
+    start explain "$1" > "$notes/printed" 2>&1 || got=$?
+    status "explain $1" 0 "$got"
+    printed=$(cat "$notes/printed")
+    [ "${printed#"$1: $2"}" != "$printed" ] || fault "explain $1" "$printed"
+    [ "$(wc -l < "$notes/printed")" = "$3" ] || fault "explain $1" 'number of lines'
+}
+explains 0 'written.' 3
+explains 1 'the list has over 8,192 bytes.' 3
+explains 2 'a line of the list is malformed;' 4
+explains 3 'a line of the list is too large, or it is line 33;' 3
+explains 4 'the document has over 16,777,216 bytes.' 2
+explains 5 'the document is not in UTF-8,' 4
+explains 6 'the document has a type, <!DOCTYPE;' 3
+explains 7 'the document is not well-formed XML 1.0;' 4
+explains 8 'the document is over a size;' 3
+explains 9 'the output is shorter than the cut;' 3
+explains 64 'wrong usage.' 2
+explains 66 "the list or the document can't be opened, or is a directory." 2
+explains 73 "the output can't be created." 3
+explains 74 'reading or writing failed' 2
+
+lines 'choughbell 0.1.0'
+try 'version' 0 --version
+start --help > help 2>&1 || fault 'help' 'status'
+[ "$(head -n 1 help)" = 'choughbell cuts XML by a list of paths, by a filter that is proved.' ] || fault 'help' "$(head -n 1 help)"
+for words in '--help' 'help' '-h' 'cut --help' 'check -h' 'explain --help'; do
+    cp help "$notes/prints"
+    # shellcheck disable=SC2086
+    try "$words" 0 $words
+done
