@@ -1,6 +1,6 @@
-// Whether documents are well-formed, by the second program and by two XML processors: rxp, and libxml2's xmllint. The documents are those of
-// the packs in a folder, each once. Where a known rule says that a processor judges by something else, the document is left out and counted
-// (known.rs); any other difference is shown, and the status is then 1. Run from the repository's top: peers FOLDER
+// Whether documents are well-formed, by the second program and by two XML processors: rxp, and libxml2's xmllint. The documents are those
+// of the packs in a folder, each once. Where a known rule says that a processor judges by something else, the document is left out and
+// counted (known.rs); any other difference is shown, and the status is then 1. Run from the repository's top: peers FOLDER
 mod known;
 
 use std::collections::{BTreeMap, BTreeSet};

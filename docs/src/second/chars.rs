@@ -17,9 +17,7 @@ pub fn text(bytes: &[u8]) -> Result<&str, usize> {
 }
 
 fn first_non_char(text: &str) -> Option<usize> {
-    text.char_indices()
-        .find(|&(_, c)| !is_char(c))
-        .map(|(offset, _)| offset)
+    text.char_indices().find(|&(_, c)| !is_char(c)).map(|(offset, _)| offset)
 }
 
 /// [2] Char
@@ -53,14 +51,8 @@ const NAME_START: [(char, char); 16] = [
 ];
 
 /// [4a] NameChar, what it adds to NameStartChar
-const NAME_ADDS: [(char, char); 6] = [
-    ('-', '-'),
-    ('.', '.'),
-    ('0', '9'),
-    ('\u{B7}', '\u{B7}'),
-    ('\u{300}', '\u{36F}'),
-    ('\u{203F}', '\u{2040}'),
-];
+const NAME_ADDS: [(char, char); 6] =
+    [('-', '-'), ('.', '.'), ('0', '9'), ('\u{B7}', '\u{B7}'), ('\u{300}', '\u{36F}'), ('\u{203F}', '\u{2040}')];
 
 fn within(ranges: &[(char, char)], c: char) -> bool {
     ranges.iter().any(|&(first, last)| first <= c && c <= last)

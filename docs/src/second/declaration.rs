@@ -80,10 +80,7 @@ fn yes_or_no(reader: &mut Reader) -> Option<()> {
 }
 
 /// The production between two single or two double quotes.
-fn quoted<'a>(
-    reader: &mut Reader<'a>,
-    production: fn(&mut Reader<'a>) -> Option<()>,
-) -> Option<()> {
+fn quoted<'a>(reader: &mut Reader<'a>, production: fn(&mut Reader<'a>) -> Option<()>) -> Option<()> {
     let quote = if reader.take("'") {
         "'"
     } else {

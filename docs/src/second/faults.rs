@@ -48,9 +48,7 @@ fn is_too_large(kind: &Kind, place: &Place) -> bool {
 }
 
 fn is_tag_too_large(tag: &Tag) -> bool {
-    tag.name.len() > NAME_BYTES
-        || tag.attributes.len() > TAG_ATTRIBUTES
-        || tag.attributes.iter().any(|name| name.len() > NAME_BYTES)
+    tag.name.len() > NAME_BYTES || tag.attributes.len() > TAG_ATTRIBUTES || tag.attributes.iter().any(|name| name.len() > NAME_BYTES)
 }
 
 /// "One root. Outside it only comments, instructions and white-space text. End tags match."

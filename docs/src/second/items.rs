@@ -40,10 +40,7 @@ pub fn items(text: &str) -> Vec<Item<'_>> {
         let is_first = found.is_empty();
         let kind = item(&mut reader, is_first).unwrap_or(Kind::Broken);
         let is_last = matches!(kind, Kind::Doctype | Kind::Broken);
-        found.push(Item {
-            bytes: start..reader.at(),
-            kind,
-        });
+        found.push(Item { bytes: start..reader.at(), kind });
         if is_last {
             break;
         }

@@ -32,11 +32,7 @@ pub struct Numbers {
 
 /// "The third number is 0 except under 0."
 fn refusal(number: u64, second: usize) -> Numbers {
-    Numbers {
-        number,
-        second: second as u64,
-        third: 0,
-    }
+    Numbers { number, second: second as u64, third: 0 }
 }
 
 /// The cut's bytes and the number of elements selected, whatever room there is; or the refusal, which is never 9.
@@ -63,9 +59,5 @@ pub fn cut(list: &[u8], doc: &[u8], out: &mut [u8]) -> Numbers {
         return refusal(9, bytes.len());
     }
     out[..bytes.len()].copy_from_slice(&bytes);
-    Numbers {
-        number: 0,
-        second: bytes.len() as u64,
-        third: selected,
-    }
+    Numbers { number: 0, second: bytes.len() as u64, third: selected }
 }

@@ -69,11 +69,7 @@ fn step<'a>(reader: &mut Reader<'a>) -> Option<Step<'a>> {
         reader.want("/")?;
         Axis::Child
     };
-    let test = if reader.take("*") {
-        Test::Any
-    } else {
-        Test::Name(reader.name()?)
-    };
+    let test = if reader.take("*") { Test::Any } else { Test::Name(reader.name()?) };
     Some(Step { axis, test })
 }
 

@@ -44,10 +44,7 @@ fn char_reference(reader: &mut Reader) -> Option<()> {
 /// Do these digits denote a Char? No digits denote none. Leading zeros may be many; a number past `u32` is no Char.
 fn denotes_char(digits: &str, radix: u32) -> bool {
     let significant = digits.trim_start_matches('0');
-    match u32::from_str_radix(significant, radix)
-        .ok()
-        .and_then(char::from_u32)
-    {
+    match u32::from_str_radix(significant, radix).ok().and_then(char::from_u32) {
         Some(c) => is_char(c),
         None => false,
     }

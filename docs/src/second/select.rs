@@ -23,10 +23,7 @@ pub fn count(element: &Element) -> u64 {
 
 /// How the paths select the element whose names from the root down are `names`. A marked path wins over a plain one.
 fn selection(names: &[&str], paths: &[Path]) -> Selection {
-    if paths
-        .iter()
-        .any(|path| path.is_marked && selects(path, names))
-    {
+    if paths.iter().any(|path| path.is_marked && selects(path, names)) {
         Selection::Marked
     } else if paths.iter().any(|path| selects(path, names)) {
         Selection::Plain
@@ -51,8 +48,7 @@ fn can_be_laid(steps: &[Step], names: &[&str], place: usize) -> bool {
         return false;
     }
     // Each earlier step needs a place of its own, so lower places than these need not be tried.
-    (earlier.len()..place)
-        .any(|before| is_below(&last.axis, before, place) && can_be_laid(earlier, names, before))
+    (earlier.len()..place).any(|before| is_below(&last.axis, before, place) && can_be_laid(earlier, names, before))
 }
 
 /// "each name test equals the name there, `*` any name"

@@ -21,18 +21,10 @@ pub fn start_or_empty_tag<'a>(reader: &mut Reader<'a>) -> Option<Tag<'a>> {
     loop {
         let blank = reader.white_space();
         if reader.take(">") {
-            return Some(Tag {
-                name,
-                attributes,
-                is_empty: false,
-            });
+            return Some(Tag { name, attributes, is_empty: false });
         }
         if reader.take("/>") {
-            return Some(Tag {
-                name,
-                attributes,
-                is_empty: true,
-            });
+            return Some(Tag { name, attributes, is_empty: true });
         }
         // Another attribute must have white space before it.
         blank?;

@@ -21,17 +21,11 @@ use crate::{cut, judge, whole, Numbers};
 
 /// An output as it is lent: each byte differs from its neighbours, so that a byte moved or lost shows.
 fn lent(room: usize) -> Vec<u8> {
-    (0..room)
-        .map(|offset| (offset % 251) as u8 ^ 0xA5)
-        .collect()
+    (0..room).map(|offset| (offset % 251) as u8 ^ 0xA5).collect()
 }
 
 fn numbers(number: u64, second: usize, third: u64) -> Numbers {
-    Numbers {
-        number,
-        second: second as u64,
-        third,
-    }
+    Numbers { number, second: second as u64, third }
 }
 
 /// With this room the cut is written: these bytes, then the output as it was.
@@ -40,10 +34,7 @@ fn kept_in(list: &[u8], doc: &[u8], room: usize, bytes: &[u8], selected: u64) {
     let mut expected = lent(room);
     expected[..bytes.len()].copy_from_slice(bytes);
     assert_eq!(cut(list, doc, &mut out), numbers(0, bytes.len(), selected));
-    assert_eq!(
-        String::from_utf8_lossy(&out),
-        String::from_utf8_lossy(&expected)
-    );
+    assert_eq!(String::from_utf8_lossy(&out), String::from_utf8_lossy(&expected));
     assert!(out == expected);
 }
 
@@ -84,11 +75,6 @@ fn sound(doc: impl AsRef<[u8]>) {
 fn fault(doc: impl AsRef<[u8]>, number: u64, second: usize) {
     let doc = doc.as_ref();
     let expected = numbers(number, second, 0);
-    assert_eq!(
-        judge(doc),
-        Some(expected),
-        "{}",
-        String::from_utf8_lossy(doc)
-    );
+    assert_eq!(judge(doc), Some(expected), "{}", String::from_utf8_lossy(doc));
     refused(b"//v\n", doc, number, second);
 }

@@ -39,16 +39,10 @@ pub fn tree<'a>(items: Vec<Item<'a>>, length: usize) -> Result<Element<'a>, Faul
     let mut open: Vec<Element<'a>> = Vec::new();
     let mut root: Option<Element<'a>> = None;
     for item in items {
-        let place = Place {
-            level: open.len(),
-            innermost: open.last().map(|element| element.name),
-            has_root: root.is_some() || !open.is_empty(),
-        };
+        let place =
+            Place { level: open.len(), innermost: open.last().map(|element| element.name), has_root: root.is_some() || !open.is_empty() };
         if let Some(number) = fault(&item.kind, &place) {
-            return Err(Fault {
-                number,
-                offset: item.bytes.start,
-            });
+            return Err(Fault { number, offset: item.bytes.start });
         }
         if let Some(ended) = ended_by(item, &mut open) {
             match open.last_mut() {
@@ -59,10 +53,7 @@ pub fn tree<'a>(items: Vec<Item<'a>>, length: usize) -> Result<Element<'a>, Faul
     }
     // "If the items run out with an element open, or without a root, the answer is 7 at the document's length."
     // While an element is open there is no root yet, since the root is put down at its end.
-    root.ok_or(Fault {
-        number: 7,
-        offset: length,
-    })
+    root.ok_or(Fault { number: 7, offset: length })
 }
 
 /// Opens the element of a start tag, or gives the element that an end tag or an empty tag ends.
@@ -87,12 +78,5 @@ fn ended_by<'a>(item: Item<'a>, open: &mut Vec<Element<'a>>) -> Option<Element<'
 
 /// An element as its first tag gives it. The end of one that is not empty is set when its end tag comes.
 fn begun<'a>(tag: &Tag<'a>, bytes: Range<usize>) -> Element<'a> {
-    Element {
-        name: tag.name,
-        start: bytes.clone(),
-        end: bytes,
-        is_empty: tag.is_empty,
-        children: Vec::new(),
-        selection: Selection::No,
-    }
+    Element { name: tag.name, start: bytes.clone(), end: bytes, is_empty: tag.is_empty, children: Vec::new(), selection: Selection::No }
 }

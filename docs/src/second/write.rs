@@ -16,11 +16,7 @@ fn write(element: &Element, is_root: bool, doc: &[u8], out: &mut Vec<u8>) {
         Selection::Marked => out.extend_from_slice(&doc[element.start.start..element.end.end]),
         // "the tag's bytes from `<` up to but without the final `>` or `/>`, then `>`"
         Selection::Plain => {
-            let final_length = if element.is_empty {
-                "/>".len()
-            } else {
-                ">".len()
-            };
+            let final_length = if element.is_empty { "/>".len() } else { ">".len() };
             out.extend_from_slice(&doc[element.start.start..element.start.end - final_length]);
             out.extend_from_slice(b">");
             write_children_and_end(element, doc, out);
@@ -47,8 +43,5 @@ fn write_children_and_end(element: &Element, doc: &[u8], out: &mut Vec<u8>) {
 }
 
 fn has_selected_under(element: &Element) -> bool {
-    element
-        .children
-        .iter()
-        .any(|child| child.selection != Selection::No || has_selected_under(child))
+    element.children.iter().any(|child| child.selection != Selection::No || has_selected_under(child))
 }

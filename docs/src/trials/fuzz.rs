@@ -11,8 +11,9 @@ pub fn run(cases: usize, seed: u64) {
     let (mut tried, mut narrowed, mut numbers) = (0, 0, [0usize; 10]);
     while tried < cases {
         let all = batch(&mut random);
-        if let Some(first) = all.first() {
-            narrowed += narrow::tried(&first.list, &narrower(&first.list, &mut random), &first.doc) as usize;
+        let wide = all.first().and_then(|first| Some((first, same::cut(&first.list, &first.doc)?.0)));
+        if let Some((first, wide_cut)) = wide {
+            narrowed += narrow::tried(&wide_cut, &narrower(&first.list, &mut random), &first.doc) as usize;
         }
         for case in all {
             let (answer, _) = same::both(&case.list, &case.doc, case.room);

@@ -3,7 +3,10 @@ use choughbell::Numbers;
 
 /// Byte i is i modulo 251, so that a byte that is moved or left out shows.
 fn prepared(room: usize) -> Vec<u8> {
-    (0..room).map(|i| (i % 251) as u8).collect()
+    let turn: Vec<u8> = (0..251).collect();
+    let mut bytes = turn.repeat(room / 251 + 1);
+    bytes.truncate(room);
+    bytes
 }
 
 /// What both programs answer, and what both leave in a buffer of so many bytes; or how they differ.
@@ -14,10 +17,11 @@ pub fn tried(list: &[u8], doc: &[u8], room: usize) -> Result<(Numbers, Vec<u8>),
     if (found.number, found.second, found.third) != (expected.number, expected.second, expected.third) {
         return Err(format!("the library says {found:?}, the second program {expected:?}"));
     }
-    match ours.iter().zip(&theirs).position(|(a, b)| a != b) {
-        Some(at) => Err(format!("under {found:?} the buffers differ at {at}")),
-        None => Ok((found, ours)),
+    if ours != theirs {
+        let at = ours.iter().zip(&theirs).position(|(a, b)| a != b);
+        return Err(format!("under {found:?} the buffers differ at {at:?}"));
     }
+    Ok((found, ours))
 }
 
 /// The same, where a difference ends the run and shows the case, if it is small.
@@ -28,13 +32,10 @@ pub fn both(list: &[u8], doc: &[u8], room: usize) -> (Numbers, Vec<u8>) {
     })
 }
 
-/// The cut and the number of elements selected, where there is one; the room is first too small, then just enough.
+/// The cut and the number of elements selected, where there is one. A cut has less than twice the bytes of its document.
 pub fn cut(list: &[u8], doc: &[u8]) -> Option<(Vec<u8>, u64)> {
-    let (short, _) = both(list, doc, 0);
-    if short.number != 9 {
-        return None;
-    }
-    let (written, bytes) = both(list, doc, short.second as usize);
-    assert_eq!((written.number, written.second), (0, short.second));
-    Some((bytes, written.third))
+    let (answer, mut bytes) = both(list, doc, 2 * doc.len());
+    assert_ne!(answer.number, 9, "a cut of twice its document's length");
+    bytes.truncate(answer.second as usize);
+    Some((bytes, answer.third)).filter(|_| answer.number == 0)
 }

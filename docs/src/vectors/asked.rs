@@ -2,8 +2,8 @@
 // buffer, so it also says that a refusal changed nothing and that the bytes after a cut stayed.
 
 use crate::crc::crc32;
-use vectors::made::Case;
 use second::Numbers;
+use vectors::made::Case;
 
 /// The buffer before a call. 251 is prime, so no shift of the bytes by a power of two looks like the bytes themselves.
 pub fn fresh(room: usize) -> Vec<u8> {

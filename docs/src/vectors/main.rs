@@ -18,8 +18,7 @@ use vectors::suite;
 const SEED: u64 = 19_980_210;
 const MADE: usize = 24_000;
 
-const COMMANDS: &str =
-    "pack FOLDER | answers FOLDER | verdicts [--folder DIR] | counts FOLDER | show FOLDER PACK N";
+const COMMANDS: &str = "pack FOLDER | answers FOLDER | verdicts [--folder DIR] | counts FOLDER | show FOLDER PACK N";
 
 fn main() -> ExitCode {
     let words: Vec<String> = std::env::args().skip(1).collect();
@@ -55,14 +54,10 @@ fn write(folder: &str) -> Result<bool, String> {
         return Ok(false);
     }
     fs::create_dir_all(folder).map_err(|e| format!("{folder}: {e}"))?;
-    for (name, cases) in PACKS
-        .iter()
-        .zip([suite::cases()?, named::cases(), made_cases()])
-    {
+    for (name, cases) in PACKS.iter().zip([suite::cases()?, named::cases(), made_cases()]) {
         let bytes = pack::write(&cases);
         println!("{name}: {} cases, {} bytes", cases.len(), bytes.len());
-        fs::write(format!("{folder}/{name}"), bytes)
-            .map_err(|e| format!("{folder}/{name}: {e}"))?;
+        fs::write(format!("{folder}/{name}"), bytes).map_err(|e| format!("{folder}/{name}: {e}"))?;
     }
     Ok(true)
 }
@@ -96,10 +91,7 @@ fn counts(folder: &str) -> Result<bool, String> {
         }
         println!("{name}: {} cases", cases.len());
         for (number, count) in by_number.iter().enumerate() {
-            println!(
-                "  {number}: {count}, {:.1} %",
-                100.0 * f64::from(*count) / cases.len() as f64
-            );
+            println!("  {number}: {count}, {:.1} %", 100.0 * f64::from(*count) / cases.len() as f64);
         }
     }
     Ok(true)

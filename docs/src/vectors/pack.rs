@@ -26,13 +26,7 @@ pub fn write(cases: &[Case]) -> Vec<u8> {
     for case in cases {
         assert!(case.list.len() <= LIST && case.doc.len() <= DOC && case.room <= ROOM);
         let (lists, docs) = (common(list, &case.list), common(doc, &case.doc));
-        for number in [
-            lists,
-            case.list.len() - lists,
-            docs,
-            case.doc.len() - docs,
-            case.room,
-        ] {
+        for number in [lists, case.list.len() - lists, docs, case.doc.len() - docs, case.room] {
             pack.extend_from_slice(&(number as u16).to_le_bytes());
         }
         pack.extend_from_slice(&case.list[lists..]);
@@ -52,17 +46,9 @@ fn cases(mut pack: &[u8]) -> Option<Vec<Case>> {
             let bytes = take(&mut pack, 2)?;
             *number = usize::from(bytes[0]) + 256 * usize::from(bytes[1]);
         }
-        let mut list = cases
-            .last()
-            .map_or(&[][..], |c| &c.list)
-            .get(..numbers[0])?
-            .to_vec();
+        let mut list = cases.last().map_or(&[][..], |c| &c.list).get(..numbers[0])?.to_vec();
         list.extend_from_slice(take(&mut pack, numbers[1])?);
-        let mut doc = cases
-            .last()
-            .map_or(&[][..], |c| &c.doc)
-            .get(..numbers[2])?
-            .to_vec();
+        let mut doc = cases.last().map_or(&[][..], |c| &c.doc).get(..numbers[2])?.to_vec();
         doc.extend_from_slice(take(&mut pack, numbers[3])?);
         let room = numbers[4];
         cases.push(Case { list, doc, room });

@@ -19,11 +19,7 @@ pub fn show(case: &Case) {
 
 fn bytes(text: &[u8]) {
     for line in text.split_inclusive(|b| *b == b'\n') {
-        let shown: String = line
-            .iter()
-            .flat_map(|b| std::ascii::escape_default(*b))
-            .map(char::from)
-            .collect();
+        let shown: String = line.iter().flat_map(|b| std::ascii::escape_default(*b)).map(char::from).collect();
         println!("| {shown}");
     }
 }

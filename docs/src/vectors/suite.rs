@@ -27,22 +27,14 @@ fn row(line: &str) -> Result<Row, String> {
     let mut fields = line.split('\t');
     match (fields.next(), fields.next(), fields.next()) {
         (Some(file), Some(verdict), Some(class)) if ["accepted", "refused"].contains(&verdict) => {
-            Ok(Row {
-                file: file.into(),
-                accepted: verdict == "accepted",
-                class: class.into(),
-            })
+            Ok(Row { file: file.into(), accepted: verdict == "accepted", class: class.into() })
         }
         _ => Err(format!("{TABLE}: {line}")),
     }
 }
 
 fn case(list: &str, doc: &[u8]) -> Case {
-    Case {
-        list: list.into(),
-        doc: doc.into(),
-        room: ROOM,
-    }
+    Case { list: list.into(), doc: doc.into(), room: ROOM }
 }
 
 /// Every file that is in the repository, plainly selected throughout and then marked throughout.
@@ -67,10 +59,7 @@ pub fn verdicts(folder: &str, program: Program) -> Result<bool, String> {
     for class in ["direct", "derived"] {
         for accepted in [true, false] {
             let mut right = 0;
-            for row in rows
-                .iter()
-                .filter(|r| r.class == class && r.accepted == accepted)
-            {
+            for row in rows.iter().filter(|r| r.class == class && r.accepted == accepted) {
                 match judged(folder, row, program) {
                     None => missing += 1,
                     Some(true) => right += 1,
@@ -80,10 +69,7 @@ pub fn verdicts(folder: &str, program: Program) -> Result<bool, String> {
             println!("{class} {}: {right} right", verdict(accepted));
         }
     }
-    println!(
-        "{} rows, {missing} not in {folder}, {wrong} wrong",
-        rows.len()
-    );
+    println!("{} rows, {missing} not in {folder}, {wrong} wrong", rows.len());
     Ok(wrong == 0 && missing < rows.len())
 }
 
@@ -101,11 +87,7 @@ fn judged(folder: &str, row: &Row, program: Program) -> Option<bool> {
     let (number, place) = program(&case("//*\n", &doc));
     let right = (number == 0) == row.accepted;
     if !right {
-        println!(
-            "wrong: {} should be {}, answer {number} {place}",
-            row.file,
-            verdict(row.accepted)
-        );
+        println!("wrong: {} should be {}, answer {number} {place}", row.file, verdict(row.accepted));
     }
     Some(right)
 }

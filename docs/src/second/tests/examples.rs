@@ -5,13 +5,7 @@ use super::{kept, kept_in, numbers, refused_in};
 use crate::Numbers;
 
 /// A row of the table: the list with its LFs, the document, the room, the numbers, and the cut under 0.
-type Row = (
-    &'static str,
-    &'static str,
-    usize,
-    (u64, usize, u64),
-    &'static str,
-);
+type Row = (&'static str, &'static str, usize, (u64, usize, u64), &'static str);
 
 const B: &str = "<g><p><v/></p></g>";
 const F: &str = "<g><v k=\"1\"><n>Aar</n></v></g>";
@@ -19,29 +13,11 @@ const ROWS: [Row; 12] = [
     ("", "<g/>", 40, (0, 7, 0), "<g></g>"),
     ("//v\n", B, 40, (0, 21, 1), "<g><p><v></v></p></g>"),
     ("/v\n", B, 40, (0, 7, 0), "<g></g>"),
-    (
-        "//a/b\n",
-        "<a><c/><b/></a>",
-        40,
-        (0, 14, 1),
-        "<a><b></b></a>",
-    ),
-    (
-        "//a/a/b\n",
-        "<a><a><a><b/></a></a></a>",
-        40,
-        (0, 28, 1),
-        "<a><a><a><b></b></a></a></a>",
-    ),
+    ("//a/b\n", "<a><c/><b/></a>", 40, (0, 14, 1), "<a><b></b></a>"),
+    ("//a/a/b\n", "<a><a><a><b/></a></a></a>", 40, (0, 28, 1), "<a><a><a><b></b></a></a></a>"),
     ("//n #\n", F, 40, (0, 24, 1), "<g><v><n>Aar</n></v></g>"),
     ("//v\n", F, 40, (0, 20, 1), "<g><v k=\"1\"></v></g>"),
-    (
-        "//v #\n//n\n",
-        "<g><v><n/></v></g>",
-        40,
-        (0, 18, 2),
-        "<g><v><n/></v></g>",
-    ),
+    ("//v #\n//n\n", "<g><v><n/></v></g>", 40, (0, 18, 2), "<g><v><n/></v></g>"),
     ("//v\n", "<g><v></g>", 40, (7, 6, 0), ""),
     ("//v\n", "", 40, (7, 0, 0), ""),
     ("v\n", "<g/>", 40, (2, 1, 0), ""),
@@ -74,30 +50,15 @@ fn going_back_at_an_end_tag() {
 
 #[test]
 fn taking_another_place_than_the_first_that_fits() {
-    kept(
-        "//a/a/b\n",
-        "<a><a><a><b/></a></a></a>",
-        "<a><a><a><b></b></a></a></a>",
-        1,
-    );
+    kept("//a/a/b\n", "<a><a><a><b/></a></a></a>", "<a><a><a><b></b></a></a></a>", 1);
     // `a` fits at place 1 first, but its child at place 2 is `c`; the fitting `a` is at place 3.
-    kept(
-        "//a/b\n",
-        "<a><c><a><b/></a></c></a>",
-        "<a><c><a><b></b></a></c></a>",
-        1,
-    );
+    kept("//a/b\n", "<a><c><a><b/></a></c></a>", "<a><c><a><b></b></a></c></a>", 1);
 }
 
 #[test]
 fn no_attributes_on_a_chain_element() {
     kept("//n #\n", F, "<g><v><n>Aar</n></v></g>", 1);
-    kept(
-        "//n\n",
-        "<g x='1'><v k=\"1\"><n/></v></g>",
-        "<g><v><n></n></v></g>",
-        1,
-    );
+    kept("//n\n", "<g x='1'><v k=\"1\"><n/></v></g>", "<g><v><n></n></v></g>", 1);
     kept("", "<g x='1'/>", "<g></g>", 0);
 }
 

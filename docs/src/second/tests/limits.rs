@@ -60,11 +60,7 @@ fn attribute_names() {
 
 #[test]
 fn attributes_of_a_tag() {
-    let attributes = |count: usize| {
-        (0..count)
-            .map(|k| format!(" k{k}='{k}'"))
-            .collect::<String>()
-    };
+    let attributes = |count: usize| (0..count).map(|k| format!(" k{k}='{k}'")).collect::<String>();
     sound(format!("<g{}/>", attributes(32)));
     sound(format!("<g{}></g>", attributes(32)));
     fault(format!("<g{}/>", attributes(33)), 8, 0);
@@ -98,9 +94,7 @@ fn depth_by_empty_tags() {
 fn sizes_that_document_01_does_not_name() {
     let more = name(300);
     sound(format!("<?{more} x?><g/>"));
-    sound(format!(
-        "<g k='{more}'>{more}<!--{more}--><![CDATA[{more}]]></g>"
-    ));
+    sound(format!("<g k='{more}'>{more}<!--{more}--><![CDATA[{more}]]></g>"));
     sound("<g>".to_string() + &"<v/>".repeat(1_000) + "</g>");
     refused("//v\n", format!("<g>&{more};</g>"), 7, 3);
 }

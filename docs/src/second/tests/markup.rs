@@ -5,27 +5,10 @@ use super::{fault, sound};
 
 #[test]
 fn comments() {
-    for comment in [
-        "<!---->",
-        "<!-- -->",
-        "<!--->-->",
-        "<!--a-b-->",
-        "<!-- - -->",
-        "<!--&x;<]]>-->",
-        "<!--->a-->",
-    ] {
+    for comment in ["<!---->", "<!-- -->", "<!--->-->", "<!--a-b-->", "<!-- - -->", "<!--&x;<]]>-->", "<!--->a-->"] {
         sound(format!("{comment}<g>{comment}</g>{comment}"));
     }
-    for comment in [
-        "<!--",
-        "<!-->",
-        "<!--->",
-        "<!-- --",
-        "<!-- -- -->",
-        "<!-- --->",
-        "<!----->",
-        "<!--a--b-->",
-    ] {
+    for comment in ["<!--", "<!-->", "<!--->", "<!-- --", "<!-- -- -->", "<!-- --->", "<!----->", "<!--a--b-->"] {
         fault(format!("{comment}<g/>"), 7, 0);
         fault(format!("<g>{comment}</g>"), 7, 3);
     }
@@ -34,24 +17,11 @@ fn comments() {
 
 #[test]
 fn cdata_sections() {
-    for section in [
-        "<![CDATA[]]>",
-        "<![CDATA[]]]>",
-        "<![CDATA[]]]]>",
-        "<![CDATA[<&x;--]]>",
-        "<![CDATA[<![CDATA[]]>",
-    ] {
+    for section in ["<![CDATA[]]>", "<![CDATA[]]]>", "<![CDATA[]]]]>", "<![CDATA[<&x;--]]>", "<![CDATA[<![CDATA[]]>"] {
         sound(format!("<g>{section}</g>"));
         fault(format!("{section}<g/>"), 7, 0);
     }
-    for section in [
-        "<![CDATA[",
-        "<![CDATA[]]",
-        "<![CDATA[]] >",
-        "<![CDATA [ ]]>",
-        "<![CDATA",
-        "<![ CDATA[]]>",
-    ] {
+    for section in ["<![CDATA[", "<![CDATA[]]", "<![CDATA[]] >", "<![CDATA [ ]]>", "<![CDATA", "<![ CDATA[]]>"] {
         fault(format!("<g>{section}</g>"), 7, 3);
     }
     fault("<g><![CDATA[]]>]]></g>", 7, 15);
@@ -59,41 +29,13 @@ fn cdata_sections() {
 
 #[test]
 fn instructions() {
-    for instruction in [
-        "<?p?>",
-        "<?p ?>",
-        "<?p x?>",
-        "<?p ??>",
-        "<?p\n<&--?>",
-        "<?xm?>",
-        "<?xmls?>",
-        "<?xml-s x?>",
-        "<?:?>",
-    ] {
+    for instruction in ["<?p?>", "<?p ?>", "<?p x?>", "<?p ??>", "<?p\n<&--?>", "<?xm?>", "<?xmls?>", "<?xml-s x?>", "<?:?>"] {
         sound(format!("{instruction}<g>{instruction}</g>{instruction}"));
     }
-    for instruction in [
-        "<?",
-        "<??>",
-        "<? p?>",
-        "<?p",
-        "<?p x>",
-        "<?p?x?>",
-        "<?p>?>",
-        "<?1?>",
-        "<?p ?",
-        "<?p\"\"?>",
-    ] {
+    for instruction in ["<?", "<??>", "<? p?>", "<?p", "<?p x>", "<?p?x?>", "<?p>?>", "<?1?>", "<?p ?", "<?p\"\"?>"] {
         fault(format!("<g>{instruction}</g>"), 7, 3);
     }
-    for instruction in [
-        "<?xml?>",
-        "<?XML x?>",
-        "<?Xml ?>",
-        "<?xMl?>",
-        "<?xml x?>",
-        "<?XML version='1.0'?>",
-    ] {
+    for instruction in ["<?xml?>", "<?XML x?>", "<?Xml ?>", "<?xMl?>", "<?xml x?>", "<?XML version='1.0'?>"] {
         fault(format!("{instruction}<g/>"), 7, 0);
         fault(format!("<g>{instruction}</g>"), 7, 3);
     }
@@ -101,9 +43,7 @@ fn instructions() {
 
 #[test]
 fn text() {
-    for text in [
-        "x", "]", "]]", "]>", "> >", "]] >", "\"'", "?>", "-->", "/>", "\r\n\t ",
-    ] {
+    for text in ["x", "]", "]]", "]>", "> >", "]] >", "\"'", "?>", "-->", "/>", "\r\n\t "] {
         sound(format!("<g>{text}</g>"));
     }
     for text in ["]]>", "x]]>x", "]]]>", "]]]]>"] {

@@ -11,17 +11,9 @@ fn prints(list: impl AsRef<[u8]>, doc: impl AsRef<[u8]>, expected: &str) {
 
 #[test]
 fn kept_and_refused() {
-    prints(
-        "//v\n",
-        "<g><p><v/></p></g>",
-        "kept 1 21\n<g><p><v></v></p></g>\n",
-    );
+    prints("//v\n", "<g><p><v/></p></g>", "kept 1 21\n<g><p><v></v></p></g>\n");
     prints("", "<g/>", "kept 0 7\n<g></g>\n");
-    prints(
-        "//v #\n//n\n",
-        "<g><v><n/></v></g>",
-        "kept 2 18\n<g><v><n/></v></g>\n",
-    );
+    prints("//v #\n//n\n", "<g><v><n/></v></g>", "kept 2 18\n<g><v><n/></v></g>\n");
     prints("//v\n", "<g><v></g>", "refused 7 6\n");
     prints("v\n", "<g/>", "refused 2 1\n");
 }
@@ -42,9 +34,5 @@ fn the_room_is_enough_for_the_longest_cut() {
     let name = "n".repeat(255);
     let doc = format!("<g>{}</g>", format!("<{name}/>").repeat(126));
     let bytes = format!("<g>{}</g>", format!("<{name}></{name}>").repeat(126));
-    prints(
-        "/g/*\n",
-        doc,
-        &format!("kept 126 {}\n{bytes}\n", 126 * 515 + 7),
-    );
+    prints("/g/*\n", doc, &format!("kept 126 {}\n{bytes}\n", 126 * 515 + 7));
 }

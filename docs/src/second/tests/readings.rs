@@ -15,12 +15,7 @@ fn reading_01_a_last_line_without_lf_is_malformed() {
 #[test]
 fn reading_02_bytes_of_no_name_make_the_line_malformed() {
     refused(b"//v\xFF\n", DOC, 2, 1);
-    refused(
-        [b"//", "v".repeat(300).as_bytes(), b"\xFF\n"].concat(),
-        DOC,
-        2,
-        1,
-    );
+    refused([b"//", "v".repeat(300).as_bytes(), b"\xFF\n"].concat(), DOC, 2, 1);
     refused(format!("//{}\u{D7}\n", "v".repeat(300)), DOC, 2, 1);
 }
 

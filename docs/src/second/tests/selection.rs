@@ -26,18 +26,8 @@ fn child_steps() {
 #[test]
 fn descendant_steps() {
     let doc = "<g><p><v/></p><v/><q><p><v/></p></q></g>";
-    kept(
-        "/g//v\n",
-        doc,
-        "<g><p><v></v></p><v></v><q><p><v></v></p></q></g>",
-        3,
-    );
-    kept(
-        "/g//p/v\n",
-        doc,
-        "<g><p><v></v></p><q><p><v></v></p></q></g>",
-        2,
-    );
+    kept("/g//v\n", doc, "<g><p><v></v></p><v></v><q><p><v></v></p></q></g>", 3);
+    kept("/g//p/v\n", doc, "<g><p><v></v></p><q><p><v></v></p></q></g>", 2);
     kept("//q//v\n", doc, "<g><q><p><v></v></p></q></g>", 1);
     kept("//q/v\n", doc, "<g></g>", 0);
     kept("//*//*//*//*\n", doc, "<g><q><p><v></v></p></q></g>", 1);
@@ -57,38 +47,13 @@ fn a_step_stands_at_least_one_place_below() {
 #[test]
 fn choices_taken_back() {
     // The lower `v` has `v` directly above it; the middle one has `x`.
-    kept(
-        "/g//v/v\n",
-        "<g><v><x><v><v/></v></x></v></g>",
-        "<g><v><x><v><v></v></v></x></v></g>",
-        1,
-    );
+    kept("/g//v/v\n", "<g><v><x><v><v/></v></x></v></g>", "<g><v><x><v><v></v></v></x></v></g>", 1);
     // Only the upper `a` has `b` as its child, only the lower one is nearest to `c`.
-    kept(
-        "//a/b//c\n",
-        "<a><b><a><c/></a></b></a>",
-        "<a><b><a><c></c></a></b></a>",
-        1,
-    );
+    kept("//a/b//c\n", "<a><b><a><c/></a></b></a>", "<a><b><a><c></c></a></b></a>", 1);
     // Only the lower `a` has `b` as its child.
-    kept(
-        "//a/b//c\n",
-        "<a><x><a><b><c/></b></a></x></a>",
-        "<a><x><a><b><c></c></b></a></x></a>",
-        1,
-    );
-    kept(
-        "//a/*/a/b\n",
-        "<a><a><a><a><b/></a></a></a></a>",
-        "<a><a><a><a><b></b></a></a></a></a>",
-        1,
-    );
-    kept(
-        "/a/*/a/b\n",
-        "<a><a><a><a><b/></a></a></a></a>",
-        "<a></a>",
-        0,
-    );
+    kept("//a/b//c\n", "<a><x><a><b><c/></b></a></x></a>", "<a><x><a><b><c></c></b></a></x></a>", 1);
+    kept("//a/*/a/b\n", "<a><a><a><a><b/></a></a></a></a>", "<a><a><a><a><b></b></a></a></a></a>", 1);
+    kept("/a/*/a/b\n", "<a><a><a><a><b/></a></a></a></a>", "<a></a>", 0);
 }
 
 #[test]
@@ -98,28 +63,13 @@ fn names_are_equal_when_their_bytes_are() {
     kept("//V\n", doc, "<g><V></V></g>", 1);
     kept("//p:v\n", doc, "<g><p:v></p:v></g>", 1);
     kept("//v.1\n", doc, "<g><v.1></v.1></g>", 1);
-    kept(
-        "/g/*\n",
-        doc,
-        "<g><v></v><V></V><vv></vv><p:v></p:v><v.1></v.1></g>",
-        5,
-    );
+    kept("/g/*\n", doc, "<g><v></v><V></V><vv></vv><p:v></p:v><v.1></v.1></g>", 5);
 }
 
 #[test]
 fn the_count_is_of_elements() {
-    kept(
-        "//v\n//*\n/g/v #\n",
-        "<g><v><v/></v></g>",
-        "<g><v><v/></v></g>",
-        3,
-    );
-    kept(
-        "//v #\n//x\n",
-        "<g><v><w><x/><x/></w></v><x/></g>",
-        "<g><v><w><x/><x/></w></v><x></x></g>",
-        4,
-    );
+    kept("//v\n//*\n/g/v #\n", "<g><v><v/></v></g>", "<g><v><v/></v></g>", 3);
+    kept("//v #\n//x\n", "<g><v><w><x/><x/></w></v><x/></g>", "<g><v><w><x/><x/></w></v><x></x></g>", 4);
 }
 
 #[test]

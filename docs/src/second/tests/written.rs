@@ -6,31 +6,16 @@ use super::kept;
 #[test]
 fn a_marked_entry_is_kept_as_it_came() {
     let entry = "<v\tk = \"a&#10;b\" >x&amp;<!--c--><?p?><![CDATA[<]]>\r\n<n /><m></m ></v\n>";
-    kept(
-        "//v #\n",
-        format!("<g z=''>t{entry}t</g>"),
-        format!("<g>{entry}</g>"),
-        1,
-    );
+    kept("//v #\n", format!("<g z=''>t{entry}t</g>"), format!("<g>{entry}</g>"), 1);
     kept("/v #\n", entry, entry, 1);
-    kept(
-        "/v #\n",
-        format!("\u{FEFF}<?xml version='1.0'?>\n<!--c-->{entry}<?p?>\n"),
-        entry,
-        1,
-    );
+    kept("/v #\n", format!("\u{FEFF}<?xml version='1.0'?>\n<!--c-->{entry}<?p?>\n"), entry, 1);
 }
 
 #[test]
 fn a_plain_element_keeps_its_tag_and_nothing_under_it() {
     let doc = "<g>t<v\tk = \"a&#10;b\" >x&amp;<!--c--><?p?><![CDATA[<]]><n/></v\n>t</g>";
     kept("//v\n", doc, "<g><v\tk = \"a&#10;b\" ></v></g>", 1);
-    kept(
-        "//v\n//n\n",
-        doc,
-        "<g><v\tk = \"a&#10;b\" ><n></n></v></g>",
-        2,
-    );
+    kept("//v\n//n\n", doc, "<g><v\tk = \"a&#10;b\" ><n></n></v></g>", 2);
 }
 
 #[test]
@@ -52,12 +37,7 @@ fn chain_elements_have_neither_attributes_nor_blanks() {
 
 #[test]
 fn a_branch_with_nothing_selected_is_dropped() {
-    kept(
-        "//v\n",
-        "<g><p><q/></p><p><v/></p><p/></g>",
-        "<g><p><v></v></p></g>",
-        1,
-    );
+    kept("//v\n", "<g><p><q/></p><p><v/></p><p/></g>", "<g><p><v></v></p></g>", 1);
     kept("//x\n", "<g><p><q/></p><p><v/></p><p/></g>", "<g></g>", 0);
     kept("", "<g a='1'>x<p/></g>", "<g></g>", 0);
 }
@@ -70,31 +50,16 @@ fn marked_and_plain_inside_each_other() {
     kept("//v #\n//n #\n", doc, doc, 2);
     kept("//*\n", doc, "<g><v k='1'><n></n></v></g>", 3);
     // The same name marked at one place and plain at another.
-    kept(
-        "//v/v #\n//v\n",
-        "<v>a<v>b<v>c</v></v></v>",
-        "<v><v>b<v>c</v></v></v>",
-        3,
-    );
+    kept("//v/v #\n//v\n", "<v>a<v>b<v>c</v></v></v>", "<v><v>b<v>c</v></v></v>", 3);
 }
 
 #[test]
 fn names_of_more_than_one_byte_a_character() {
     let doc = "<\u{E9}><\u{10000} \u{4E00}='\u{E9}'/></\u{E9}>";
-    kept(
-        "//\u{10000}\n",
-        doc,
-        "<\u{E9}><\u{10000} \u{4E00}='\u{E9}'></\u{10000}></\u{E9}>",
-        1,
-    );
+    kept("//\u{10000}\n", doc, "<\u{E9}><\u{10000} \u{4E00}='\u{E9}'></\u{10000}></\u{E9}>", 1);
 }
 
 #[test]
 fn order_is_that_of_the_document() {
-    kept(
-        "//b #\n//a\n",
-        "<g><a/><b/><a>x</a><b>y</b></g>",
-        "<g><a></a><b/><a></a><b>y</b></g>",
-        4,
-    );
+    kept("//b #\n//a\n", "<g><a/><b/><a>x</a><b>y</b></g>", "<g><a></a><b/><a></a><b>y</b></g>", 4);
 }

@@ -25,13 +25,7 @@ const OUTSIDE: &[&str] = &[
     "<?p?>", "<?xml-s?>",
 ];
 
-const DOCTYPES: &[&str] = &[
-    "<!DOCTYPE",
-    "<!DOCTYPE g>",
-    "<!DOCTYPE a []>",
-    "<!DOCTYPEa>",
-    "<!doctype g>",
-];
+const DOCTYPES: &[&str] = &["<!DOCTYPE", "<!DOCTYPE g>", "<!DOCTYPE a []>", "<!DOCTYPEa>", "<!doctype g>"];
 
 #[rustfmt::skip]
 const IN_LISTS: &[&[u8]] = &[
@@ -72,10 +66,7 @@ fn damaged(bytes: &[u8], from: usize, fragments: &[&[u8]], random: &mut Random) 
     for _ in 0..random.pick(&[1, 1, 1, 1, 1, 2]) {
         let mut at = random.between(from.min(bytes.len()), bytes.len());
         if random.one_in(2) {
-            at += bytes[at..]
-                .iter()
-                .take_while(|b| !b"<&/".contains(b))
-                .count();
+            at += bytes[at..].iter().take_while(|b| !b"<&/".contains(b)).count();
         }
         hurt(&mut bytes, at, fragments, random);
     }

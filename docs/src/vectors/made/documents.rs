@@ -53,21 +53,10 @@ struct Grower<'a> {
 }
 
 pub fn document(random: &mut Random) -> Grown {
-    let names = (0..random.between(2, 4))
-        .map(|_| random.pick(NAMES))
-        .collect();
+    let names = (0..random.between(2, 4)).map(|_| random.pick(NAMES)).collect();
     let left = random.between(1, 14);
-    let grown = Grown {
-        bytes: Vec::new(),
-        names,
-        chains: Vec::new(),
-    };
-    let mut grower = Grower {
-        random,
-        grown,
-        chain: Vec::new(),
-        left,
-    };
+    let grown = Grown { bytes: Vec::new(), names, chains: Vec::new() };
+    let mut grower = Grower { random, grown, chain: Vec::new(), left };
     grower.document();
     grower.grown
 }

@@ -23,12 +23,7 @@ pub fn near(random: &mut Random) -> Near {
         _ => bytes(random),
     };
     let (list_from, doc_from) = (list.len().saturating_sub(60), doc.len().saturating_sub(120));
-    Near {
-        list: list.into_bytes(),
-        doc: doc.into_bytes(),
-        list_from,
-        doc_from,
-    }
+    Near { list: list.into_bytes(), doc: doc.into_bytes(), list_from, doc_from }
 }
 
 /// The list with a line more that makes it too large, or nearly.
@@ -58,30 +53,16 @@ pub fn crowded(doc: &[u8], random: &mut Random) -> Vec<u8> {
 fn deep(random: &mut Random) -> (String, String) {
     let levels = random.between(63, 66);
     let names: Vec<&str> = (0..levels).map(|_| random.pick(&["a", "a", "b"])).collect();
-    let mut doc: String = names[..levels - 1]
-        .iter()
-        .map(|name| format!("<{name}>"))
-        .collect();
+    let mut doc: String = names[..levels - 1].iter().map(|name| format!("<{name}>")).collect();
     let last = names[levels - 1];
-    doc += &if random.one_in(2) {
-        format!("<{last}/>")
-    } else {
-        format!("<{last}>Aar</{last}>")
-    };
+    doc += &if random.one_in(2) { format!("<{last}/>") } else { format!("<{last}>Aar</{last}>") };
     for name in names[..levels - 1].iter().rev() {
         doc += &format!("</{name}>");
         if random.one_in(20) {
             doc += random.pick(&["<a/>", "<b/>", "Aar"]);
         }
     }
-    let list = random.pick(&[
-        "//a//b//a\n",
-        "//a/a/a\n//b #\n",
-        "/a/*//b/a\n",
-        "//*\n",
-        "//b//a #\n/*\n",
-        "//a/b/a/b\n",
-    ]);
+    let list = random.pick(&["//a//b//a\n", "//a/a/a\n//b #\n", "/a/*//b/a\n", "//*\n", "//b//a #\n/*\n", "//a/b/a/b\n"]);
     (list.into(), doc)
 }
 
@@ -94,23 +75,14 @@ fn many(count: usize, twice: usize) -> String {
 /// 31 to 34 attributes in one tag, at times with a name twice.
 fn attributes(random: &mut Random) -> (String, String) {
     let count = random.between(31, 34);
-    let twice = if random.one_in(4) {
-        random.below(count)
-    } else {
-        count
-    };
+    let twice = if random.one_in(4) { random.below(count) } else { count };
     let tag = many(count, twice);
     let doc = match random.below(3) {
         0 => format!("<g{tag}/>"),
         1 => format!("<g><v{tag}/><n/></g>"),
         _ => format!("<g><v{tag}><n/></v></g>"),
     };
-    (
-        random
-            .pick(&["//v\n", "//n\n", "//* #\n", "/g\n", ""])
-            .into(),
-        doc,
-    )
+    (random.pick(&["//v\n", "//n\n", "//* #\n", "/g\n", ""]).into(), doc)
 }
 
 /// A name of so many bytes, of characters of one to four bytes; what is over is filled up by one byte each.
@@ -145,9 +117,7 @@ fn names(random: &mut Random) -> (String, String) {
 fn lines(random: &mut Random) -> (String, String) {
     let doc = documents::document(random);
     let count = random.between(31, 34);
-    let mut list: String = (1..count)
-        .map(|_| random.pick(&["/a\n", "/b\n", "//a\n", "/* #\n"]))
-        .collect();
+    let mut list: String = (1..count).map(|_| random.pick(&["/a\n", "/b\n", "//a\n", "/* #\n"])).collect();
     list += &match random.below(4) {
         0 => random.pick(&["\n", "a\n", "/a", "/a #", "/"]).to_string(),
         _ => lists::line(random, &doc),
@@ -166,14 +136,7 @@ fn steps(random: &mut Random) -> (String, String) {
     }
     list += random.pick(&["\n", "\n", " #\n", " # \n", "/\n"]);
     let levels = random.between(count - 1, count + 2);
-    (
-        list,
-        format!(
-            "{}<a k='1'/><b/>{}",
-            "<a>".repeat(levels - 1),
-            "</a>".repeat(levels - 1)
-        ),
-    )
+    (list, format!("{}<a k='1'/><b/>{}", "<a>".repeat(levels - 1), "</a>".repeat(levels - 1)))
 }
 
 /// A list of 8,191 to 8,194 bytes, of 32 lines of up to 256 bytes. The last line is the one that varies.

@@ -21,11 +21,7 @@ pub fn list(random: &mut Random, grown: &Grown) -> Vec<u8> {
 
 /// One line with its line feed.
 pub fn line(random: &mut Random, grown: &Grown) -> String {
-    let steps = if random.one_in(2) {
-        laid(random, grown)
-    } else {
-        loose(random, grown)
-    };
+    let steps = if random.one_in(2) { laid(random, grown) } else { loose(random, grown) };
     let mark = if random.one_in(4) { " #" } else { "" };
     format!("{steps}{mark}\n")
 }
@@ -38,11 +34,7 @@ fn laid(random: &mut Random, grown: &Grown) -> String {
     for (i, name) in chain.iter().enumerate() {
         let stands = i + 1 == chain.len() || !random.one_in(3);
         if stands {
-            steps += if next_to && !random.one_in(4) {
-                "/"
-            } else {
-                "//"
-            };
+            steps += if next_to && !random.one_in(4) { "/" } else { "//" };
             steps += if random.one_in(5) { "*" } else { *name };
         }
         next_to = stands;
@@ -54,11 +46,7 @@ fn loose(random: &mut Random, grown: &Grown) -> String {
     let mut steps = String::new();
     for _ in 0..random.pick(&[1, 1, 2, 2, 3, 4, 5]) {
         steps += random.pick(&["/", "//"]);
-        steps += if random.one_in(4) {
-            "*"
-        } else {
-            random.pick(&grown.names)
-        };
+        steps += if random.one_in(4) { "*" } else { random.pick(&grown.names) };
     }
     steps
 }

@@ -99,25 +99,11 @@ fn near(cases: &mut Vec<Case>, random: &mut Random) {
     let near = limits::near(random);
     every_room(cases, &near.list, &near.doc, random);
     for _ in 0..5 {
-        push(
-            cases,
-            &damage::list(&near.list, near.list_from, random),
-            &near.doc,
-            random,
-        );
+        push(cases, &damage::list(&near.list, near.list_from, random), &near.doc, random);
     }
-    let list = if near.list.len() > 1_000 {
-        b"//n\n".to_vec()
-    } else {
-        near.list
-    };
+    let list = if near.list.len() > 1_000 { b"//n\n".to_vec() } else { near.list };
     for _ in 0..6 {
-        push(
-            cases,
-            &list,
-            &damage::document(&near.doc, near.doc_from, random),
-            random,
-        );
+        push(cases, &list, &damage::document(&near.doc, near.doc_from, random), random);
     }
 }
 
@@ -155,10 +141,6 @@ fn cut_off(cases: &mut Vec<Case>, list: &[u8], doc: &[u8]) {
 fn written(list: &[u8], doc: &[u8]) -> Vec<u8> {
     let mut out = vec![0; 2 * doc.len()];
     let numbers = second::cut(list, doc, &mut out);
-    out.truncate(if numbers.number == 0 {
-        numbers.second as usize
-    } else {
-        0
-    });
+    out.truncate(if numbers.number == 0 { numbers.second as usize } else { 0 });
     out
 }

@@ -34,8 +34,8 @@ mod tags;
 mod written;
 
 use crate::asked::{ask, fresh};
-use vectors::made::Case;
 use crate::show::show;
+use vectors::made::Case;
 
 /// A case, and by hand: its three numbers, and the cut under 0.
 pub struct Named {
@@ -53,28 +53,15 @@ impl Named {
 }
 
 /// Answer 0: the cut, and how many elements are selected.
-fn kept(
-    list: impl AsRef<[u8]>,
-    doc: impl AsRef<[u8]>,
-    cut: impl AsRef<[u8]>,
-    selected: u64,
-) -> Named {
+fn kept(list: impl AsRef<[u8]>, doc: impl AsRef<[u8]>, cut: impl AsRef<[u8]>, selected: u64) -> Named {
     let cut = cut.as_ref().to_vec();
     let length = cut.len();
-    Named {
-        case: case(list, doc, length + 5),
-        numbers: (0, length as u64, selected),
-        cut,
-    }
+    Named { case: case(list, doc, length + 5), numbers: (0, length as u64, selected), cut }
 }
 
 /// Any other answer: its number and second number.
 fn refused(list: impl AsRef<[u8]>, doc: impl AsRef<[u8]>, number: u64, second: usize) -> Named {
-    Named {
-        case: case(list, doc, 40),
-        numbers: (number, second as u64, 0),
-        cut: Vec::new(),
-    }
+    Named { case: case(list, doc, 40), numbers: (number, second as u64, 0), cut: Vec::new() }
 }
 
 /// The document is one element, and every item in it is sound: a path with a mark keeps it as it came.
@@ -89,11 +76,7 @@ fn fault(doc: impl AsRef<[u8]>, place: usize) -> Named {
 }
 
 fn case(list: impl AsRef<[u8]>, doc: impl AsRef<[u8]>, room: usize) -> Case {
-    Case {
-        list: list.as_ref().to_vec(),
-        doc: doc.as_ref().to_vec(),
-        room,
-    }
+    Case { list: list.as_ref().to_vec(), doc: doc.as_ref().to_vec(), room }
 }
 
 fn tables() -> Vec<Vec<Named>> {
@@ -116,25 +99,14 @@ fn tables() -> Vec<Vec<Named>> {
 }
 
 pub fn cases() -> Vec<Case> {
-    tables()
-        .into_iter()
-        .flatten()
-        .map(|named| named.case)
-        .collect()
+    tables().into_iter().flatten().map(|named| named.case).collect()
 }
 
 /// Whether the second program says of every case what is written here; shows each of which it does not.
 pub fn agree() -> bool {
-    let wrong: Vec<Named> = tables()
-        .into_iter()
-        .flatten()
-        .filter(|named| !agrees(named))
-        .collect();
+    let wrong: Vec<Named> = tables().into_iter().flatten().filter(|named| !agrees(named)).collect();
     for named in &wrong {
-        println!(
-            "by hand {:?}, but the second program says otherwise:",
-            named.numbers
-        );
+        println!("by hand {:?}, but the second program says otherwise:", named.numbers);
         show(&named.case);
     }
     wrong.is_empty()

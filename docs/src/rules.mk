@@ -1,0 +1,89 @@
+# Ordinary Rust: what makes the expected outputs, the second program and the cases, trials of the library beside it, and times.
+
+RUST = docs/src
+
+.PHONY: expected cases peers trials big fuzz suite speed parsers
+
+# The outputs that programs are held to are those of ordinary Rust, which shares nothing with the Rattle source. They are made again, the
+# packed cases too, and compared; and the suite's verdicts are held against the second program.
+VECTORS = crates/vectors
+expected: $(MADE)/vectors
+	rustc --edition 2021 -O -o $(MADE)/expected $(RUST)/expected/main.rs
+	$(MADE)/expected cases | cmp - crates/cases/stdout
+	$(MADE)/expected walks | cmp - crates/walks/stdout
+	rustc --edition 2021 -O --test -o $(MADE)/second-tests $(RUST)/second/lib.rs
+	$(MADE)/second-tests -q
+	$(MADE)/vectors pack $(MADE)/packs
+	for pack in suite named made; do cmp $(MADE)/packs/$$pack $(VECTORS)/data/$$pack || exit 1; done
+	$(MADE)/vectors answers $(VECTORS)/data | cmp - $(VECTORS)/stdout
+	$(MADE)/vectors verdicts
+
+cases: $(MADE)/vectors
+	$(MADE)/vectors pack $(VECTORS)/data
+	$(MADE)/vectors answers $(VECTORS)/data > $(VECTORS)/stdout
+
+# Ordinary Rust for this machine: the second program, and the cases with their answers by it.
+$(MADE)/libsecond.rlib: rust $(wildcard $(RUST)/second/*.rs)
+	@mkdir -p $(MADE)
+	rustc --edition 2021 -O --crate-type rlib --crate-name second -o $@ $(RUST)/second/lib.rs
+
+$(MADE)/libvectors.rlib: $(MADE)/libsecond.rlib
+	rustc --edition 2021 -O --crate-type rlib --crate-name vectors --extern second=$< -o $@ $(RUST)/vectors/lib.rs
+
+$(MADE)/vectors $(MADE)/peers: $(MADE)/%: $(MADE)/libvectors.rlib
+	rustc --edition 2021 -O -L $(MADE) --extern second=$(MADE)/libsecond.rlib --extern vectors=$< -o $@ $(RUST)/$*/main.rs
+
+# Outside judges, on the documents of the packs.
+peers: $(MADE)/peers
+	@{ command -v rxp && command -v xmllint; } > $(MADE)/found || $(call fetch,rxp libxml2-utils) || { \
+	    echo 'missing: an XML processor to compare with. Install the Debian packages rxp and libxml2-utils.'; exit 1; }
+	$(MADE)/peers $(VECTORS)/data
+
+# The static library and the second program in one program for x86-64.
+TRIALS = $(MADE)/x86/trials
+CASES = 1000000
+SEED = 1
+big: trials
+	$(RUN) $(TRIALS) big
+
+fuzz: trials
+	$(RUN) $(TRIALS) fuzz $(CASES) $(SEED)
+
+suite: trials
+	xmlconf/fetch.sh
+	$(RUN) $(TRIALS) suite target/xmlconf
+
+trials: library
+	@mkdir -p $(MADE)/x86
+	$(X86_RUSTC) --edition 2021 -O --crate-type rlib --crate-name second -o $(MADE)/x86/libsecond.rlib $(RUST)/second/lib.rs
+	$(X86_RUSTC) --edition 2021 -O --crate-type rlib --crate-name vectors --extern second=$(MADE)/x86/libsecond.rlib \
+	    -o $(MADE)/x86/libvectors.rlib $(RUST)/vectors/lib.rs
+	$(X86_RUSTC) --edition 2021 -O -L $(MADE)/x86 --extern second=$(MADE)/x86/libsecond.rlib --extern vectors=$(MADE)/x86/libvectors.rlib \
+	    --extern choughbell=$(MADE)/x86/libchoughbell.rlib -o $(TRIALS) $(RUST)/trials/main.rs
+
+# The crates' source, read as Rust, is timed on every machine. On x86-64, for which the toolchain makes code, the static library is too.
+# UNCHECKED= leaves index checks in. One unit, so that what is inlined does not go by modules.
+TIMED = utf8 points blocks chars paths lookup compiled matcher scans plain values instructions tags items document \
+    writer output passes cutter exported
+UNCHECKED = --unchecked
+WHAT = characters matcher cut
+ifeq ($(shell uname -m),x86_64)
+LINKED = --cfg linked -L target/staticlib -l static=exported
+endif
+
+speed: $(if $(LINKED),toolchain,rust) parsers
+	rustc --edition 2021 -O -o $(MADE)/source $(RUST)/speed/source.rs
+	$(MADE)/source $(UNCHECKED) $(TIMED) > $(MADE)/source.rs
+	$(if $(LINKED),rt staticlib exported)
+	@for part in $(WHAT); do \
+	    rustc --edition 2021 -O -C codegen-units=1 --cfg $$part $(LINKED) $$(cat $(MADE)/parsers) -o $(MADE)/$$part $(RUST)/speed/main.rs && \
+	    $(MADE)/$$part || exit 1; done
+
+# Other parsers, to be timed beside it. One that is missing is installed where that can be done; else it is said, and its rows stay out.
+parsers:
+	@mkdir -p $(MADE) && : > $(MADE)/parsers
+	@links() { echo 'int main(void) { return 0; }' | cc -x c - -l$$1 -o $(MADE)/links 2> /dev/null; }; \
+	parser() { links $$2 || $(call fetch,$$3); \
+	    if links $$2; then echo "--cfg $$1 -l $$2" >> $(MADE)/parsers; \
+	    else echo "missing: $$1, so its rows are left out. Install the Debian package $$3."; fi; }; \
+	parser expat expat libexpat1-dev; parser libxml xml2 libxml2-dev
