@@ -12,6 +12,7 @@
 # make big          the library, called from Rust, on documents of 16 MiB and about, beside the second program
 # make fuzz         the same on CASES cases of a generator, from SEED on
 # make suite        all 399 files of the W3C's suite that have no document type, which it fetches, by both
+# make wrong        the gate's wrong programs, of which each should answer some packed case otherwise
 # make peers        whether documents are well-formed, beside two XML processors from Debian
 # make speed        how fast the library is beside ordinary Rust and other parsers; WHAT=characters, matcher or cut names one part of it
 

@@ -2,7 +2,7 @@
 
 RUST = docs/src
 
-.PHONY: expected cases peers trials big fuzz suite speed parsers
+.PHONY: expected cases peers wrong trials big fuzz suite speed parsers
 
 # The outputs that programs are held to are those of ordinary Rust, which shares nothing with the Rattle source. They are made again, the
 # packed cases too, and compared; and the suite's verdicts are held against the second program.
@@ -38,6 +38,12 @@ peers: $(MADE)/peers
 	@{ command -v rxp && command -v xmllint; } > $(MADE)/found || $(call fetch,rxp libxml2-utils) || { \
 	    echo 'missing: an XML processor to compare with. Install the Debian packages rxp and libxml2-utils.'; exit 1; }
 	$(MADE)/peers $(VECTORS)/data
+
+# The gate's wrong programs on the packed cases, by the source read as Rust, with index checks.
+wrong: $(MADE)/libvectors.rlib
+	rustc --edition 2021 -O -o $(MADE)/source $(RUST)/speed/source.rs
+	rustc --edition 2021 -O -o $(MADE)/wrong $(RUST)/wrong/main.rs
+	$(MADE)/wrong $(TIMED)
 
 # The static library and the second program in one program for x86-64.
 TRIALS = $(MADE)/x86/trials

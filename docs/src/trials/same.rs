@@ -1,17 +1,10 @@
 // One call of both programs, on buffers that hold the same bytes before it. What they say and what they leave has to be the same.
 use choughbell::Numbers;
-
-/// Byte i is i modulo 251, so that a byte that is moved or left out shows.
-fn prepared(room: usize) -> Vec<u8> {
-    let turn: Vec<u8> = (0..251).collect();
-    let mut bytes = turn.repeat(room / 251 + 1);
-    bytes.truncate(room);
-    bytes
-}
+use vectors::asked::fresh;
 
 /// What both programs answer, and what both leave in a buffer of so many bytes; or how they differ.
 pub fn tried(list: &[u8], doc: &[u8], room: usize) -> Result<(Numbers, Vec<u8>), String> {
-    let (mut ours, mut theirs) = (prepared(room), prepared(room));
+    let (mut ours, mut theirs) = (fresh(room), fresh(room));
     let found = choughbell::cut(list, doc, &mut ours);
     let expected = second::cut(list, doc, &mut theirs);
     if (found.number, found.second, found.third) != (expected.number, expected.second, expected.third) {

@@ -1,15 +1,14 @@
 // Makes the cases that the filter is held to, and their answers by the second program (docs/src/second), which shares nothing with the
 // filter. Here are the commands; the cases are in named/ (by hand) and the library's suite.rs (W3C files) and made/ (by a generator),
-// the files that hold them in its pack.rs, a case asked and its digest in asked.rs and crc.rs, a case shown in show.rs. It is run from the
-// repository's top; `make target/rust/vectors` builds it.
+// the files that hold them in its pack.rs, a case asked and its digest in its asked.rs and crc.rs, a case shown in show.rs. It is run
+// from the repository's top; `make target/rust/vectors` builds it.
 
-mod asked;
-mod crc;
 mod named;
 mod show;
 
 use std::fs;
 use std::process::ExitCode;
+use vectors::asked::{ask, line, second};
 use vectors::made::{self, Case, Random};
 use vectors::pack::{self, read, PACKS};
 use vectors::suite;
@@ -26,8 +25,8 @@ fn main() -> ExitCode {
     let done = match words[..] {
         ["pack", folder] => write(folder),
         ["answers", folder] => answers(folder),
-        ["verdicts"] => suite::verdicts(suite::FILES, numbers),
-        ["verdicts", "--folder", folder] => suite::verdicts(folder, numbers),
+        ["verdicts"] => suite::verdicts(suite::FILES, second),
+        ["verdicts", "--folder", folder] => suite::verdicts(folder, second),
         ["counts", folder] => counts(folder),
         ["show", folder, pack, n] => show(folder, pack, n),
         _ => Err(COMMANDS.into()),
@@ -40,12 +39,6 @@ fn main() -> ExitCode {
             ExitCode::from(2)
         }
     }
-}
-
-/// What the second program answers.
-fn numbers(case: &Case) -> (u64, u64) {
-    let (numbers, _) = asked::ask(case);
-    (numbers.number, numbers.second)
 }
 
 /// Writes the packs, if the second program says of every named case what is written by hand.
@@ -75,7 +68,7 @@ fn answers(folder: &str) -> Result<bool, String> {
     for name in PACKS {
         println!("{name}");
         for case in read(folder, name)? {
-            println!("{}", asked::line(&case));
+            println!("{}", line(&case, second));
         }
     }
     Ok(true)
@@ -87,7 +80,7 @@ fn counts(folder: &str) -> Result<bool, String> {
         let cases = read(folder, name)?;
         let mut by_number = [0; 10];
         for case in &cases {
-            by_number[asked::ask(case).0.number as usize] += 1;
+            by_number[ask(case, second).0 .0 as usize] += 1;
         }
         println!("{name}: {} cases", cases.len());
         for (number, count) in by_number.iter().enumerate() {

@@ -1,7 +1,7 @@
 // A case in readable form, with the second program's answer, for whoever hunts a difference. A line that begins with `|` is bytes, in which
 // everything but printable ASCII stands as Rust would write it in a byte string; a line feed also ends the line.
 
-use crate::asked::{ask, line};
+use vectors::asked::{ask, line, second};
 use vectors::made::Case;
 
 pub fn show(case: &Case) {
@@ -10,10 +10,10 @@ pub fn show(case: &Case) {
     println!("document, {} bytes", case.doc.len());
     bytes(&case.doc);
     println!("room {}", case.room);
-    let (numbers, out) = ask(case);
-    println!("answer {}", line(case));
-    if numbers.number == 0 {
-        bytes(&out[..numbers.second as usize]);
+    let ((number, length, _), out) = ask(case, second);
+    println!("answer {}", line(case, second));
+    if number == 0 {
+        bytes(&out[..length as usize]);
     }
 }
 

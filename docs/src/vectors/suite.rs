@@ -1,6 +1,7 @@
 // The W3C conformance files: the pack made of those in xmlconf/files, and the suite's verdicts held against a program's. The suite says
 // accepted or refused and no more, so the verdicts hold against the answer 0 only.
 
+use crate::asked::{ask, Program};
 use crate::made::Case;
 use std::fs;
 use std::path::Path;
@@ -49,9 +50,6 @@ pub fn cases() -> Result<Vec<Case>, String> {
     Ok(cases)
 }
 
-/// The number and the second number that a program answers to a case.
-pub type Program = fn(&Case) -> (u64, u64);
-
 /// Prints how many rows agree, by class and verdict, and each row that does not; says whether all agree.
 pub fn verdicts(folder: &str, program: Program) -> Result<bool, String> {
     let rows = rows()?;
@@ -84,7 +82,7 @@ fn verdict(accepted: bool) -> &'static str {
 /// Whether the row's verdict is the program's; nothing if the file is not here.
 fn judged(folder: &str, row: &Row, program: Program) -> Option<bool> {
     let doc = fs::read(Path::new(folder).join(&row.file)).ok()?;
-    let (number, place) = program(&case("//*\n", &doc));
+    let ((number, place, _), _) = ask(&case("//*\n", &doc), program);
     let right = (number == 0) == row.accepted;
     if !right {
         println!("wrong: {} should be {}, answer {number} {place}", row.file, verdict(row.accepted));

@@ -33,8 +33,8 @@ mod tags;
 #[rustfmt::skip]
 mod written;
 
-use crate::asked::{ask, fresh};
 use crate::show::show;
+use vectors::asked::{ask, fresh, second};
 use vectors::made::Case;
 
 /// A case, and by hand: its three numbers, and the cut under 0.
@@ -114,8 +114,8 @@ pub fn agree() -> bool {
 
 /// The numbers, and every byte of the buffer: the cut and then what was there before.
 fn agrees(named: &Named) -> bool {
-    let (numbers, out) = ask(&named.case);
+    let (numbers, out) = ask(&named.case, second);
     let mut after = fresh(named.case.room);
     after[..named.cut.len()].copy_from_slice(&named.cut);
-    (numbers.number, numbers.second, numbers.third) == named.numbers && out == after
+    numbers == named.numbers && out == after
 }

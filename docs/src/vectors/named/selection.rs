@@ -12,6 +12,7 @@ pub fn all() -> Vec<Named> {
     cases.extend(deep());
     cases.extend(back());
     cases.extend(marks());
+    cases.extend(one_length());
     cases
 }
 
@@ -154,4 +155,13 @@ fn marks() -> Vec<Named> {
         kept("//x #\n//v\n", doc, "<g><v></v></g>", 1),
         kept("//v/n\n//v #\n/g/n\n", doc, "<g><v>t<n>u</n></v><n></n></g>", 3),
     ]
+}
+
+/// Every name of two letters, and one of them in the list: names of one length are told apart by their bytes, however they are looked up.
+fn one_length() -> Vec<Named> {
+    let letters = || 'a'..='z';
+    let tags: String = letters().flat_map(|one| letters().map(move |other| format!("<{one}{other}/>"))).collect();
+    let doc = format!("<g>{tags}</g>");
+    let only = |name: &str| kept(format!("//{name}\n"), &doc, format!("<g><{name}></{name}></g>"), 1);
+    ["aa", "ba", "mq", "nn", "qm", "zz"].into_iter().map(only).collect()
 }

@@ -1,0 +1,97 @@
+// The wrong programs of the gate, each run on the packed cases: how many cases of each pack it answers otherwise than the second program.
+// An edit of code is made in a copy of the crates' source, which is then read as Rust (speed/source.rs) and compiled with run.rs. Edits of
+// definitions change no code and are left out. Run from the repository's top: wrong CRATE.., the crates that make up the filter
+use std::path::{Path, PathBuf};
+use std::process::{Command, Output};
+use std::{env, fs, io};
+
+const COPY: &str = "target/wrong";
+
+/// One wrong program: in a crate, by a name, a line of a file that is replaced.
+struct Edit {
+    crate_name: String,
+    label: String,
+    file: String,
+    old: String,
+    new: String,
+}
+
+fn files(folder: &Path) -> io::Result<Vec<PathBuf>> {
+    let mut files: Vec<PathBuf> = fs::read_dir(folder)?.map(|entry| Ok(entry?.path())).collect::<io::Result<_>>()?;
+    files.sort();
+    Ok(files)
+}
+
+fn edit(crate_name: &str, path: &Path) -> io::Result<Edit> {
+    let text = fs::read_to_string(path)?;
+    let field = |name: &str| text.lines().find_map(|line| line.strip_prefix(name)).unwrap_or("").to_string();
+    let label = path.file_stem().map_or(String::new(), |stem| stem.to_string_lossy().into_owned());
+    Ok(Edit { crate_name: crate_name.into(), label, file: field("file: "), old: field("old: "), new: field("new: ") })
+}
+
+/// The wrong programs of a crate.
+fn edits(crate_name: &str) -> io::Result<Vec<Edit>> {
+    let folder = PathBuf::from(format!("crates/{crate_name}/must-fail"));
+    if !folder.is_dir() {
+        return Ok(Vec::new());
+    }
+    files(&folder)?.iter().map(|path| edit(crate_name, path)).collect()
+}
+
+/// A crate's source in the copy, as it stands.
+fn copy(crate_name: &str) -> io::Result<()> {
+    let to = PathBuf::from(format!("{COPY}/crates/{crate_name}/src"));
+    fs::create_dir_all(&to)?;
+    for file in files(Path::new(&format!("crates/{crate_name}/src")))? {
+        fs::copy(&file, to.join(file.file_name().expect("a file has a name")))?;
+    }
+    Ok(())
+}
+
+fn done(command: &mut Command) -> io::Result<Output> {
+    let output = command.output()?;
+    match output.status.success() {
+        true => Ok(output),
+        false => Err(io::Error::new(io::ErrorKind::Other, format!("{command:?}: {}", String::from_utf8_lossy(&output.stderr)))),
+    }
+}
+
+/// How many cases of each pack the source in the copy answers otherwise.
+fn otherwise(crates: &[String]) -> io::Result<Vec<usize>> {
+    let source = done(Command::new(fs::canonicalize("target/rust/source")?).args(crates).current_dir(COPY))?;
+    fs::write("target/rust/wrong.rs", source.stdout)?;
+    let words = "--edition 2021 -O -A warnings -L target/rust --extern vectors=target/rust/libvectors.rlib -o target/rust/wrong-run";
+    done(Command::new("rustc").args(words.split(' ')).arg("docs/src/wrong/run.rs"))?;
+    let counts = done(&mut Command::new("target/rust/wrong-run"))?;
+    Ok(String::from_utf8_lossy(&counts.stdout).lines().filter_map(|line| line.parse().ok()).collect())
+}
+
+/// The same for one edit, which is then taken back.
+fn tried(edit: &Edit, crates: &[String]) -> io::Result<Vec<usize>> {
+    let path = format!("{COPY}/crates/{}/{}", edit.crate_name, edit.file);
+    let text = fs::read_to_string(&path)?;
+    assert_eq!(text.matches(&edit.old).count(), 1, "{path}: {}", edit.old);
+    fs::write(&path, text.replace(&edit.old, &edit.new))?;
+    let counts = otherwise(crates);
+    fs::write(&path, text)?;
+    counts
+}
+
+fn main() -> io::Result<()> {
+    let crates: Vec<String> = env::args().skip(1).collect();
+    crates.iter().try_for_each(|name| copy(name))?;
+    assert_eq!(otherwise(&crates)?, [0, 0, 0], "the filter as it stands differs from the second program");
+    let (mut found, mut passed) = (0, Vec::new());
+    for name in &crates {
+        for edit in edits(name)?.into_iter().filter(|edit| edit.file.starts_with("src/")) {
+            let counts = tried(&edit, &crates)?;
+            println!("{name} {}: suite {}, named {}, made {}", edit.label, counts[0], counts[1], counts[2]);
+            match counts.iter().any(|count| *count > 0) {
+                true => found += 1,
+                false => passed.push(format!("{name} {}", edit.label)),
+            }
+        }
+    }
+    println!("{found} wrong programs found by some case; not found: {}", passed.join(", "));
+    Ok(())
+}
