@@ -21,7 +21,6 @@ use Rattle.document.specs.Place.{Opened}
 use Rattle.document.specs.Judge.{nothing}
 use Rattle.trees.specs.Grown.{Token, finish, tokens}
 use Rattle.demands.proofs.Parts.{Stops}
-use Rattle.demands.proofs.Tagged.{attributes-from}
 use Rattle.demands.proofs.Begins.{reference-and}
 use Rattle.demands.proofs.Goes.{Goes, goes-over, instruction-goes, comment-goes, section-goes, reference-goes}
 use Rattle.demands.proofs.Goes.{data-goes, space-goes, start-goes, finish-goes}
@@ -31,10 +30,10 @@ use Rattle.demands.proofs.Goes.{data-goes, space-goes, start-goes, fini
 opens-chars : (m : Bool) {v : Tag} {ns : List Name} {s t : List ℕ} → Opens (tagEnd m) v ns s t → Chars s → Chars t
 opens-chars true {s = s} {t = t} x c =
     chars-left EmptyElemTag (ascii EmptyElemTag refl) s t c
-    (x .from, x .opens, (x .to, x .named, (x .after, attributes-star (attributes-from (x .listed)), (x .last, x .blank, x .closes))))
+    (x .from, x .opens, (x .to, x .named, (x .after, attributes-star (x .listed), (x .last, x .blank, x .closes))))
 opens-chars false {s = s} {t = t} x c =
     chars-left STag (ascii STag refl) s t c
-    (x .from, x .opens, (x .to, x .named, (x .after, attributes-star (attributes-from (x .listed)), (x .last, x .blank, x .closes))))
+    (x .from, x .opens, (x .to, x .named, (x .after, attributes-star (x .listed), (x .last, x .blank, x .closes))))
 
 closes-chars : {n : Name} {raw s t : List ℕ} → Closes n raw s t → Chars s → Chars t
 closes-chars {s = s} {t = t} x c =

@@ -43,7 +43,7 @@ use Rattle.document.specs.declared.judge.Judged.the-variants.{Sound}
 use Rattle.trees.specs.Grown.{Token, finish, aside, part, tagOf, started, itemTokens, tokensFrom}
 use Rattle.trees.proofs.Passes.{over-fine}
 use Rattle.demands.proofs.Parts.{Stops, part-is, drop-past, stops-space}
-use Rattle.demands.proofs.Tagged.{name-past, attributes-from, unique-from, short-from}
+use Rattle.demands.proofs.Tagged.{name-past, short-from}
 use Rattle.demands.proofs.Begins.{comment-kind, instruction-kind, section-kind, finish-kind, reference-kind, reference-and}
 use Rattle.demands.proofs.Begins.{start-kind, plain-kind, space-first, space-is-text}
 
@@ -242,7 +242,7 @@ module _ (d : List ℕ) {at : ℕ} {s : List ℕ} (p : Stands d at s) (c : Chars
               opens = x .opens;
               named = x .named;
               name-is = x .name-is;
-              attributes = attributes-from (x .listed);
+              attributes = x .listed;
               blank = x .blank;
               head-is = x .head-is;
               closes = x .closes;
@@ -252,7 +252,7 @@ module _ (d : List ℕ) {at : ℕ} {s : List ℕ} (p : Stands d at s) (c : Chars
         head-is = refl;
         ends = y .stands;
         empty-is = refl;
-        twice-is = unique-from ns (x .unique);
+        twice-is = x .unique;
       } in
       let q = here d p c (Start n h (y .to) m false) (ap (kindOf false) (x .opens) ∙ start-kind (x .from) (x .to) (x .named)) (refl, g) in
       let (i, j, k) = inside-is d at (Start n h (y .to) m false) q in

@@ -1,5 +1,5 @@
--- Tags in the words of the readers' crate and in those of the document's productions, both ways. In order: attributes and unique names;
--- sizes; a start or empty tag, an end tag, and any other item at a place.
+-- Tags in the words of the readers' crate and in those of the document's productions, both ways. In order: sizes; a start or empty tag, an
+-- end tag, and any other item at a place.
 use mathlib.Core.Path.{_≡_, refl, sym, ap, _∙_}
 use mathlib.Core.Bool.{Bool, true, false}
 use mathlib.Core.List.{List, [], _∷_, _++_}
@@ -10,11 +10,9 @@ use lib.Seq.{take-append-seam}
 use Rattle.xml.specs.Notation.{Rule, bytes}
 use Rattle.xml.specs.Productions.{STag, ETag, EmptyElemTag}
 use Rattle.xml.specs.Forest.{Name, Tag}
-use Rattle.xml.specs.Document as doc
 use Rattle.xml.specs.Document.{Opens, Closes, Item, AllShort}
 use Rattle.chars.specs.declared.name.Reading.the-variants.{Ends}
 use Rattle.readers.specs.Named as named
-use Rattle.readers.specs.Meaning as says
 use Rattle.readers.specs.Meaning.{Chars, tagEnd, TagIs, EndTagIs}
 use Rattle.readers.specs.Says.{ReadingSays}
 use Rattle.readers.proofs.Combine.{chars-left}
@@ -25,31 +23,7 @@ use Rattle.items.specs.Meaning.{Short, All, StartIs, FinishIs}
 use Rattle.trees.specs.Grown.{part, tagOf}
 use Rattle.demands.proofs.Parts.{part-left, part-is, drop-past}
 
--- ---- attributes, unique names, sizes
-
-pub attributes-to : {ns : List Name} {s t : List ℕ} → says.Attributes ns s t → doc.Attributes ns s t
-attributes-to says.done = doc.done
-attributes-to (says.more a b c e f k) = doc.more a b c e f (attributes-to k)
-
-pub attributes-from : {ns : List Name} {s t : List ℕ} → doc.Attributes ns s t → says.Attributes ns s t
-attributes-from doc.done = says.done
-attributes-from (doc.more a b c e f k) = says.more a b c e f (attributes-from k)
-
-other-to : (n : Name) (ns : List Name) → says.Other n ns → doc.Other n ns
-other-to n [] h = tt
-other-to n (m ∷ ns) (k, h) = (k, other-to n ns h)
-
-other-from : (n : Name) (ns : List Name) → doc.Other n ns → says.Other n ns
-other-from n [] h = tt
-other-from n (m ∷ ns) (k, h) = (k, other-from n ns h)
-
-pub unique-to : (ns : List Name) → says.Unique ns → doc.Unique ns
-unique-to [] h = tt
-unique-to (n ∷ ns) (k, h) = (other-to n ns k, unique-to ns h)
-
-pub unique-from : (ns : List Name) → doc.Unique ns → says.Unique ns
-unique-from [] h = tt
-unique-from (n ∷ ns) (k, h) = (other-from n ns k, unique-from ns h)
+-- ---- sizes
 
 pub short-to : (ns : List Name) → All Short ns → AllShort ns
 short-to [] h = tt
@@ -103,12 +77,12 @@ module _ (d : List ℕ) (at : ℕ) where
               opens = y .opens;
               named = y .named;
               name-is = rw nm (y .name-is);
-              listed = attributes-to (y .attributes);
+              listed = y .attributes;
               blank = y .blank;
               closes = rw (x .empty-is, x .ends .rest) (y .closes);
               head-is = rw hd (y .head-is);
               tail-is = sym lst ∙ part-left d h e (omega arith);
-              unique = unique-to (v .attributes) (x .twice-is);
+              unique = x .twice-is;
             };
         short = rw nm (x .small .name);
         few = x .small .few;

@@ -10,7 +10,8 @@ use Rattle.xml.specs.Productions.{XMLDecl, PI, Comment as CommentRule, CDSect, 
 use Rattle.utf8.specs.Place.{Stands}
 use Rattle.chars.specs.declared.name.Reading.the-variants.{Ends, Fault}
 use Rattle.readers.specs.Named.{Piece, Tag}
-use Rattle.readers.specs.Meaning.{EndTagIs, TagIs, Unique}
+use Rattle.xml.specs.Document.{Unique}
+use Rattle.readers.specs.Meaning.{EndTagIs, TagIs}
 use Rattle.readers.specs.Says.{ReadingSays, TextSays}
 use Rattle.tags.specs.declared.Item.{Item}
 use Rattle.tags.specs.declared.Item.the-variants.{Declaration, Instruction, Comment, Section, Reference, Text, Start, Finish}

@@ -18,7 +18,8 @@ use Rattle.chars.proofs.Meaning.{name-found, name-is}
 use Rattle.readers.specs.Read.{spaceOf}
 use Rattle.readers.specs.Value.{valueOf}
 use Rattle.readers.specs.Named.{before, eqOf, Piece, pieceNamed, attributeOf, Gathered, gatheredBy, gather}
-use Rattle.readers.specs.Meaning.{Chars, Attributes, done as no-more, more as one-more}
+use Rattle.xml.specs.Document.{Attributes, done as no-more, more as one-more}
+use Rattle.readers.specs.Meaning.{Chars}
 use Rattle.readers.proofs.Combine.{then-some, chars-left}
 use Rattle.readers.proofs.Follow.{ascii, Off, off-lit, off-then, off-either, off-opt, off-space, name-off-space, space-name}
 use Rattle.readers.proofs.Follow.{space-reads, space-is, eq-takes}

@@ -9,7 +9,7 @@ use Rattle.xml.specs.Productions.{same}
 use Rattle.xml.proofs.Bools.{true-false}
 use Rattle.xml.proofs.Same.{same-equal, same-refl}
 use Rattle.readers.specs.Named.{has, repeated}
-use Rattle.readers.specs.Meaning.{Other, Unique}
+use Rattle.xml.specs.Document.{Other, Unique}
 
 -- both tests are false
 neither : (a b : Bool) → a || b ≡ false → (a ≡ false) × (b ≡ false)

@@ -1,5 +1,5 @@
 -- What a reader says in the grammar's words: it decides a production, both ways, wherever only characters are left. In order: a reader
--- that decides; text; what an end tag and a tag hold; unique names. proofs/ shows it for each reader.
+-- that decides; text; what an end tag and a tag hold. proofs/ shows it for each reader.
 use mathlib.Core.Path.{_≡_}
 use mathlib.Core.Bool.{Bool, true, false}
 use mathlib.Core.List.{List, [], _∷_, _++_}
@@ -7,7 +7,8 @@ use mathlib.Core.Option.{Option, some}
 use mathlib.Core.Logic.{_⊎_}
 use Prim.Native.Nat.{ℕ}
 use Rattle.xml.specs.Notation.{Rule, Reads, Star, _∣_, text, opt}
-use Rattle.xml.specs.Productions.{Char, CharData, S, Name, Eq, AttValue}
+use Rattle.xml.specs.Productions.{Char, CharData, S, Name}
+use Rattle.xml.specs.Document.{Attributes}
 use Rattle.readers.specs.Named.{Piece, Tag}
 
 -- only characters of [2] are left
@@ -37,12 +38,6 @@ pub record EndTagIs (s : List ℕ) (v : Piece) : Type 0 where
 
 -- ---- tags: '<' Name (S Attribute)* S? and then '>' or '/>'
 
--- any number of S Attribute, with the attributes' names
-pub data Attributes : List (List ℕ) → List ℕ → List ℕ → Type 0 where
-  done : {s : List ℕ} → Attributes [] s s
-  more : {n : List ℕ} {ns : List (List ℕ)} {s a b c e t : List ℕ}
-      → Reads S s a → Reads Name a b → a ≡ n ++ b → Reads Eq b c → Reads AttValue c e → Attributes ns e t → Attributes (n ∷ ns) s t
-
 abbrev pub tagEnd : Bool → Rule
 tagEnd true = text "/>"
 tagEnd false = text ">"
@@ -59,15 +54,3 @@ pub record TagIs (s : List ℕ) (v : Tag) : Type 0 where
   pub blank : Reads (opt S) after last
   pub head-is : s ≡ v .head ++ last
   pub closes : Reads (tagEnd (v .empty)) last (v .rest)
-
--- ---- WFC Unique Att Spec: no attribute name stands twice in a tag
-
--- n is none of the names
-abbrev pub Other : List ℕ → List (List ℕ) → Type 0
-Other n [] = Unit {0}
-Other n (m ∷ ns) = (n ≡ m → ⊥) × Other n ns
-
--- each name is another than all later ones
-abbrev pub Unique : List (List ℕ) → Type 0
-Unique [] = Unit {0}
-Unique (n ∷ ns) = Other n ns × Unique ns
