@@ -43,7 +43,7 @@ use Rattle.document.specs.declared.judge.Judged.the-variants.{Sound}
 use Rattle.trees.specs.Grown.{Token, finish, aside, part, tagOf, started, itemTokens, tokensFrom}
 use Rattle.trees.proofs.Passes.{over-fine}
 use Rattle.demands.proofs.Parts.{Stops, part-is, drop-past, stops-space}
-use Rattle.demands.proofs.Tagged.{name-past, short-from}
+use Rattle.demands.proofs.Tagged.{name-past}
 use Rattle.demands.proofs.Begins.{comment-kind, instruction-kind, section-kind, finish-kind, reference-kind, reference-and}
 use Rattle.demands.proofs.Begins.{start-kind, plain-kind, space-first, space-is-text}
 
@@ -247,7 +247,7 @@ module _ (d : List ℕ) {at : ℕ} {s : List ℕ} (p : Stands d at s) (c : Chars
               head-is = x .head-is;
               closes = x .closes;
             });
-        small = record { name = short; few = few; attributes = short-from ns all };
+        small = record { name = short; few = few; attributes = all };
         name-is = refl;
         head-is = refl;
         ends = y .stands;

@@ -1,8 +1,8 @@
--- Tags in the words of the readers' crate and in those of the document's productions, both ways. In order: sizes; a start or empty tag, an
--- end tag, and any other item at a place.
+-- Tags in the words of the readers' crate and in those of the document's productions, both ways. In order: what follows a tag; a start or
+-- empty tag, an end tag, and any other item at a place.
 use mathlib.Core.Path.{_≡_, refl, sym, ap, _∙_}
 use mathlib.Core.Bool.{Bool, true, false}
-use mathlib.Core.List.{List, [], _∷_, _++_}
+use mathlib.Core.List.{List, _++_}
 use Prim.Native.Nat.{ℕ, _+_, _≤_, _<_}
 use native.Mathlib.Omega.{arith}
 use lib.ListN.{length, take, drop}
@@ -19,19 +19,9 @@ use Rattle.readers.proofs.Combine.{chars-left}
 use Rattle.readers.proofs.Follow.{ascii}
 use Rattle.readers.proofs.Tags.{tag-reads-start, tag-reads-empty, end-tag-reads}
 use Rattle.tags.specs.Kept.{nameFrom}
-use Rattle.items.specs.Meaning.{Short, All, StartIs, FinishIs}
+use Rattle.items.specs.Meaning.{StartIs, FinishIs}
 use Rattle.trees.specs.Grown.{part, tagOf}
 use Rattle.demands.proofs.Parts.{part-left, part-is, drop-past}
-
--- ---- sizes
-
-pub short-to : (ns : List Name) → All Short ns → AllShort ns
-short-to [] h = tt
-short-to (n ∷ ns) (k, h) = (k, short-to ns h)
-
-pub short-from : (ns : List Name) → AllShort ns → All Short ns
-short-from [] h = tt
-short-from (n ∷ ns) (k, h) = (k, short-from ns h)
 
 -- ---- what follows a tag is characters too
 
@@ -86,7 +76,7 @@ module _ (d : List ℕ) (at : ℕ) where
             };
         short = rw nm (x .small .name);
         few = x .small .few;
-        all = short-to (v .attributes) (x .small .attributes);
+        all = x .small .attributes;
       }
 
   pub start-chars : {n h e : ℕ} {m t : Bool} → StartIs d at n h e m t → Chars (drop at d) → Chars (drop e d)

@@ -11,6 +11,7 @@ use lib.Dec.{leb}
 use lib.ListN.{length, drop, length-drop}
 use Rattle.xml.specs.Notation.{Reads}
 use Rattle.xml.specs.Productions.{XMLDecl, PI, Comment as CommentRule, CDSect, Reference as ReferenceRule}
+use Rattle.xml.specs.Document.{AllShort}
 use Rattle.xml.proofs.Bools.{and-left, and-right, and-both, true-false}
 use Rattle.utf8.specs.Place.{endsAt}
 use Rattle.utf8.proofs.Place.{stands-one, drop-end}
@@ -32,17 +33,17 @@ use Rattle.tags.specs.declared.Item.the-variants.{Declaration, Instruction, Com
 use Rattle.tags.specs.declared.Item.the-variants.{Doctype, Malformed, TooLarge, Nothing}
 use Rattle.items.specs.Item.{Kind, declaration, instruction, comment, section, doctype, finish, start, reference, text, nothing}
 use Rattle.items.specs.Item.{kindOf, itemBy, itemOf, itemAt}
-use Rattle.items.specs.Meaning.{Short, All, Small, Twice, StartIs, FinishIs, Broken, Large, large-finish, large-start}
+use Rattle.items.specs.Meaning.{Short, Small, Twice, StartIs, FinishIs, Broken, Large, large-finish, large-start}
 use Rattle.items.specs.Meaning.{KindSays, ItemSays}
 use Rattle.items.proofs.Telling.{kind-nothing, by-ends, by-fault}
 
 -- ---- sizes
 
-all-short : (ns : List (List ℕ)) → smallAll ns ≡ true → All Short ns
+all-short : (ns : List (List ℕ)) → smallAll ns ≡ true → AllShort ns
 all-short [] h = tt
 all-short (n ∷ ns) h = (leb-true (length n) 255 (and-left (leb (length n) 255) _ h), all-short ns (and-right (leb (length n) 255) _ h))
 
-short-all : (ns : List (List ℕ)) → All Short ns → smallAll ns ≡ true
+short-all : (ns : List (List ℕ)) → AllShort ns → smallAll ns ≡ true
 short-all [] h = refl
 short-all (n ∷ ns) (l, h) = and-both (leb (length n) 255) _ (le-leb (length n) 255 l) (short-all ns h)
 

@@ -3,14 +3,14 @@
 -- size, by kind; the item. proofs/Meaning.antt shows that the definitions which the contracts cite give the one answer that says so.
 use mathlib.Core.Path.{_≡_}
 use mathlib.Core.Bool.{Bool, true, false}
-use mathlib.Core.List.{List, [], _∷_}
+use mathlib.Core.List.{List}
 use Prim.Native.Nat.{ℕ, _+_, _≤_}
 use lib.ListN.{length, drop}
 use Rattle.xml.specs.Productions.{XMLDecl, PI, Comment as CommentRule, CDSect, Reference as ReferenceRule}
+use Rattle.xml.specs.Document.{Unique, AllShort}
 use Rattle.utf8.specs.Place.{Stands}
 use Rattle.chars.specs.declared.name.Reading.the-variants.{Ends, Fault}
 use Rattle.readers.specs.Named.{Piece, Tag}
-use Rattle.xml.specs.Document.{Unique}
 use Rattle.readers.specs.Meaning.{EndTagIs, TagIs}
 use Rattle.readers.specs.Says.{ReadingSays, TextSays}
 use Rattle.tags.specs.declared.Item.{Item}
@@ -24,14 +24,10 @@ use Rattle.items.specs.Item.{kindOf}
 abbrev pub Short : List ℕ → Type 0
 Short n = length n ≤ 255
 
-abbrev pub All : (List ℕ → Type 0) → List (List ℕ) → Type 0
-All P [] = Unit {0}
-All P (n ∷ ns) = P n × All P ns
-
 pub record Small (v : Tag) : Type 0 where
   pub name : Short (v .name)
   pub few : length (v .attributes) ≤ 32
-  pub attributes : All Short (v .attributes)
+  pub attributes : AllShort (v .attributes)
 
 -- ---- tags, in places
 

@@ -2,7 +2,7 @@
 -- that decides; text; what an end tag and a tag hold. proofs/ shows it for each reader.
 use mathlib.Core.Path.{_≡_}
 use mathlib.Core.Bool.{Bool, true, false}
-use mathlib.Core.List.{List, [], _∷_, _++_}
+use mathlib.Core.List.{List, [], _++_}
 use mathlib.Core.Option.{Option, some}
 use mathlib.Core.Logic.{_⊎_}
 use Prim.Native.Nat.{ℕ}
