@@ -20,11 +20,12 @@ mkfifo broken
 try 'a broken pipe as output' 74 cut -l v.lst wide.xml -o broken
 wait $reader
 
-# Killed while it waits for the rest of the document.
+# Killed while it waits for the rest of the document. It is started directly, so that the signal is for the program and for no shell.
 printf old > kept.xml
 mkfifo slow
 ran=$((ran + 1)) got=0
-start cut -l v.lst -o kept.xml < slow & killed=$!
+# shellcheck disable=SC2086
+$run "$program" cut -l v.lst -o kept.xml < slow & killed=$!
 exec 9> slow
 printf '<g><v/>' >&9
 kill -TERM $killed
