@@ -27,22 +27,22 @@ fn accepts(peer: &(&str, &[&str]), file: &Path) -> io::Result<bool> {
     Ok(command.status()?.success())
 }
 
-/// How many documents were compared, how many differ, and how many were left out, by rule.
+/// How many documents were compared, how many differ, and by rule how many were left out and how many of those differ.
 #[derive(Default)]
 struct Counts {
     same: usize,
     differ: usize,
-    left_out: BTreeMap<&'static str, usize>,
+    left_out: BTreeMap<&'static str, (usize, usize)>,
 }
 
 fn compare(peer: &(&str, &[&str]), doc: &[u8], file: &Path, counts: &mut Counts) -> io::Result<()> {
     let judged = second::judge(doc);
-    if let Some(rule) = known::rule(peer.0, doc, judged) {
-        *counts.left_out.entry(rule).or_default() += 1;
-        return Ok(());
-    }
     let accepted = accepts(peer, file)?;
-    if accepted == judged.is_none() {
+    if let Some(rule) = known::rule(peer.0, doc, judged) {
+        let (documents, otherwise) = counts.left_out.entry(rule).or_default();
+        *documents += 1;
+        *otherwise += (accepted != judged.is_none()) as usize;
+    } else if accepted == judged.is_none() {
         counts.same += 1;
     } else {
         counts.differ += 1;
@@ -65,7 +65,9 @@ fn main() -> io::Result<ExitCode> {
     std::fs::remove_file(&file)?;
     for (peer, counts) in PEERS.iter().zip(&all) {
         println!("{}: {} documents judged alike, {} otherwise", peer.0, counts.same, counts.differ);
-        counts.left_out.iter().for_each(|(rule, documents)| println!("    {documents} left out: {rule}"));
+        for (rule, (documents, otherwise)) in &counts.left_out {
+            println!("    {documents} left out, {otherwise} of them judged otherwise: {rule}");
+        }
     }
     Ok(ExitCode::from(all.iter().any(|counts| counts.differ > 0) as u8))
 }
