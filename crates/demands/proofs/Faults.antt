@@ -1,20 +1,21 @@
--- "The first item at fault decides": for each refusal 6 to 8 the offset is that of the first item at fault, and all before it stand in
--- their places; for 5 it is where the first sequence begins that is no character. In order: what is left after an item is characters; the
--- scan; the answer on a document.
+-- "The first item at fault decides": 6 to 8 are answered exactly at the first item at fault, all before which stand in their places; 5
+-- exactly where the first sequence begins that is no character. In order: what is left after an item; the scan, from its answer to the
+-- first fault and back; where a first fault lies; the answer on a document, both ways.
 use mathlib.Core.Path.{_≡_, refl, sym, ap, _∙_}
 use mathlib.Core.Bool.{Bool, true, false, cond, false≢true}
 use mathlib.Core.List.{List, []}
+use mathlib.Core.Logic.{_↔_, _⊎_, inl, inr}
 use Prim.Native.Nat.{ℕ, zero, suc, _-_, _≤_, _<_}
 use native.Mathlib.Omega.{arith}
-use borrow.Author.Tests.{ltb-false}
+use borrow.Author.Tests.{ltb-true, ltb-false, lt-ltb, le-ltb}
 use lib.Dec.{ltb}
-use lib.ListN.{length, drop}
+use lib.ListN.{length, drop, length-drop}
 use Rattle.xml.specs.Productions.{XMLDecl, PI, Comment as CommentRule, CDSect, Reference as ReferenceRule, CharData}
 use Rattle.chars.specs.Check.{checkOf}
 use Rattle.chars.specs.Meaning.{CheckSays}
 use Rattle.chars.specs.declared.whole.Checked.{Checked}
 use Rattle.chars.specs.declared.whole.Checked.the-variants.{All, BadAt}
-use Rattle.chars.proofs.Meaning.{check-says}
+use Rattle.chars.proofs.Meaning.{check-says, check-only}
 use Rattle.readers.specs.Meaning.{Chars}
 use Rattle.readers.proofs.Combine.{chars-left}
 use Rattle.readers.proofs.Follow.{ascii}
@@ -22,20 +23,28 @@ use Rattle.tags.specs.declared.Item.{Item}
 use Rattle.tags.specs.declared.Item.the-variants.{Declaration, Instruction, Comment, Section, Reference, Text, Start, Finish}
 use Rattle.tags.specs.declared.Item.the-variants.{Doctype, Malformed, TooLarge, Nothing}
 use Rattle.items.specs.Item.{Kind, kindOf, itemAt}
-use Rattle.items.specs.Meaning.{KindSays}
+use Rattle.items.specs.Inside.{Inside}
+use Rattle.items.specs.Meaning.{KindSays, ItemSays}
 use Rattle.items.proofs.Insides.{item-inside}
-use Rattle.items.proofs.Meaning.{item-says}
+use Rattle.items.proofs.Meaning.{item-says, item-only}
+use Rattle.items.proofs.Telling.{item-none}
 use Rattle.document.specs.Place.{Opened, placement, afterItem, endOf}
 use Rattle.document.specs.Judge.{startOf, nothing, onward, scanFrom, scanned, byChars, judgeOf}
 use Rattle.document.specs.declared.Placement.{Placement}
 use Rattle.document.specs.declared.Placement.the-variants.{Fine, Fault, Over}
 use Rattle.document.specs.declared.Why.{Why}
+use Rattle.document.specs.declared.Why.the-variants.{Malformed as Ill}
 use Rattle.document.specs.declared.judge.Judged.{Judged}
 use Rattle.document.specs.declared.judge.Judged.the-variants.{Sound, TooLong, NotChar, AtFault}
 use Rattle.document.proofs.Judging.{fine-ahead}
 use Rattle.trees.proofs.Passes.{over-fine}
+use Rattle.trees.proofs.Over.{nothing-left}
+use Rattle.demands.specs.Position.{Within, PlaceSays}
 use Rattle.demands.specs.Reached.{Reaches, here, next, FirstFault}
-use Rattle.demands.proofs.First.{start-inside, start-chars}
+use Rattle.demands.specs.Judged.{DocumentSays, too-long, not-char, at-fault, sound}
+use Rattle.demands.proofs.First.{start-inside, start-chars, scanned-document}
+use Rattle.demands.proofs.Accepted.{derived-sound}
+use Rattle.demands.proofs.Position.{place-says, place-only}
 use Rattle.demands.proofs.Tagged.{start-chars as tag-chars, finish-chars}
 
 -- ---- what is left after an item
@@ -57,39 +66,120 @@ item-chars d at k Nothing s h c q = over-fine s q
 
 -- ---- the scan
 
+-- of the item that is read at a place: what it is, and that it stands inside the document
+record Read (d : List ℕ) (at : ℕ) (first : Bool) (i : Item) : Type 0 where
+  is : i ≡ itemAt first d at
+  says : ItemSays first d at i
+  inside : Inside d at i
+
+read-says : (d : List ℕ) (at : ℕ) (first : Bool) → Chars (drop at d) → Read d at first (itemAt first d at)
+read-says d at first c = record { is = refl; says = item-says first d at c; inside = item-inside first d at }
+
+read-only : (d : List ℕ) (at : ℕ) (first : Bool) (i : Item) → Chars (drop at d) → ItemSays first d at i → Read d at first i
+read-only d at first i c x =
+    let e = item-only first d at c i x in
+    record { is = e; says = x; inside = rw e (item-inside first d at) }
+
+-- what follows an item that stands in its place
+module _ {d : List ℕ} {at : ℕ} {first : Bool} {i : Item} (s : Opened) (r : Read d at first i) (c : Chars (drop at d))
+    (p : placement d at i s ≡ Fine) where
+  next-ahead : (at < endOf at i) × (endOf at i ≤ length d)
+  next-ahead = fine-ahead d at i s (r .inside) p
+
+  next-chars : Chars (drop (endOf at i) d)
+  next-chars = item-chars d at (kindOf first (drop at d)) i s (r .says) c p
+
 -- from a place on
 record Found (d : List ℕ) (at : ℕ) (first : Bool) (s : Opened) (why : Why) (o : ℕ) : Type 0 where
   last : Bool
   opened : Opened
   reached : Reaches d at first s o last opened
-  fault : placement d o (itemAt last d o) opened ≡ Fault why
-  chars : Chars (drop o d)
+  item : Item
+  says : ItemSays last d o item
+  fault : PlaceSays d o opened item (Fault why)
 
 scan-found : (k : ℕ) (d : List ℕ) (at : ℕ) (first : Bool) (s : Opened) (why : Why) (o : ℕ) → length d - at < k → Chars (drop at d)
     → scanFrom k d at first s ≡ AtFault why o → Found d at first s why o
 unfolding scanFrom
 scan-found zero d at first s why o l c e = absurd (omega arith)
 scan-found (suc k) d at first s why o l c e =
-    let i = itemAt first d at in
-    go (placement d at i s) refl e
-    (λ q r. let (a, b) = fine-ahead d at i s (item-inside first d at) q in
-    scan-found k d (endOf at i) false (afterItem d at i s) why o (omega arith)
-    (item-chars d at (kindOf first (drop at d)) i s (item-says first d at c) c q) r)
+    go (placement d at i s) refl (place-says d at s (kindOf first (drop at d)) i (r .says) (r .inside)) e
+    (λ q. let (a, b) = next-ahead s r c q in
+    scan-found k d (endOf at i) false (afterItem d at i s) why o (omega arith) (next-chars s r c q))
   where
-    go : (p : Placement) → placement d at (itemAt first d at) s ≡ p
-        → onward p at (scanFrom k d (endOf at (itemAt first d at)) false (afterItem d at (itemAt first d at) s)) ≡ AtFault why o
-        → (placement d at (itemAt first d at) s ≡ Fine
-        → scanFrom k d (endOf at (itemAt first d at)) false (afterItem d at (itemAt first d at) s) ≡ AtFault why o
-        → Found d (endOf at (itemAt first d at)) false (afterItem d at (itemAt first d at) s) why o)
+    i : Item
+    i = itemAt first d at
+
+    r : Read d at first i
+    r = read-says d at first c
+
+    go : (p : Placement) → placement d at i s ≡ p → PlaceSays d at s i p
+        → onward p at (scanFrom k d (endOf at i) false (afterItem d at i s)) ≡ AtFault why o
+        → (placement d at i s ≡ Fine → scanFrom k d (endOf at i) false (afterItem d at i s) ≡ AtFault why o
+        → Found d (endOf at i) false (afterItem d at i s) why o)
         → Found d at first s why o
-    go Fine q e f =
+    go Fine q m e f =
         let x = f q e in
-        record { last = x .last; opened = x .opened; reached = next q (x .reached); fault = x .fault; chars = x .chars }
-    go (Fault w) q e f =
+        record {
+          last = x .last;
+          opened = x .opened;
+          reached = next i (r .says) m (x .reached);
+          item = x .item;
+          says = x .says;
+          fault = x .fault;
+        }
+    go (Fault w) q m e f =
         let y : w ≡ why = cc in
         let z : at ≡ o = cc in
-        rw (← y, ← z) (record { last = first; opened = s; reached = here; fault = q; chars = c })
-    go Over q e f = absurd (false≢true cc)
+        rw (← z) (record { last = first; opened = s; reached = here; item = i; says = r .says; fault = rw y at m })
+    go Over q m e f = absurd (false≢true cc)
+
+-- and back
+found-scan : (k : ℕ) (d : List ℕ) {at : ℕ} {first : Bool} {s : Opened} {why : Why} {o : ℕ} {last : Bool} {t : Opened}
+    → length d - at < k → Chars (drop at d) → Reaches d at first s o last t → (i : Item) → ItemSays last d o i
+    → PlaceSays d o t i (Fault why) → scanFrom k d at first s ≡ AtFault why o
+unfolding scanFrom
+found-scan zero d l c h i x y = absurd (omega arith)
+found-scan (suc k) d {at} {first} {s} {why} l c here i x y =
+    let r = read-only d at first i c x in
+    rw (← r .is, place-only d at s (kindOf first (drop at d)) i x (r .inside) (Fault why) y) refl
+found-scan (suc k) d {at} {first} {s} l c (next j a b h) i x y =
+    let r = read-only d at first j c a in
+    let q = place-only d at s (kindOf first (drop at d)) j a (r .inside) Fine b in
+    let (u, v) = next-ahead s r c q in
+    rw (← r .is, q) (found-scan k d (omega arith) (next-chars s r c q) h i x y)
+
+-- ---- where a first fault lies
+
+reaches-inside : {d : List ℕ} {at : ℕ} {first : Bool} {s : Opened} {o : ℕ} {last : Bool} {t : Opened} → at ≤ length d
+    → Chars (drop at d) → Reaches d at first s o last t → (o ≤ length d) × Chars (drop o d)
+reaches-inside l c here = (l, c)
+reaches-inside {d} {at} {first} {s} l c (next j a b h) =
+    let r = read-only d at first j c a in
+    let q = place-only d at s (kindOf first (drop at d)) j a (r .inside) Fine b in
+    reaches-inside (next-ahead s r c q .1) (next-chars s r c q) h
+
+module _ {d : List ℕ} (c : Chars d) {why : Why} {o : ℕ} (x : FirstFault d why o) where
+  -- an offset is at most the document's length
+  pub inside : o ≤ length d
+  inside = reaches-inside (start-inside d) (start-chars d c) (x .reached) .0
+
+  fault-chars : Chars (drop o d)
+  fault-chars = reaches-inside (start-inside d) (start-chars d c) (x .reached) .1
+
+  -- "If the items run out .. the answer is 7 at the document's length": they run out exactly there
+  pub runs-out : x .item ≡ Nothing ↔ (o ≡ length d)
+  runs-out = (
+    (λ e. let z : drop o d ≡ [] = nothing-left d o (x .first) (sym (read-only d o (x .first) (x .item) fault-chars (x .says) .is) ∙ e) in
+        let n = inside in
+        omega (arith, length-drop o d, ap length z)),
+    (λ e. read-only d o (x .first) (x .item) fault-chars (x .says) .is
+        ∙ sym (item-none (x .first) d o (let z = e in omega arith))),
+  )
+
+  -- and then it is 7, since an element is open or there is no root
+  pub runs-out-seven : o ≡ length d → (Within (x .opened) ⊎ (x .opened .rooted ≡ false)) × (why ≡ Ill)
+  runs-out-seven e = rw (runs-out .1 e) at (x .fault)
 
 -- ---- the answer on a document
 
@@ -97,48 +187,72 @@ by-chars : (c : Checked) (j r : Judged) → byChars c j ≡ r → ((o : ℕ) →
 by-chars All j r e n = (refl, e)
 by-chars (BadAt o) j r e n = absurd (n o (sym e))
 
--- the scan itself never says 5
-scan-never : (k : ℕ) (d : List ℕ) (at : ℕ) (first : Bool) (s : Opened) (o : ℕ) → scanFrom k d at first s ≡ NotChar o → ⊥
-unfolding scanFrom
-scan-never zero d at first s o e = absurd (false≢true cc)
-scan-never (suc k) d at first s o e =
-    let i = itemAt first d at in
-    go (placement d at i s) e (scan-never k d (endOf at i) false (afterItem d at i s) o)
-  where
-    go : {n : Judged} (p : Placement) → onward p at n ≡ NotChar o → (n ≡ NotChar o → ⊥) → ⊥
-    go Fine e f = f e
-    go (Fault w) e f = absurd (false≢true cc)
-    go Over e f = absurd (false≢true cc)
-
 -- 6, 7 and 8: the first item at fault
+scanned-fault : (d : List ℕ) → Chars d → (why : Why) (o : ℕ) → scanned d ≡ AtFault why o → FirstFault d why o
+unfolding scanned
+scanned-fault d c why o e =
+    let x = scan-found (suc (length d)) d (startOf d) true nothing why o (omega arith) (start-chars d c) e in
+    record { first = x .last; opened = x .opened; reached = x .reached; item = x .item; says = x .says; fault = x .fault }
+
+fault-scanned : (d : List ℕ) → Chars d → {why : Why} {o : ℕ} → FirstFault d why o → scanned d ≡ AtFault why o
+unfolding scanned
+fault-scanned d c x =
+    found-scan (suc (length d)) d (omega arith) (start-chars d c) (x .reached) (x .item) (x .says) (x .fault)
+
+-- the scan says neither 4 nor 5
+scan-some : (k : ℕ) (d : List ℕ) (at : ℕ) (first : Bool) (s : Opened)
+    → (scanFrom k d at first s ≡ Sound) ⊎ ((why : Why) × (o : ℕ) × (scanFrom k d at first s ≡ AtFault why o))
+unfolding scanFrom
+scan-some zero d at first s = inr (Ill, at, refl)
+scan-some (suc k) d at first s =
+    let i = itemAt first d at in
+    go (placement d at i s) (scan-some k d (endOf at i) false (afterItem d at i s))
+  where
+    go : {n : Judged} (p : Placement) → (n ≡ Sound) ⊎ ((why : Why) × (o : ℕ) × (n ≡ AtFault why o))
+        → (onward p at n ≡ Sound) ⊎ ((why : Why) × (o : ℕ) × (onward p at n ≡ AtFault why o))
+    go Fine f = f
+    go (Fault w) f = inr (w, at, refl)
+    go Over f = inl refl
+
+some-scanned : (d : List ℕ) → (scanned d ≡ Sound) ⊎ ((why : Why) × (o : ℕ) × (scanned d ≡ AtFault why o))
+unfolding scanned
+some-scanned d = scan-some (suc (length d)) d (startOf d) true nothing
+
+-- each answer says what document 01 says
+pub judge-says : (d : List ℕ) → DocumentSays d (judgeOf d)
+unfolding judgeOf
+judge-says d = size (ltb 16777216 (length d)) refl
+  where
+    items : length d ≤ 16777216 → Chars d → (scanned d ≡ Sound) ⊎ ((why : Why) × (o : ℕ) × (scanned d ≡ AtFault why o))
+        → DocumentSays d (scanned d)
+    items l c (inl e) = rw e (sound (record { size = l; chars = c; derived = scanned-document d c e }))
+    items l c (inr (why, o, e)) = rw e (at-fault l c (scanned-fault d c why o e))
+
+    chars : length d ≤ 16777216 → (r : Checked) → CheckSays d r → DocumentSays d (byChars r (scanned d))
+    chars l All c = items l c (some-scanned d)
+    chars l (BadAt o) h = not-char l h
+
+    size : (b : Bool) → ltb 16777216 (length d) ≡ b → DocumentSays d (cond b TooLong (byChars (checkOf d) (scanned d)))
+    size true q = too-long (ltb-true 16777216 (length d) q)
+    size false q = chars (ltb-false 16777216 (length d) q) (checkOf d) (check-says d)
+
+-- and no other answer does
+pub judge-only : (d : List ℕ) (j : Judged) → DocumentSays d j → judgeOf d ≡ j
+unfolding judgeOf
+judge-only d TooLong (too-long l) = rw (lt-ltb 16777216 (length d) l) refl
+judge-only d (NotChar o) (not-char l h) = rw (le-ltb 16777216 (length d) l, ← check-only d (BadAt o) h) refl
+judge-only d (AtFault why o) (at-fault l c x) = rw (le-ltb 16777216 (length d) l, ← check-only d All c) (fault-scanned d c x)
+judge-only d Sound (sound {f} x) = derived-sound d (x .size) (x .chars) (x .derived)
+
+-- 6, 7 and 8; and 5
 pub fault-first : (d : List ℕ) (why : Why) (o : ℕ) → judgeOf d ≡ AtFault why o → FirstFault d why o
-unfolding judgeOf scanned
-fault-first d why o = go (ltb 16777216 (length d))
+fault-first d why o e = go (rw e at (judge-says d))
   where
-    found : (checkOf d ≡ All) × (scanned d ≡ AtFault why o) → FirstFault d why o
-    found (a, e) =
-        let c : Chars d = rw a at (check-says d) in
-        let x = scan-found (suc (length d)) d (startOf d) true nothing why o (omega arith) (start-chars d c) e in
-        record {
-          first = x .last;
-          opened = x .opened;
-          reached = x .reached;
-          fault = x .fault;
-          says = item-says (x .last) d o (x .chars);
-        }
+    go : DocumentSays d (AtFault why o) → FirstFault d why o
+    go (at-fault l c x) = x
 
-    go : (b : Bool) → cond b TooLong (byChars (checkOf d) (scanned d)) ≡ AtFault why o → FirstFault d why o
-    go true e = absurd (false≢true cc)
-    go false e = found (by-chars (checkOf d) (scanned d) (AtFault why o) e (λ n z. absurd (false≢true cc)))
-
--- 5: the first bad sequence; all before it are characters
 pub char-first : (d : List ℕ) (o : ℕ) → judgeOf d ≡ NotChar o → CheckSays d (BadAt o)
-unfolding judgeOf scanned
-char-first d o = go (ltb 16777216 (length d)) (checkOf d) (check-says d)
+char-first d o e = go (rw e at (judge-says d))
   where
-    go : (b : Bool) (c : Checked) → CheckSays d c → cond b TooLong (byChars c (scanned d)) ≡ NotChar o → CheckSays d (BadAt o)
-    go true c h e = absurd (false≢true cc)
-    go false (BadAt n) h e =
-        let z : n ≡ o = cc in
-        rw z at h
-    go false All h e = absurd (scan-never (suc (length d)) d (startOf d) true nothing o e)
+    go : DocumentSays d (NotChar o) → CheckSays d (BadAt o)
+    go (not-char l h) = h

@@ -19,6 +19,7 @@ pub mod Narrow
 pub mod Reread
 pub mod Recut
 pub mod Demand3
+pub mod Position
 pub mod Faults
 pub mod Examples
 pub mod Wrong

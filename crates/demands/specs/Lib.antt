@@ -2,4 +2,6 @@
 -- one list within another; the first item at fault.
 pub mod Elements
 pub mod Within
+pub mod Position
 pub mod Reached
+pub mod Judged
