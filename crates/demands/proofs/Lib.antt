@@ -2,6 +2,7 @@
 -- what is selected and counted; what is accepted, by production [1]; demand 3; the first fault; the twelve examples; wrong filters.
 pub mod Answered
 pub mod Selected
+pub mod Under
 pub mod Parts
 pub mod Tagged
 pub mod Told
