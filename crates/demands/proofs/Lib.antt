@@ -17,6 +17,7 @@ pub mod Allowed
 pub mod Productions
 pub mod Characters
 pub mod Narrow
+pub mod Repeated
 pub mod Reread
 pub mod Recut
 pub mod Demand3

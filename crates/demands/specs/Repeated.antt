@@ -1,0 +1,23 @@
+-- What repeated lines are stated with: a path that stands in a list; a list with one line more; two lists that have the same outcome.
+use mathlib.Core.Path.{_≡_}
+use mathlib.Core.List.{List, _++_}
+use Prim.Native.Nat.{ℕ}
+use Rattle.paths.specs.Path.{Path, All, printLine, printList}
+use Rattle.matcher.specs.Says.{Some}
+use Rattle.cutter.specs.Answer.{answerOf, bytesAfter}
+
+abbrev pub Stands : Path → List Path → Type 0
+Stands p ps = Some (λ q. q ≡ p) ps
+
+-- each path of the first list stands in the second
+abbrev pub AllStand : List Path → List Path → Type 0
+AllStand ps qs = All (λ p. Stands p qs) ps
+
+-- the lines of `xs`, a line p, the lines of `ys`
+abbrev pub withLine : List Path → Path → List Path → List ℕ
+withLine xs p ys = printList xs ++ printLine p ++ printList ys
+
+-- two lists give the same answer, and leave the same bytes, for every document and every buffer
+pub record SameOutcome (list list′ : List ℕ) : Type 0 where
+  pub answer-same : (d : List ℕ) (room : ℕ) → answerOf list d room ≡ answerOf list′ d room
+  pub bytes-same : (d o : List ℕ) → bytesAfter list d o ≡ bytesAfter list′ d o
