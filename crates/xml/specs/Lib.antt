@@ -1,5 +1,5 @@
--- Definitions, in the order to read them: what a reader must believe are the first seven; Character and Computes find by computing what the
--- others say, and Judged states worked examples.
+-- Definitions, in the order to read them: what a reader must believe are the first seven; Plainly has the productions of Document as the
+-- Recommendation prints them; Character and Computes find by computing what the others say, and Judged states worked examples.
 pub mod Range
 pub mod Utf8
 pub mod Notation
@@ -7,6 +7,7 @@ pub mod Productions
 pub mod Language
 pub mod Forest
 pub mod Document
+pub mod Plainly
 pub mod Character
 pub mod Computes
 pub mod Judged
