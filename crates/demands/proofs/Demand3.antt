@@ -1,7 +1,7 @@
 -- Demand 3: "Let two lists be accepted, and let every path of the narrow list stand in the wide list, marked there if it is marked in the
 -- narrow one. If the wide cut was written and is itself within the document size, then cutting it by the narrow list, with room enough,
 -- gives byte for byte the narrow cut of the master, and the same number of selected elements."
--- In order: what a call writes; the wide cut as a document; its narrow cut and number; the answer and the buffer; `demand-3`.
+-- In order: what a call writes; the wide cut as a document; its narrow cut and number; the answer and the buffer; two calls, `cut-of-cut`, which is `demand-3` of Demands.antt.
 use mathlib.Core.Path.{_≡_, refl, sym, ap, _∙_}
 use mathlib.Core.List.{List, [], _∷_, _++_}
 use Prim.Native.Nat.{ℕ, _≤_}
@@ -103,13 +103,13 @@ module _ (narrow wide d : List ℕ) (within : Within (listPaths narrow) (listPat
   unfolding bytesAfter
   buffer-again o = rw (answer-again (length o), cut-again) refl
 
--- The demand, of two calls. The wide cut was written: it is the first n bytes of the buffer o. Cutting it by the narrow list into a
+-- Of two calls. The wide cut was written: it is the first n bytes of the buffer o. Cutting it by the narrow list into a
 -- buffer o′ with room enough answers 0, with the length and the number of the master's narrow cut, and o′ then begins with that cut.
-pub demand-3 : (narrow wide d o o′ : List ℕ) (n k : ℕ) → listAnswer narrow ≡ lists.Sound → Within (listPaths narrow) (listPaths wide)
+pub cut-of-cut : (narrow wide d o o′ : List ℕ) (n k : ℕ) → listAnswer narrow ≡ lists.Sound → Within (listPaths narrow) (listPaths wide)
     → answerOf wide d (length o) ≡ Written n k → n ≤ 16777216 → length (cutOf narrow d) ≤ length o′
     → (answerOf narrow (take n (bytesAfter wide d o)) (length o′) ≡ Written (length (cutOf narrow d)) (countOf narrow d))
     × (bytesAfter narrow (take n (bytesAfter wide d o)) o′ ≡ cutOf narrow d ++ drop (length (cutOf narrow d)) o′)
-demand-3 narrow wide d o o′ n k listed within e size room =
+cut-of-cut narrow wide d o o′ n k listed within e size room =
     let z = written-says wide d (length o) n k e in
     let w = written-first wide d o n k e in
     let l : length (cutOf wide d) ≤ 16777216 = rw (sym (z .2)) size in

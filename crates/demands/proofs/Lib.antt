@@ -1,5 +1,7 @@
--- The demands of the request, each in a file of its own, after what it rests on beside the other crates' theorems. In order: demand 1;
+-- The demands of the request are in Demands.antt, to be opened first; the other files have what they rest on beside the other crates'
+-- theorems. In order: the three demands; numbers and bytes of every answer;
 -- what is selected and counted; what is accepted, by production [1]; demand 3; the first fault; the twelve examples; wrong filters.
+pub mod Demands
 pub mod Answered
 pub mod Selected
 pub mod Under
@@ -23,5 +25,7 @@ pub mod Recut
 pub mod Demand3
 pub mod Position
 pub mod Faults
+pub mod Answers
+pub mod Numbers
 pub mod Examples
 pub mod Wrong

@@ -1,0 +1,94 @@
+-- The three demands of the request, each one theorem under its own name. They are about `answerOf` and `bytesAfter`, which are the contract
+-- of `cut`: two equations, for every list, document and buffer, and no `requires`. The words are those of specs/Answers.antt.
+use mathlib.Core.Path.{_≡_, refl, sym, ap, _∙_}
+use mathlib.Core.List.{List, _++_}
+use mathlib.Core.Logic.{_↔_}
+use Prim.Native.Nat.{ℕ, _≤_}
+use lib.ListN.{length, take, drop}
+use Rattle.xml.specs.Forest.{Forest}
+use Rattle.paths.specs.Judge.{listAnswer, listPaths}
+use Rattle.paths.specs.declared.ListAnswer.the-variants as lists
+use Rattle.trees.specs.Written.{cutOf, countOf}
+use Rattle.cutter.specs.Answer.{answerOf, bytesAfter, numberOf, secondOf, thirdOf}
+use Rattle.cutter.specs.declared.Answer.{Answer}
+use Rattle.cutter.specs.declared.Answer.the-variants.{Written}
+use Rattle.demands.specs.Within.{Within}
+use Rattle.demands.specs.Judged.{Accepted}
+use Rattle.demands.specs.Answers.{Cuts, AnswerSays, written, BufferSays, Placed}
+use Rattle.demands.proofs.Answered.{numbered, refused, third, written as cut-stands}
+use Rattle.demands.proofs.Refused.{Taken, taken-iff}
+use Rattle.demands.proofs.Demand3.{cut-of-cut}
+use Rattle.demands.proofs.Answers.{says-answer, only-answer, says-buffer, placed, cuts-only}
+
+-- 1. "Every list, document and output buffer gets an answer. A bad list, a bad document or too little room is refused by a number and a
+-- place, never left to the caller to check, and a refused call changes no byte of the output." Of a call on a buffer o, the answer a is
+-- given and o′ is left.
+pub record Answered (list d o : List ℕ) (a : Answer) (o′ : List ℕ) : Type 0 where
+  pub says : AnswerSays list d (length o) a
+  pub only : (b : Answer) → AnswerSays list d (length o) b → b ≡ a
+  pub number : numberOf a ≤ 9
+  pub place : Placed d (length o) a
+  pub third : (numberOf a ≡ 0 → ⊥) → thirdOf a ≡ 0
+  pub bytes : (numberOf a ≡ 0 → ⊥) → o′ ≡ o
+  pub buffer : BufferSays list d o o′
+
+pub demand-1 : (list d o : List ℕ) → Answered list d o (answerOf list d (length o)) (bytesAfter list d o)
+demand-1 list d o =
+    record {
+      says = says-answer list d (length o);
+      only = λ b h. sym (only-answer list d (length o) b h);
+      number = numbered list d (length o);
+      place = placed list d (length o);
+      third = third (answerOf list d (length o));
+      bytes = refused list d o;
+      buffer = says-buffer list d o;
+    }
+
+-- 2. "A document is accepted exactly when it is in UTF-8 and keeps XML 1.0 (Fifth Edition) without a document type, within the stated
+-- sizes. A path selects an element exactly when its steps can be laid on the names from the root down to that element as XPath 1.0 means
+-- child and descendant steps. The bytes written are those that the rule gives, and the number handed back with them is that of the elements
+-- selected." `Cuts` says all that of the forest that production [1] derives: by `Selects`, the rule `Writes`, and how many are selected.
+pub record Cut (list d o : List ℕ) (a : Answer) (o′ : List ℕ) : Type 0 where
+  -- by a list that is accepted, the answer is 0 or 9 and none of 4 to 8
+  pub accepted : listAnswer list ≡ lists.Sound → Taken a ↔ ((f : Forest) × Accepted d f)
+  -- what is written is the cut, and the numbers are its own
+  pub written-is : (n c : ℕ) → a ≡ Written n c → (w : List ℕ) × Cuts list d w c × (n ≡ length w) × (o′ ≡ w ++ drop n o)
+  -- and where there is a cut and room for it, it is written
+  pub cut-is : (w : List ℕ) (c : ℕ) → Cuts list d w c → length w ≤ length o
+      → (a ≡ Written (length w) c) × (o′ ≡ w ++ drop (length w) o)
+
+pub demand-2 : (list d o : List ℕ) → Cut list d o (answerOf list d (length o)) (bytesAfter list d o)
+demand-2 list d o = record { accepted = accepts; written-is = writes; cut-is = cuts }
+  where
+    accepts : listAnswer list ≡ lists.Sound → Taken (answerOf list d (length o)) ↔ ((f : Forest) × Accepted d f)
+    accepts e =
+        let t = taken-iff list d (length o) e in (
+          (λ x. let (l, c, (f, y)) = t .0 x in (f, record { size = l; chars = c; derived = y })),
+          (λ (f, x). t .1 (x .size, x .chars, (f, x .derived))),
+        )
+
+    cuts : (w : List ℕ) (c : ℕ) → Cuts list d w c → length w ≤ length o
+        → (answerOf list d (length o) ≡ Written (length w) c) × (bytesAfter list d o ≡ w ++ drop (length w) o)
+    cuts w c x l =
+        let e = only-answer list d (length o) (Written (length w) c) (written x l) in
+        (e, cut-stands list d o (ap numberOf e) ∙ rw (ap secondOf e, cuts-only x .bytes-are) refl)
+
+    writes : (n c : ℕ) → answerOf list d (length o) ≡ Written n c
+        → (w : List ℕ) × Cuts list d w c × (n ≡ length w) × (bytesAfter list d o ≡ w ++ drop n o)
+    writes n c e = found (rw e at (says-answer list d (length o))) e
+      where
+        found : {n c : ℕ} → AnswerSays list d (length o) (Written n c) → answerOf list d (length o) ≡ Written n c
+            → (w : List ℕ) × Cuts list d w c × (n ≡ length w) × (bytesAfter list d o ≡ w ++ drop n o)
+        found (written {w} x l) e =
+            (w, x, refl, cut-stands list d o (ap numberOf e) ∙ rw (ap secondOf e, cuts-only x .bytes-are) refl)
+
+-- 3. "Let two lists be accepted, and let every path of the narrow list stand in the wide list, marked there if it is marked in the narrow
+-- one. If the wide cut was written and is itself within the document size, then cutting it by the narrow list, with room enough, gives byte
+-- for byte the narrow cut of the master, and the same number of selected elements." Of two calls: the first writes the wide cut, n bytes,
+-- at the front of the buffer o; the second cuts these bytes into the buffer o′.
+pub demand-3 : (narrow wide d o o′ : List ℕ) (n k : ℕ) → listAnswer narrow ≡ lists.Sound → listAnswer wide ≡ lists.Sound
+    → Within (listPaths narrow) (listPaths wide) → answerOf wide d (length o) ≡ Written n k → n ≤ 16777216
+    → length (cutOf narrow d) ≤ length o′
+    → (answerOf narrow (take n (bytesAfter wide d o)) (length o′) ≡ Written (length (cutOf narrow d)) (countOf narrow d))
+    × (bytesAfter narrow (take n (bytesAfter wide d o)) o′ ≡ cutOf narrow d ++ drop (length (cutOf narrow d)) o′)
+demand-3 narrow wide d o o′ n k p q = cut-of-cut narrow wide d o o′ n k p
