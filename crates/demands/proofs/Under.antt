@@ -1,7 +1,7 @@
 -- Demand 2: "The bytes written are those that the rule gives." In order: `any-iff`, `any` tells whether an element of a forest is
 -- selected, in the words of the choice of places; `leads-iff`, when an element that no path selects is written; `placed-by-rule`, the
 -- four cases of `place`; `rule-cut`, the cut of a forest is written by the rule, and `rule-only`, nothing else is; the same of a document
--- by a list, `rule-written` and `written-only`.
+-- by a list, `rule-written` and `written-only`, in one `rule-iff`.
 use mathlib.Core.Path.{_≡_, refl, sym, ap, _∙_}
 use mathlib.Core.Bool.{Bool, true, false, not, _||_, false≢true}
 use mathlib.Core.List.{List, [], _∷_, _++_, append-assoc, cons≢nil}
@@ -191,3 +191,6 @@ rule-written list d = rule-cut (listPaths list) [] (forestOf d)
 pub written-only : (list d w : List ℕ) → Writes (listPaths list) [] (forestOf d) w → w ≡ cutOf list d
 unfolding cutOf
 written-only list d w h = rule-only (listPaths list) h [] refl
+
+pub rule-iff : (list d w : List ℕ) → Writes (listPaths list) [] (forestOf d) w ↔ (w ≡ cutOf list d)
+rule-iff list d w = (written-only list d w, λ e. rw e (rule-written list d))
