@@ -33,7 +33,7 @@ module _ (ns ws : List Path) (within : Within ns ws) where
   marked-wider names =
       wider (λ p. (p .marked ≡ true) × Selects (p .steps) names) (λ p q c h. (c .marked-too (h .0), rw (c .steps-same) (h .1))) ns ws within
 
-  at-most : (names : List Name) → AtMost (verdictOf ns names) (verdictOf ws names)
+  pub at-most : (names : List Name) → AtMost (verdictOf ns names) (verdictOf ws names)
   at-most names = go (verdictOf ns names) (verdictOf ws names) (says ns names) (says ws names)
     where
       go : (x y : Verdict) → Says ns names x → Says ws names y → AtMost x y

@@ -1,30 +1,31 @@
--- "Repeated lines change nothing but count as lines." In order: two accepted lists of which each is within the other have the same
--- outcome, `same-lists`; so have two of the same paths, `same-members`. A line put into a sound list, where another line covers it, changes
--- nothing, `covered-line`; so a repeated line, `repeated-lines` and `repeated-last`, and a path unmarked beside the same path marked,
--- `marked-wins`. `counted-lines`: such a list is accepted exactly when it has no more lines and bytes than a list may have.
+-- "Repeated lines change nothing but count as lines." In order: two lists of which each is within the other judge every element the same,
+-- `same-verdict`, and if accepted have the same outcome, `same-lists`; so have two of the same paths, `same-members`. A line put into a
+-- sound list where another line covers it changes nothing, `covered-line`; so a repeated line, `repeated-lines` and `repeated-last`, and a
+-- path unmarked beside the same path marked, `marked-wins`. `counted-lines`: such a list is accepted exactly when it has no more lines
+-- and bytes than a list may have.
 use mathlib.Core.Path.{_≡_, refl, sym, ap, fun-ext, _∙_}
 use mathlib.Core.Bool.{true, false, false≢true}
 use mathlib.Core.List.{List, [], _∷_, _++_, append-assoc, append-nil}
 use mathlib.Core.Logic.{_⊎_, inl, inr, _↔_}
 use Prim.Native.Nat.{ℕ, suc, _≤_, _<_}
 use lib.ListN.{length}
-use Rattle.xml.specs.Forest.{render}
+use Rattle.xml.specs.Forest.{Name, render}
 use Rattle.paths.specs.Path.{Step, Path, printLine, printList, All, none, more, Good}
 use Rattle.paths.specs.Answer.{Before, Says, sound}
 use Rattle.paths.specs.Judge.{listAnswer, listPaths}
 use Rattle.paths.specs.declared.ListAnswer.the-variants.{Sound}
 use Rattle.paths.proofs.Meaning.{says, says-only, paths-print, print-once}
-use Rattle.matcher.specs.Says.{Some, this, later}
+use Rattle.matcher.specs.Says.{Some, this, later, verdictOf}
 use Rattle.matcher.specs.declared.Verdict.{Verdict}
 use Rattle.matcher.specs.declared.Verdict.the-variants.{Unselected, Selected, Marked}
 use Rattle.trees.specs.Cut.{Judge, count, cut}
 use Rattle.trees.specs.Grown.{forestOf}
-use Rattle.trees.specs.Written.{verdicts, cutOf, countOf}
+use Rattle.trees.specs.Written.{rootFirst, verdicts, cutOf, countOf}
 use Rattle.trees.proofs.Same.{AtMost}
 use Rattle.cutter.specs.Answer.{answerOf, bytesAfter}
 use Rattle.demands.specs.Repeated.{Stands, AllStand, withLine, SameOutcome}
 use Rattle.demands.specs.Within.{Covers, Within}
-use Rattle.demands.proofs.Narrow.{verdicts-at-most}
+use Rattle.demands.proofs.Narrow.{at-most}
 
 -- ---- two lists, each within the other
 
@@ -33,9 +34,12 @@ at-most-both Unselected Unselected l m = refl
 at-most-both Selected Selected l m = refl
 at-most-both Marked Marked l m = refl
 
+pub same-verdict : (ps qs : List Path) → Within ps qs → Within qs ps → (names : List Name) → verdictOf ps names ≡ verdictOf qs names
+same-verdict ps qs l m names = at-most-both (verdictOf ps names) (verdictOf qs names) (at-most ps qs l names) (at-most qs ps m names)
+
 pub same-verdicts : (ps qs : List Path) → Within ps qs → Within qs ps → verdicts ps ≡ verdicts qs
-same-verdicts ps qs l m =
-    fun-ext (λ up. at-most-both (verdicts ps up) (verdicts qs up) (verdicts-at-most ps qs l up) (verdicts-at-most qs ps m up))
+unfolding verdicts
+same-verdicts ps qs l m = fun-ext (λ up. same-verdict ps qs l m (rootFirst up))
 
 module _ (list list′ : List ℕ) (l : Within (listPaths list) (listPaths list′)) (m : Within (listPaths list′) (listPaths list)) where
   pub same-cut : (d : List ℕ) → cutOf list d ≡ cutOf list′ d
@@ -107,6 +111,11 @@ put-within p xs ys c = within-by (xs ++ p ∷ ys) (xs ++ ys) (λ r s. go r (some
     go : (r : Path) → (p ≡ r) ⊎ Stands r (xs ++ ys) → Some (λ q. Covers r q) (xs ++ ys)
     go r (inl e) = rw e at c
     go r (inr s) = stands-covers s
+
+-- a path that stands among others, once more: every element is judged the same
+pub repeated-verdict : (xs ys : List Path) (p : Path) → Stands p (xs ++ ys) → (names : List Name)
+    → verdictOf (xs ++ p ∷ ys) names ≡ verdictOf (xs ++ ys) names
+repeated-verdict xs ys p s = same-verdict (xs ++ p ∷ ys) (xs ++ ys) (put-within p xs ys (stands-covers s)) (within-put p xs ys)
 
 -- whether a path is good hangs on its steps alone
 good-covered : {p : Path} {ps : List Path} → Some (λ q. Covers p q) ps → All Good ps → Good p
