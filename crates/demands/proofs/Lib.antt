@@ -1,6 +1,7 @@
--- The demands of the request are in Demands.antt, to be opened first; the other files have what they rest on beside the other crates'
--- theorems. In order: the three demands; numbers and bytes of every answer;
--- what is selected and counted; what is accepted, by production [1]; demand 3; the first fault; the twelve examples; wrong filters.
+-- The demands of the request: Demands.antt has the three and is to be opened first, the other files have what they rest on beside the
+-- other crates' theorems. In order: the demands; numbers and bytes of every answer; what is selected, counted and written; what is
+-- accepted, by production [1]; repeated lines; the cut of a cut; the first fault; the answers, both ways; tables of numbers; the twelve
+-- examples; wrong filters.
 pub mod Demands
 pub mod Answered
 pub mod Selected
@@ -18,6 +19,7 @@ pub mod Refused
 pub mod Allowed
 pub mod Productions
 pub mod Characters
+pub mod Plainly
 pub mod Narrow
 pub mod Repeated
 pub mod Reread
