@@ -1,4 +1,5 @@
--- What repeated lines are stated with: a path that stands in a list; a list with one line more; two lists that have the same outcome.
+-- What is said of repeated lines is said with: a path that stands in a list, and all paths of a list in another; a list with one line
+-- more; two lists that have the same outcome. The theorems are in proofs/Repeated.antt.
 use mathlib.Core.Path.{_≡_}
 use mathlib.Core.List.{List, _++_}
 use Prim.Native.Nat.{ℕ}

@@ -42,6 +42,7 @@ module _ (Fits : ℕ → Name → List Name → Type 0) where
       element : {k : ℕ} {s t : List ℕ} → Element (suc k) s t → Piece k s t
       other : {k : ℕ} {s t : List ℕ} → Reads (Reference ∣ CDSect ∣ PI ∣ Comment) s t → Piece k s t
 
-  -- [1] document ::= prolog element Misc*, [22] prolog ::= XMLDecl? Misc*, [27] Misc ::= Comment | PI | S
+  -- [1] document ::= prolog element Misc*
+  -- [22] prolog ::= XMLDecl? Misc* (doctypedecl Misc*)?, without its doctypedecl; [27] Misc ::= Comment | PI | S
   pub data Derived : (s : List ℕ) → Type 0 where
     document : {s a b : List ℕ} → Reads (opt XMLDecl ⨾ Misc ∗) s a → Element 1 a b → Reads (Misc ∗) b [] → Derived s
