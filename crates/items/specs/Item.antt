@@ -1,5 +1,5 @@
 -- The item at a place. In order: the kind of an item, told by its first bytes; the item read, or its fault in the order of document 01: a
--- document type, its own production, sizes; document 01's number for each answer. Tags in places are in the crate tags, specs/Tag.antt.
+-- document type, its own production, sizes. Tags in places are in the crate tags, specs/Tag.antt.
 use mathlib.Core.Bool.{Bool, cond, _&&_}
 use mathlib.Core.List.{List, [], _∷_}
 use mathlib.Core.Option.{Option, none, some}
@@ -71,19 +71,3 @@ itemOf nothing d at = Nothing
 
 unfoldable pub itemAt : Bool → List ℕ → ℕ → Item
 itemAt first d at = itemOf (kindOf first (drop at d)) d at
-
--- ---- document 01's numbers: 0 for no fault
-
-abbrev pub numberOf : Item → ℕ
-numberOf (Declaration e) = 0
-numberOf (Instruction e) = 0
-numberOf (Comment e) = 0
-numberOf (Section e) = 0
-numberOf (Reference e) = 0
-numberOf (Text e) = 0
-numberOf (Start n h e m t) = 0
-numberOf (Finish n e) = 0
-numberOf Doctype = 6
-numberOf Malformed = 7
-numberOf TooLarge = 8
-numberOf Nothing = 0
