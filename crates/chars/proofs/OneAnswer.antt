@@ -1,37 +1,34 @@
--- Two results that a public function's contract allows are equal: one theorem for each function, over its contract as the source states it.
--- No function here is lent anything that it could change, so the result is all that it hands back.
-use mathlib.Core.Path.{_≡_, sym, _∙_}
-use mathlib.Core.Bool.{Bool}
-use mathlib.Core.List.{List}
-use Prim.Native.Nat.{ℕ}
-use lib.ListN.{drop}
-use Rattle.xml.specs.Character.{begins}
-use Rattle.xml.specs.Productions.{isSpace}
-use Rattle.chars.specs.Check.{checkOf}
-use Rattle.chars.specs.Space.{spaceEnd}
-use Rattle.chars.specs.Name.{nameAt}
-use Rattle.chars.specs.declared.whole.Checked.{Checked}
-use Rattle.chars.specs.declared.name.Reading.{Reading}
-
-both : {A : Type 0} {x r r′ : A} → r ≡ x → r′ ≡ x → r ≡ r′
-both p q = p ∙ sym q
+-- Two results that a public function's contract allows are equal: one theorem for each function, over the contract that the toolchain makes
+-- of the source. No function here is lent anything that it could change, so the result is all that it hands back.
+use mathlib.Core.Path.{sym, _∙_}
+use Rattle.contracts.specs.One.{OneResult}
+use Rattle.chars.proofs.whole.check.Reads as check
+use Rattle.chars.proofs.text.stands.Reads as stands
+use Rattle.chars.proofs.space.is_space.Reads as is-space
+use Rattle.chars.proofs.space.after_space.Reads as after-space
+use Rattle.chars.proofs.name.name_by.Reads as name-by
+use Rattle.chars.proofs.name.name.Reads as name
 
 -- `whole::check`
-pub check-one : (s : List ℕ) (r r′ : Checked) → r ≡ checkOf s → r′ ≡ checkOf s → r ≡ r′
-check-one s r r′ = both
+pub check-one : OneResult check.Asked check.Learnt
+check-one κs a z z′ e e′ x p q = p ∙ sym q
 
 -- `text::stands`
-pub stands-one : (s : List ℕ) (at : ℕ) (w : List ℕ) (r r′ : Bool) → r ≡ begins w (drop at s) → r′ ≡ begins w (drop at s) → r ≡ r′
-stands-one s at w r r′ = both
+pub stands-one : OneResult stands.Asked stands.Learnt
+stands-one κs a z z′ e e′ x p q = p ∙ sym q
 
 -- `space::is_space`
-pub is-space-one : (b : ℕ) (r r′ : Bool) → r ≡ isSpace b → r′ ≡ isSpace b → r ≡ r′
-is-space-one b r r′ = both
+pub is-space-one : OneResult is-space.Asked is-space.Learnt
+is-space-one κs a z z′ e e′ x p q = p ∙ sym q
 
 -- `space::after_space`
-pub after-space-one : (s : List ℕ) (at r r′ : ℕ) → r ≡ spaceEnd s at → r′ ≡ spaceEnd s at → r ≡ r′
-after-space-one s at r r′ = both
+pub after-space-one : OneResult after-space.Asked after-space.Learnt
+after-space-one κs a z z′ e e′ x p q = p ∙ sym q
 
--- `name::name_by` and `name::name`
-pub name-one : (s : List ℕ) (at : ℕ) (r r′ : Reading) → r ≡ nameAt s at → r′ ≡ nameAt s at → r ≡ r′
-name-one s at r r′ = both
+-- `name::name_by`
+pub name-by-one : OneResult name-by.Asked name-by.Learnt
+name-by-one κs a z z′ e e′ x p q = p ∙ sym q
+
+-- `name::name`
+pub name-one : OneResult name.Asked name.Learnt
+name-one κs a z z′ e e′ x p q = p ∙ sym q

@@ -1,23 +1,19 @@
--- Two results that a public function's contract allows are equal: one theorem for each function, over its contract as the source states it.
--- No function here is lent anything that it could change, so the result is all that it hands back.
-use mathlib.Core.Path.{_≡_, sym, _∙_}
-use mathlib.Core.Bool.{Bool}
-use mathlib.Core.List.{List}
-use Prim.Native.Nat.{ℕ}
-use Rattle.xml.specs.Productions.{isChar}
-use Rattle.points.specs.Class.{classOf, classTable}
-
-both : {A : Type 0} {x r r′ : A} → r ≡ x → r′ ≡ x → r ≡ r′
-both p q = p ∙ sym q
+-- Two results that a public function's contract allows are equal: one theorem for each function, over the contract that the toolchain makes
+-- of the source. No function here is lent anything that it could change, so the result is all that it hands back.
+use mathlib.Core.Path.{sym, _∙_}
+use Rattle.contracts.specs.One.{OneResult}
+use Rattle.points.proofs.allowed.is_char.Reads as is-char
+use Rattle.points.proofs.table.classes.Reads as classes
+use Rattle.points.proofs.class.class_of.Reads as class-of
 
 -- `allowed::is_char`
-pub is-char-one : (c : ℕ) (r r′ : Bool) → r ≡ isChar c → r′ ≡ isChar c → r ≡ r′
-is-char-one c r r′ = both
+pub is-char-one : OneResult is-char.Asked is-char.Learnt
+is-char-one κs a z z′ e e′ x p q = p ∙ sym q
 
 -- `table::classes`
-pub classes-one : (r r′ : List ℕ) → r ≡ classTable → r′ ≡ classTable → r ≡ r′
-classes-one r r′ = both
+pub classes-one : OneResult classes.Asked classes.Learnt
+classes-one κs a z z′ e e′ x p q = p ∙ sym q
 
 -- `class::class_of`
-pub class-of-one : (c r r′ : ℕ) → r ≡ classOf c → r′ ≡ classOf c → r ≡ r′
-class-of-one c r r′ = both
+pub class-of-one : OneResult class-of.Asked class-of.Learnt
+class-of-one κs a z z′ e e′ x p q = p ∙ sym q

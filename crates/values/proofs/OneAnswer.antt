@@ -1,22 +1,14 @@
--- Two results that a public function's contract allows are equal: one theorem for each function, over its contract as the source states it.
--- No function here is lent anything that it could change, so the result is all that it hands back.
-use mathlib.Core.Path.{_≡_, sym, _∙_}
-use mathlib.Core.List.{List}
-use Prim.Native.Nat.{ℕ}
-use lib.ListN.{drop}
-use Rattle.chars.specs.Name.{readingAt}
-use Rattle.chars.specs.declared.name.Reading.{Reading}
-use Rattle.readers.specs.Value.{referenceOf, valueOf}
-
-both : {A : Type 0} {x r r′ : A} → r ≡ x → r′ ≡ x → r ≡ r′
-both p q = p ∙ sym q
+-- Two results that a public function's contract allows are equal: one theorem for each function, over the contract that the toolchain makes
+-- of the source. No function here is lent anything that it could change, so the result is all that it hands back.
+use mathlib.Core.Path.{sym, _∙_}
+use Rattle.contracts.specs.One.{OneResult}
+use Rattle.values.proofs.reference.reference.Reads as reference
+use Rattle.values.proofs.value.value.Reads as value
 
 -- `reference::reference`
-pub reference-one : (d : List ℕ) (at : ℕ) (r r′ : Reading) → r ≡ readingAt d at (referenceOf (drop at d))
-    → r′ ≡ readingAt d at (referenceOf (drop at d)) → r ≡ r′
-reference-one d at r r′ = both
+pub reference-one : OneResult reference.Asked reference.Learnt
+reference-one κs a z z′ e e′ x p q = p ∙ sym q
 
 -- `value::value`
-pub value-one : (d : List ℕ) (at : ℕ) (r r′ : Reading) → r ≡ readingAt d at (valueOf (drop at d))
-    → r′ ≡ readingAt d at (valueOf (drop at d)) → r ≡ r′
-value-one d at r r′ = both
+pub value-one : OneResult value.Asked value.Learnt
+value-one κs a z z′ e e′ x p q = p ∙ sym q
