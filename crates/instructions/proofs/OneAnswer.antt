@@ -1,34 +1,25 @@
--- Two results that a public function's contract allows are equal: one theorem for each function, over its contract as the source states it.
--- No function here is lent anything that it could change, so the result is all that it hands back.
-use mathlib.Core.Path.{_≡_, sym, _∙_}
-use mathlib.Core.List.{List}
-use Prim.Native.Nat.{ℕ}
-use lib.ListN.{drop}
-use Rattle.chars.specs.Name.{readingAt}
-use Rattle.chars.specs.declared.name.Reading.{Reading}
-use Rattle.readers.specs.Read.{spaceOf}
-use Rattle.readers.specs.Named.{eqOf, instructionOf, declarationOf}
-use Rattle.readers.specs.Answer.{Answers}
+-- Two results that a public function's contract allows are equal: one theorem for each function, over the contract that the toolchain makes
+-- of the source. No function here is lent anything that it could change, so the result is all that it hands back.
+use mathlib.Core.Path.{sym, _∙_}
+use Rattle.contracts.specs.One.{OneResult}
 use Rattle.readers.proofs.Answers.{answers-reading}
-
-both : {A : Type 0} {x r r′ : A} → r ≡ x → r′ ≡ x → r ≡ r′
-both p q = p ∙ sym q
+use Rattle.instructions.proofs.instruction.instruction.Reads as instruction
+use Rattle.instructions.proofs.declaration.declaration.Reads as declaration
+use Rattle.instructions.proofs.steps.space.Reads as space
+use Rattle.instructions.proofs.steps.eq.Reads as eq
 
 -- `instruction::instruction`
-pub instruction-one : (d : List ℕ) (at : ℕ) (r r′ : Reading) → r ≡ readingAt d at (instructionOf (drop at d))
-    → r′ ≡ readingAt d at (instructionOf (drop at d)) → r ≡ r′
-instruction-one d at r r′ = both
+pub instruction-one : OneResult instruction.Asked instruction.Learnt
+instruction-one κs a z z′ e e′ x p q = p ∙ sym q
 
 -- `declaration::declaration`
-pub declaration-one : (d : List ℕ) (at : ℕ) (r r′ : Reading) → r ≡ readingAt d at (declarationOf (drop at d))
-    → r′ ≡ readingAt d at (declarationOf (drop at d)) → r ≡ r′
-declaration-one d at r r′ = both
+pub declaration-one : OneResult declaration.Asked declaration.Learnt
+declaration-one κs a z z′ e e′ x p q = p ∙ sym q
 
 -- `steps::space`
-pub space-one : (d : List ℕ) (at : ℕ) (r r′ : Reading) → Answers d at r (spaceOf (drop at d)) → Answers d at r′ (spaceOf (drop at d))
-    → r ≡ r′
-space-one d at r r′ a b = both (answers-reading a) (answers-reading b)
+pub space-one : OneResult space.Asked space.Learnt
+space-one κs a z z′ e e′ x p q = answers-reading p ∙ sym (answers-reading q)
 
 -- `steps::eq`
-pub eq-one : (d : List ℕ) (at : ℕ) (r r′ : Reading) → Answers d at r (eqOf (drop at d)) → Answers d at r′ (eqOf (drop at d)) → r ≡ r′
-eq-one d at r r′ a b = both (answers-reading a) (answers-reading b)
+pub eq-one : OneResult eq.Asked eq.Learnt
+eq-one κs a z z′ e e′ x p q = answers-reading p ∙ sym (answers-reading q)
