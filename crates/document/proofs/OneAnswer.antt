@@ -1,49 +1,42 @@
--- Two results that a public function's contract allows are equal: one theorem for each function, over its contract as the source states it.
--- `keep` is lent two arrays that it changes and answers nothing: what it hands back is the arrays.
-use mathlib.Core.Path.{_≡_, sym, _∙_}
-use mathlib.Core.Bool.{false}
+-- Two results that a public function's contract allows are equal: one theorem for each function, over the contract that the toolchain makes
+-- of the source. `keep` is lent two arrays that it changes and answers nothing: what it hands back is the arrays.
+use mathlib.Core.Path.{refl, sym, _∙_}
 use mathlib.Core.List.{List}
-use Prim.Native.Nat.{ℕ, _+_}
-use lib.ListN.{set}
-use Rattle.tags.specs.declared.Item.{Item}
-use Rattle.document.specs.Place.{placement, endOf}
-use Rattle.document.specs.Levels.{openedOf, openAfter, lenOf}
-use Rattle.document.specs.Judge.{startOf, judgeOf}
-use Rattle.document.specs.declared.Open.{Open}
-use Rattle.document.specs.declared.Placement.{Placement}
-use Rattle.document.specs.declared.judge.Judged.{Judged}
-
-both : {A : Type 0} {x r r′ : A} → r ≡ x → r′ ≡ x → r ≡ r′
-both p q = p ∙ sym q
+use Prim.Native.Nat.{ℕ}
+use denote.Ref.{now}
+use Rattle.contracts.specs.One.{OneResult, OneOutcome}
+use Rattle.document.proofs.place.place.Reads as place
+use Rattle.document.proofs.place.keep.Reads as keep
+use Rattle.document.proofs.place.end_of.Reads as end-of
+use Rattle.document.proofs.Open.none.Reads as none
+use Rattle.document.proofs.Open.after.Reads as after
+use Rattle.document.proofs.judge.start_of.Reads as start-of
+use Rattle.document.proofs.judge.judge.Reads as judge
 
 -- `place::place`
-pub place-one : (d starts lens : List ℕ) (o : Open) (at : ℕ) (i : Item) (r r′ : Placement)
-    → r ≡ placement d at i (openedOf d starts lens o) → r′ ≡ placement d at i (openedOf d starts lens o) → r ≡ r′
-place-one d starts lens o at i r r′ = both
+pub place-one : OneResult place.Asked place.Learnt
+place-one κs a z z′ e e′ x p q = p ∙ sym q
 
--- `place::keep`
-pub keep-one : (starts lens : List ℕ) (o : Open) (at : ℕ) (i : Item) (s s′ l l′ : List ℕ)
-    → s ≡ set starts (o .level .0) (at + 1) → l ≡ set lens (o .level .0) (lenOf i)
-    → s′ ≡ set starts (o .level .0) (at + 1) → l′ ≡ set lens (o .level .0) (lenOf i) → (s ≡ s′) × (l ≡ l′)
-keep-one starts lens o at i s s′ l l′ p q p′ q′ = (both p p′, both q q′)
+-- `place::keep`: the places and the lengths of the names
+pub keep-one : OneOutcome keep.Asked keep.Learnt {S = List ℕ × List ℕ} (λ κs e. (now (e .0), now (e .1 .0)))
+keep-one κs a z z′ e e′ x p q = (refl, cc)
 
 -- `place::end_of`
-pub end-of-one : (at : ℕ) (i : Item) (r r′ : ℕ) → r ≡ endOf at i → r′ ≡ endOf at i → r ≡ r′
-end-of-one at i r r′ = both
+pub end-of-one : OneResult end-of.Asked end-of.Learnt
+end-of-one κs a z z′ e e′ x p q = p ∙ sym q
 
 -- `Open::none`
-pub none-one : (r r′ : Open) → r ≡ record { level = record { 0 = 0 }; rooted = false }
-    → r′ ≡ record { level = record { 0 = 0 }; rooted = false } → r ≡ r′
-none-one r r′ = both
+pub none-one : OneResult none.Asked none.Learnt
+none-one κs a z z′ e e′ x p q = p ∙ sym q
 
 -- `Open::after`
-pub after-one : (o : Open) (i : Item) (r r′ : Open) → r ≡ openAfter i o → r′ ≡ openAfter i o → r ≡ r′
-after-one o i r r′ = both
+pub after-one : OneResult after.Asked after.Learnt
+after-one κs a z z′ e e′ x p q = p ∙ sym q
 
 -- `judge::start_of`
-pub start-of-one : (d : List ℕ) (r r′ : ℕ) → r ≡ startOf d → r′ ≡ startOf d → r ≡ r′
-start-of-one d r r′ = both
+pub start-of-one : OneResult start-of.Asked start-of.Learnt
+start-of-one κs a z z′ e e′ x p q = p ∙ sym q
 
 -- `judge::judge`
-pub judge-one : (d : List ℕ) (r r′ : Judged) → r ≡ judgeOf d → r′ ≡ judgeOf d → r ≡ r′
-judge-one d r r′ = both
+pub judge-one : OneResult judge.Asked judge.Learnt
+judge-one κs a z z′ e e′ x p q = p ∙ sym q
