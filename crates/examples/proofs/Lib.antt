@@ -1,4 +1,7 @@
 -- Worked examples, each table under one statement:
--- answers on lists and their paths, by `paths`; verdicts on elements, by `matcher`.
+-- answers on lists and their paths, by `paths`; verdicts on elements, by `matcher`; items at places, by `items`; answers on documents, by
+-- `document`.
 pub mod Lists
 pub mod Elements
+pub mod Items
+pub mod Documents
