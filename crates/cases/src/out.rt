@@ -17,28 +17,18 @@ pub fn number(n: usize) {
     io::print_decimal(STDOUT_FILENO, n as u64);
 }
 
-// n in hexadecimal, in so many digits or more.
-fn hex(n: usize, width: usize) {
-    io::print_hex(STDOUT_FILENO, n as u64, width);
-}
-
-// A line of n in hexadecimal and x in decimal.
+// A line of n in hexadecimal, in so many digits or more, and x in decimal.
 pub fn line(n: usize, width: usize, x: usize) {
-    hex(n, width);
+    io::print_hex(STDOUT_FILENO, n as u64, width);
     number(x);
     end();
 }
 
-// A byte in two hexadecimal digits.
-fn byte(b: u8) {
-    hex(b as usize, 2);
-}
-
-// Each byte of s.
+// Each byte of s in two hexadecimal digits.
 pub fn bytes(s: &[u8]) {
     let mut i: usize = 0;
     while i < s.len() {
-        byte(s[i]);
+        io::print_hex(STDOUT_FILENO, s[i] as u64, 2);
         i += 1;
     }
 }
