@@ -12,6 +12,7 @@ pub mod Numbers
 pub mod Spreading
 pub mod Stepped
 pub mod InLine
+pub mod Laid
 pub mod OverLines
 pub mod Reading
 pub mod Lookup

@@ -1,21 +1,113 @@
--- What a caller uses:
--- the tables of a sound list are those that `find` asks for.
-use mathlib.Core.Path.{_≡_}
-use mathlib.Core.List.{List}
-use Prim.Native.Nat.{ℕ}
+-- What a caller uses: the tables of a sound list, taken out of all of them.
+-- The parts for names are those that `find` asks for; the row of a name is its fit.
+use mathlib.Core.Path.{_≡_, refl, sym, ap, _∙_}
+use mathlib.Core.List.{List, [], _++_}
+use Prim.Native.Nat.{ℕ, _+_, _-_, _*_, _≤_, _<_}
+use native.Mathlib.Omega.{arith}
+use lib.ListN.{length, take, drop, length-drop}
+use lib.Seq.{take-at, drop-at, drop-drop, take-append-le, drop-append-le}
+use Rattle.paths.specs.Path.{Path}
 use Rattle.paths.specs.Judge.{listAnswer, listPaths}
 use Rattle.paths.specs.declared.ListAnswer.the-variants.{Sound}
 use Rattle.paths.proofs.Meaning.{paths-print}
-use Rattle.lookup.specs.Names.{namesOf}
+use Rattle.lookup.specs.Names.{namesOf, chainsOf, placeOf}
 use Rattle.lookup.specs.Index.{Indexed, Tables}
-use Rattle.compiled.specs.Compiled.{compiledOf}
-use Rattle.compiled.specs.declared.Compiled.{Compiled}
-use Rattle.compiled.proofs.Stand.{compiled-indexed}
+use Rattle.lookup.proofs.Places.{place-least}
+use Rattle.compiled.specs.Bits.{fitOf, descendsOf, lastsOf, marksOf}
+use Rattle.compiled.specs.Sizes.{Sized}
+use Rattle.compiled.specs.Compiled.{rowsOf, placesOf, lengthsOf, tablesOf}
+use Rattle.compiled.proofs.Firsts.{names-few}
+use Rattle.compiled.proofs.NameRows.{rows-fit}
+use Rattle.compiled.proofs.Stand.{paths-indexed}
+use Rattle.compiled.proofs.Sizes.{tables-long}
 use Rattle.compiled.proofs.OverLines.{sound-sized}
 
-module _ {d : List ℕ} (e : listAnswer d ≡ Sound) {c : Compiled} (q : c ≡ compiledOf (listPaths d)) where
-  pub lookup-indexed : Indexed d (c .at) (c .len) (c .head) (c .next) (namesOf (listPaths d))
-  lookup-indexed = rw q (rw (paths-print d e .0) at (compiled-indexed (listPaths d) (sound-sized d e)))
+-- ---- a table, and what is behind it
 
-  pub lookup-tables : Tables d (c .at) (c .len) (c .head) (c .next)
+module _ (t : List ℕ) (i n : ℕ) (x y : List ℕ) (e : drop i t ≡ x ++ y) (l : length x ≡ n) where
+  table-here : take n (drop i t) ≡ x
+  table-here = rw e (take-at x y n l)
+
+  behind : drop (i + n) t ≡ y
+  behind = sym (drop-drop n i t) ∙ ap (drop n) e ∙ drop-at x y n l
+
+-- ---- the tables of the paths ps
+
+module _ (ps : List Path) (s : Sized ps) where
+  abbrev columns : List ℕ
+  columns = descendsOf ps ++ (lastsOf ps ++ (marksOf ps ++ []))
+
+  abbrev behind-len : List ℕ
+  behind-len = chainsOf (namesOf ps) .head ++ (chainsOf (namesOf ps) .next ++ (rowsOf ps ++ columns))
+
+  from-at : drop 0 (tablesOf ps) ≡ placesOf ps ++ (lengthsOf ps ++ behind-len)
+  unfolding tablesOf
+  from-at = refl
+
+  from-len : drop 512 (tablesOf ps) ≡ lengthsOf ps ++ behind-len
+  from-len = behind (tablesOf ps) 0 512 (placesOf ps) (lengthsOf ps ++ behind-len) from-at (tables-long ps s .at)
+
+  from-head : drop 1024 (tablesOf ps) ≡ behind-len
+  from-head = behind (tablesOf ps) 512 512 (lengthsOf ps) behind-len from-len (tables-long ps s .len)
+
+  from-next : drop 1280 (tablesOf ps) ≡ chainsOf (namesOf ps) .next ++ (rowsOf ps ++ columns)
+  from-next = behind (tablesOf ps) 1024 256 (chainsOf (namesOf ps) .head) (chainsOf (namesOf ps) .next ++ (rowsOf ps ++ columns)) from-head (tables-long ps s .head)
+
+  from-rows : drop 1792 (tablesOf ps) ≡ rowsOf ps ++ columns
+  from-rows = behind (tablesOf ps) 1280 512 (chainsOf (namesOf ps) .next) (rowsOf ps ++ columns) from-next (tables-long ps s .next)
+
+  from-descends : drop 18208 (tablesOf ps) ≡ columns
+  from-descends = behind (tablesOf ps) 1792 16416 (rowsOf ps) columns from-rows (tables-long ps s .rows)
+
+  from-lasts : drop 18240 (tablesOf ps) ≡ lastsOf ps ++ (marksOf ps ++ [])
+  from-lasts = behind (tablesOf ps) 18208 32 (descendsOf ps) (lastsOf ps ++ (marksOf ps ++ [])) from-descends (tables-long ps s .descends)
+
+  from-marks : drop 18272 (tablesOf ps) ≡ marksOf ps ++ []
+  from-marks = behind (tablesOf ps) 18240 32 (lastsOf ps) (marksOf ps ++ []) from-lasts (tables-long ps s .lasts)
+
+  pub descends-part : take 32 (drop 18208 (tablesOf ps)) ≡ descendsOf ps
+  descends-part = table-here (tablesOf ps) 18208 32 (descendsOf ps) (lastsOf ps ++ (marksOf ps ++ [])) from-descends (tables-long ps s .descends)
+
+  pub lasts-part : take 32 (drop 18240 (tablesOf ps)) ≡ lastsOf ps
+  lasts-part = table-here (tablesOf ps) 18240 32 (lastsOf ps) (marksOf ps ++ []) from-lasts (tables-long ps s .lasts)
+
+  pub marks-part : take 32 (drop 18272 (tablesOf ps)) ≡ marksOf ps
+  marks-part = table-here (tablesOf ps) 18272 32 (marksOf ps) [] from-marks (tables-long ps s .marks)
+
+  -- the place of a name is that of a row
+  pub row-in : (n : List ℕ) → placeOf (namesOf ps) n ≤ 512
+  row-in n = let a = place-least (namesOf ps) n in let b = names-few ps (s .few) (s .short) in omega arith
+
+  -- the row of a name is its fit
+  pub row-part : (n : List ℕ) → take 32 (drop (1792 + 32 * placeOf (namesOf ps) n) (tablesOf ps)) ≡ fitOf ps n
+  row-part n =
+      let k = 32 * placeOf (namesOf ps) n in
+      let h = row-in n in
+      let l = tables-long ps s .rows in
+      ap (take 32) (sym (drop-drop k 1792 (tablesOf ps)) ∙ ap (drop k) from-rows ∙ drop-append-le k (rowsOf ps) columns (omega arith))
+      ∙ take-append-le 32 (drop k (rowsOf ps)) columns (let z = length-drop k (rowsOf ps) in omega arith)
+      ∙ rows-fit ps s n
+
+  pub part-indexed : {d : List ℕ}
+      → Indexed d (placesOf ps) (lengthsOf ps) (chainsOf (namesOf ps) .head) (chainsOf (namesOf ps) .next) (namesOf ps)
+      → Indexed d (take 512 (drop 0 (tablesOf ps))) (take 512 (drop 512 (tablesOf ps))) (take 256 (drop 1024 (tablesOf ps)))
+      (take 512 (drop 1280 (tablesOf ps))) (namesOf ps)
+  part-indexed i =
+      rw (
+        table-here (tablesOf ps) 0 512 (placesOf ps) (lengthsOf ps ++ behind-len) from-at (tables-long ps s .at),
+        table-here (tablesOf ps) 512 512 (lengthsOf ps) behind-len from-len (tables-long ps s .len),
+        table-here (tablesOf ps) 1024 256 (chainsOf (namesOf ps) .head) (chainsOf (namesOf ps) .next ++ (rowsOf ps ++ columns)) from-head (tables-long ps s .head),
+        table-here (tablesOf ps) 1280 512 (chainsOf (namesOf ps) .next) (rowsOf ps ++ columns) from-next (tables-long ps s .next),
+      ) i
+
+-- ---- a sound list
+
+module _ {d : List ℕ} (e : listAnswer d ≡ Sound) {t : List ℕ} (q : t ≡ tablesOf (listPaths d)) where
+  pub lookup-indexed : Indexed d (take 512 (drop 0 t)) (take 512 (drop 512 t)) (take 256 (drop 1024 t)) (take 512 (drop 1280 t))
+      (namesOf (listPaths d))
+  lookup-indexed =
+      rw q
+      (part-indexed (listPaths d) (sound-sized d e) (rw (paths-print d e .0) at (paths-indexed (listPaths d) (sound-sized d e))))
+
+  pub lookup-tables : Tables d (take 512 (drop 0 t)) (take 512 (drop 512 t)) (take 256 (drop 1024 t)) (take 512 (drop 1280 t))
   lookup-tables = record { names = namesOf (listPaths d); indexed = lookup-indexed }

@@ -23,17 +23,20 @@ use Rattle.compiled.specs.Bits.{column, descends, lastBit, descendsOf, l
 use Rattle.lookup.specs.Names.{namesOf, chainsOf}
 use Rattle.lookup.specs.Index.{padded, Indexed, first}
 use Rattle.compiled.specs.Sizes.{Sized}
-use Rattle.compiled.specs.Compiled.{joined, compiledOf}
+use Rattle.compiled.specs.Compiled.{joined, tablesOf}
 use Rattle.compiled.specs.Spread.{Spreadable, Spread}
 use Rattle.compiled.specs.Built.{numberRow, numberRows, Built}
 use Rattle.compiled.specs.Line.{AtLine, LineDone, tailOf}
 use Rattle.compiled.specs.declared.build.Line.{Line}
 use Rattle.compiled.specs.declared.build.Tail.{Tail}
+use Rattle.lookup.proofs.Search.{index-linked, at-long, len-long}
 use Rattle.compiled.proofs.Alls.{all-map}
 use Rattle.compiled.proofs.Bits.{column-snoc}
 use Rattle.compiled.proofs.NameRows.{joined-zeros}
 use Rattle.compiled.proofs.Listed.{listed-constant}
 use Rattle.compiled.proofs.Spreading.{numbers-spreadable, numbers-spread}
+use Rattle.compiled.proofs.Sizes.{tables-long}
+use Rattle.compiled.proofs.Laid.{Longs}
 use Rattle.compiled.proofs.InLine.{print-append, print-parts, whole, path-few, sound-bytes}
 
 -- ---- `tail_at`
@@ -261,26 +264,31 @@ module _ {d at len head next rows downs lasts marks : List ℕ} {names p place :
     pub lines-spreadable : Spreadable rows
     lines-spreadable = rw rows-are (numbers-spreadable (listPaths d) sized)
 
-    pub lines-end : {rows′ : List ℕ} → Spread rows rows′
-        → record {
-          descends = downs;
-          lasts = lasts;
-          marks = marks;
-          names = names;
-          at = at;
-          len = len;
-          head = head;
-          next = next;
-          rows = rows′;
-        } ≡ compiledOf (listPaths d)
-    unfolding compiledOf
-    lines-end s =
-        let i : Indexed d at len head next (namesOf (listPaths d)) = rw all-done at (v .built .indexed) in
-        let c : names ≡ length (namesOf (listPaths d)) = rw all-done at (v .built .count) in
-        let x : downs ≡ descendsOf (listPaths d) = rw all-done at (v .downs-are) in
-        let y : lasts ≡ lastsOf (listPaths d) = rw all-done at (v .lasts-are) in
-        let z : marks ≡ marksOf (listPaths d) = rw all-done at (v .marks-are) in
-        let r = numbers-spread (listPaths d) sized (rw rows-are at s) in
-        cc (i .at-is, i .len-is, i .head-is, i .next-is)
+    module _ {rows′ : List ℕ} (s : Spread rows rows′) where
+      pub lines-long : Longs at len head next rows′ downs lasts marks
+      lines-long =
+          let i = v .built .indexed in
+          let k = tables-long (listPaths d) sized in
+          record {
+            at-long = at-long i;
+            len-long = len-long i;
+            head-long = index-linked i .head-long;
+            next-long = index-linked i .next-long;
+            rows-long = s .long;
+            downs-long = rw (v .downs-are, all-done) (k .descends);
+            lasts-long = rw (v .lasts-are, all-done) (k .lasts);
+            marks-long = rw (v .marks-are, all-done) (k .marks);
+          }
 
-pub ruleset over-lines = (lines-start, lines-line, lines-few, lines-less, lines-more, lines-spreadable, lines-end, needs)
+      -- each is that of the list's paths
+      pub lines-end : joined (at ∷ len ∷ head ∷ next ∷ rows′ ∷ downs ∷ lasts ∷ marks ∷ []) ≡ tablesOf (listPaths d)
+      unfolding tablesOf
+      lines-end =
+          let i : Indexed d at len head next (namesOf (listPaths d)) = rw all-done at (v .built .indexed) in
+          let x : downs ≡ descendsOf (listPaths d) = rw all-done at (v .downs-are) in
+          let y : lasts ≡ lastsOf (listPaths d) = rw all-done at (v .lasts-are) in
+          let z : marks ≡ marksOf (listPaths d) = rw all-done at (v .marks-are) in
+          let r = numbers-spread (listPaths d) sized (rw rows-are at s) in
+          cc (i .at-is, i .len-is, i .head-is, i .next-is)
+
+pub ruleset over-lines = (lines-start, lines-line, lines-few, lines-less, lines-more, lines-spreadable, needs)

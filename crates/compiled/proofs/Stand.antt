@@ -9,10 +9,10 @@ use lib.Seq.{take-at, drop-at}
 use Rattle.paths.specs.Path.{Test, any, named, Step, Path, All, none, more}
 use Rattle.paths.specs.Path.{printKind, printTest, printStep, printAll, printMark, printLine, printList}
 use Rattle.xml.specs.Notation.{bytes}
-use Rattle.lookup.specs.Names.{testNames, stepNames, listNames, namesOf}
+use Rattle.lookup.specs.Names.{testNames, stepNames, listNames, namesOf, chainsOf}
 use Rattle.compiled.specs.Sizes.{Sized}
 use Rattle.lookup.specs.Index.{Stands, Indexed}
-use Rattle.compiled.specs.Compiled.{compiledOf}
+use Rattle.compiled.specs.Compiled.{placesOf, lengthsOf}
 use Rattle.compiled.proofs.Alls.{all-append}
 use Rattle.compiled.proofs.Firsts.{names-all, names-once, names-few}
 
@@ -59,10 +59,9 @@ lists-stand w (p ∷ ps) =
 pub names-stand : (ps : List Path) → All (Stands (printList ps)) (namesOf ps)
 names-stand ps = names-all ps (lists-stand [] ps)
 
-pub compiled-indexed : (ps : List Path) → Sized ps
-    → Indexed (printList ps) (compiledOf ps .at) (compiledOf ps .len) (compiledOf ps .head) (compiledOf ps .next) (namesOf ps)
-unfolding compiledOf
-compiled-indexed ps s =
+pub paths-indexed : (ps : List Path) → Sized ps
+    → Indexed (printList ps) (placesOf ps) (lengthsOf ps) (chainsOf (namesOf ps) .head) (chainsOf (namesOf ps) .next) (namesOf ps)
+paths-indexed ps s =
     record {
       few = names-few ps (s .few) (s .short);
       once = names-once ps;

@@ -1,5 +1,5 @@
--- The compiled list, every entry of every table:
--- a function of the paths. And the answer on a list with it.
+-- The compiled list, every entry of every table a function of the paths: the rows, the places and lengths of the names, and all tables
+-- one behind the other.
 use mathlib.Core.List.{List, [], _∷_, _++_, map}
 use Prim.Native.Nat.{ℕ, _-_}
 use lib.ListN.{length, replicate}
@@ -7,7 +7,6 @@ use Rattle.paths.specs.Path.{Path}
 use Rattle.compiled.specs.Bits.{descendsOf, lastsOf, marksOf, fitOf, otherFit}
 use Rattle.lookup.specs.Names.{namesOf, chainsOf}
 use Rattle.lookup.specs.Index.{padded}
-use Rattle.compiled.specs.declared.Compiled.{Compiled}
 
 abbrev pub joined : List (List ℕ) → List ℕ
 joined [] = []
@@ -18,16 +17,23 @@ unfoldable pub rowsOf : List Path → List ℕ
 rowsOf ps =
     joined (otherFit ps ∷ map (λ x. fitOf ps (x .name)) (namesOf ps) ++ replicate (512 - length (namesOf ps)) (otherFit ps))
 
-unfoldable pub compiledOf : List Path → Compiled
-compiledOf ps =
-    record {
-      descends = descendsOf ps;
-      lasts = lastsOf ps;
-      marks = marksOf ps;
-      names = length (namesOf ps);
-      at = padded 512 (map (λ x. x .place) (namesOf ps));
-      len = padded 512 (map (λ x. length (x .name)) (namesOf ps));
-      head = chainsOf (namesOf ps) .head;
-      next = chainsOf (namesOf ps) .next;
-      rows = rowsOf ps;
-    }
+-- the places of the names in the list, and their lengths
+abbrev pub placesOf : List Path → List ℕ
+placesOf ps = padded 512 (map (λ x. x .place) (namesOf ps))
+
+abbrev pub lengthsOf : List Path → List ℕ
+lengthsOf ps = padded 512 (map (λ x. length (x .name)) (namesOf ps))
+
+-- the tables one behind the other: names, chains, rows, and what is said of each path's steps
+unfoldable pub tablesOf : List Path → List ℕ
+tablesOf ps =
+    joined
+    (placesOf ps
+    ∷ lengthsOf ps
+    ∷ chainsOf (namesOf ps) .head
+    ∷ chainsOf (namesOf ps) .next
+    ∷ rowsOf ps
+    ∷ descendsOf ps
+    ∷ lastsOf ps
+    ∷ marksOf ps
+    ∷ [])

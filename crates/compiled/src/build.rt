@@ -8,7 +8,7 @@ ghost use Rattle.paths.specs.Place.{lineEndAt};
 ghost use Rattle.compiled.specs.Bits.{descends};
 ghost use Rattle.compiled.specs.Line.{AtLine, LineDone, tailOf};
 ghost use Rattle.compiled.specs.Built.{Held, Entered, AtStep, StepDone};
-use crate::Compiled;
+use crate::layout;
 use crate::rows::add_bit;
 use lookup::find::find;
 use lookup::hashing::hash;
@@ -27,10 +27,10 @@ pub struct Numbered {
 // The name of n bytes at a is entered where it is not there; no bytes are `*`, of number 0.
 fn with_name(
     list: &[u8],
-    at: &mut [u16; Compiled::NAMES],
-    len: &mut [u16; Compiled::NAMES],
-    head: &mut [u16; Compiled::HEADS],
-    next: &mut [u16; Compiled::NAMES],
+    at: &mut [u16; layout::NAMES],
+    len: &mut [u16; layout::NAMES],
+    head: &mut [u16; layout::HEADS],
+    next: &mut [u16; layout::NAMES],
     names: usize,
     a: usize,
     n: usize,
@@ -63,11 +63,11 @@ fn with_name(
 // A step of path p is entered: its name, and its bit in the row of its number.
 fn add_step(
     list: &[u8],
-    at: &mut [u16; Compiled::NAMES],
-    len: &mut [u16; Compiled::NAMES],
-    head: &mut [u16; Compiled::HEADS],
-    next: &mut [u16; Compiled::NAMES],
-    rows: &mut [u16; Compiled::ENTRIES],
+    at: &mut [u16; layout::NAMES],
+    len: &mut [u16; layout::NAMES],
+    head: &mut [u16; layout::HEADS],
+    next: &mut [u16; layout::NAMES],
+    rows: &mut [u16; layout::ENTRIES],
     names: usize,
     p: usize,
     bit: usize,
@@ -105,11 +105,11 @@ pub struct Line {
 // The steps of path p, whose line begins at a place, are entered.
 pub fn enter_line(
     list: &[u8],
-    at: &mut [u16; Compiled::NAMES],
-    len: &mut [u16; Compiled::NAMES],
-    head: &mut [u16; Compiled::HEADS],
-    next: &mut [u16; Compiled::NAMES],
-    rows: &mut [u16; Compiled::ENTRIES],
+    at: &mut [u16; layout::NAMES],
+    len: &mut [u16; layout::NAMES],
+    head: &mut [u16; layout::HEADS],
+    next: &mut [u16; layout::NAMES],
+    rows: &mut [u16; layout::ENTRIES],
     names: usize,
     p: usize,
     from: usize,

@@ -1,31 +1,46 @@
 // A list is judged, and a sound one compiled line by line. `read` takes any bytes; where the list is refused the tables are those of no
 // path.
 ghost use mathlib.Core.Path.{_≡_};
+ghost use Prim.Native.Nat.{_+_, _≤_};
+ghost use lib.ListN.{length};
+ghost use lib.Seq.{sets};
 ghost use Rattle.paths.specs.Judge.{listAnswer, listPaths};
-ghost use mathlib.Core.List.{[]};
 ghost use Rattle.paths.specs.declared.ListAnswer.the-variants.{Sound};
-ghost use Rattle.compiled.specs.Compiled.{compiledOf};
+ghost use Rattle.compiled.specs.Compiled.{tablesOf};
 use crate::Compiled;
 use crate::build::enter_line;
 use crate::build::if_marked;
 use crate::build::tail_at;
+use crate::layout;
 use crate::rows::spread;
 use paths::ListAnswer;
 use paths::answer;
 
-// The tables of the paths of a sound list.
-fn compile(list: &[u8]) -> Compiled
-    requires { ⌜ listAnswer (now list) ≡ Sound ⌝ }
-    ensures { λ r. ⌜ r ≡ compiledOf (listPaths (now (list .entry))) ⌝ }
+// One table is laid into all of them, from a place on.
+fn lay(t: &mut Compiled, from: usize, part: &[u16])
+    requires { ⌜ from + length (now part) ≤ 18304 ⌝ }
+    ensures { λ r. ⌜ now (t .exit) ≡ sets (now (t .entry)) from (now (part .entry)) ⌝ }
 {
-    let mut descends = [0u16; Compiled::PATHS];
-    let mut lasts = [0u16; Compiled::PATHS];
-    let mut marks = [0u16; Compiled::PATHS];
-    let mut at = [0u16; Compiled::NAMES];
-    let mut len = [0u16; Compiled::NAMES];
-    let mut head = [0u16; Compiled::HEADS];
-    let mut next = [0u16; Compiled::NAMES];
-    let mut rows = [0u16; Compiled::ENTRIES];
+    let mut i: usize = 0;
+    while i < part.len() {
+        t[from + i] = part[i];
+        i += 1;
+    }
+}
+
+// The tables of the paths of a sound list.
+fn compile(list: &[u8], t: &mut Compiled)
+    requires { ⌜ (listAnswer (now list) ≡ Sound) × (length (now t) ≡ 18304) ⌝ }
+    ensures { λ r. ⌜ now (t .exit) ≡ tablesOf (listPaths (now (list .entry))) ⌝ }
+{
+    let mut descends = [0u16; layout::PATHS];
+    let mut lasts = [0u16; layout::PATHS];
+    let mut marks = [0u16; layout::PATHS];
+    let mut at = [0u16; layout::NAMES];
+    let mut len = [0u16; layout::NAMES];
+    let mut head = [0u16; layout::HEADS];
+    let mut next = [0u16; layout::NAMES];
+    let mut rows = [0u16; layout::ENTRIES];
     let mut names: usize = 0;
     let mut p: usize = 0;
     let mut place: usize = 0;
@@ -50,57 +65,26 @@ fn compile(list: &[u8]) -> Compiled
         p += 1;
     }
     spread(&mut rows);
-    Compiled {
-        descends,
-        lasts,
-        marks,
-        names,
-        at,
-        len,
-        head,
-        next,
-        rows,
-    }
+    lay(t, layout::AT, &at);
+    lay(t, layout::LEN, &len);
+    lay(t, layout::HEAD, &head);
+    lay(t, layout::NEXT, &next);
+    lay(t, layout::ROWS, &rows);
+    lay(t, layout::DESCENDS, &descends);
+    lay(t, layout::LASTS, &lasts);
+    lay(t, layout::MARKS, &marks);
 }
 
-// The tables of no path.
-fn none() -> Compiled
-    ensures { λ r. ⌜ r ≡ compiledOf [] ⌝ }
+// Any list: what is said of it, and its tables, those of no path where it is refused.
+pub fn read(list: &[u8], t: &mut Compiled) -> ListAnswer
+    ensures { λ r. ⌜ r ≡ listAnswer (now (list .entry)) ⌝ }
+    ensures { λ r. ⌜ now (t .exit) ≡ tablesOf (listPaths (now (list .entry))) ⌝ }
 {
-    Compiled {
-        descends: [0; Compiled::PATHS],
-        lasts: [0; Compiled::PATHS],
-        marks: [0; Compiled::PATHS],
-        names: 0,
-        at: [0; Compiled::NAMES],
-        len: [0; Compiled::NAMES],
-        head: [0; Compiled::HEADS],
-        next: [0; Compiled::NAMES],
-        rows: [0; Compiled::ENTRIES],
-    }
-}
-
-// What is said of a list, and its paths compiled: none where it is refused.
-pub struct ListRead {
-    pub answer: ListAnswer,
-    pub compiled: Compiled,
-}
-
-// Any list.
-pub fn read(list: &[u8]) -> ListRead
-    ensures { λ r. ⌜ r ≡ record { answer = listAnswer (now (list .entry)); compiled = compiledOf (listPaths (now (list .entry))) } ⌝ }
-{
+    *t = [0u16; layout::LENGTH];
     let said = answer(list);
     if let ListAnswer::Sound = said {
-        let compiled = compile(list);
-        return ListRead {
-            answer: said,
-            compiled,
-        };
+        compile(list, t);
+        return said;
     }
-    let compiled = none();
-    ListRead {
-        answer: said,
-        compiled,
-    }
+    said
 }

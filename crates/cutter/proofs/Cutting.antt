@@ -24,7 +24,7 @@ use Rattle.document.specs.declared.judge.Judged.the-variants as judged
 use Rattle.document.proofs.Judging.{judged-long, judged-items, judged-char}
 use Rattle.writer.proofs.Laying.{laid-whole}
 use Rattle.trees.specs.Written.{cutOf, countOf}
-use Rattle.cutter.specs.Answer.{byList, faultOf, byDocument, byRoom, answerOf, after, bytesAfter}
+use Rattle.cutter.specs.Answer.{byList, faultOf, byDocument, byRoom, answerBy, answerOf, after, bytesBy, bytesAfter}
 use Rattle.passes.specs.Passed.{judgedBy, Told, Passed}
 use Rattle.cutter.specs.declared.Answer.{Answer}
 use Rattle.cutter.specs.declared.Answer.the-variants.{Written, ListTooLong, ListMalformed, ListTooLarge, TooLong, NotChar}
@@ -48,24 +48,33 @@ pub ruleset faults = (fault-doctype, fault-malformed, fault-large, needs)
 
 -- ---- the answer and the buffer, together
 
-pub record Answers (list d o : List ℕ) (r : Answer) (o′ : List ℕ) : Type 0 where
-  pub is : r ≡ answerOf list d (length o)
-  pub bytes : o′ ≡ bytesAfter list d o
+-- r is the answer a, and the buffer o with the cut w is o′
+pub record Answers (a : Answer) (w o : List ℕ) (r : Answer) (o′ : List ℕ) : Type 0 where
+  pub is : r ≡ a
+  pub bytes : o′ ≡ after a w o
 
--- the two promises of the contracts
-pub both : {list d o : List ℕ} {r : Answer} {o′ : List ℕ} → Answers list d o r o′
-    → (r ≡ answerOf list d (length o)) × (o′ ≡ bytesAfter list d o)
-both a = (a .is, a .bytes)
+abbrev pub AnswersBy : List ℕ → List ℕ → List ℕ → Answer → List ℕ → Type 0
+AnswersBy list d o = Answers (answerBy list d (length o)) (cutOf list d) o
+
+abbrev pub AnswersOf : List ℕ → List ℕ → List ℕ → Answer → List ℕ → Type 0
+AnswersOf list d o = Answers (answerOf list d (length o)) (cutOf list d) o
+
+-- the two promises of a contract, by a sound list and by any
+module _ (list d o : List ℕ) {r : Answer} {o′ : List ℕ} where
+  pub both-by : AnswersBy list d o r o′ → (r ≡ answerBy list d (length o)) × (o′ ≡ bytesBy list d o)
+  unfolding bytesBy
+  both-by a = (a .is, a .bytes)
+
+  pub both : AnswersOf list d o r o′ → (r ≡ answerOf list d (length o)) × (o′ ≡ bytesAfter list d o)
+  unfolding bytesAfter
+  both a = (a .is, a .bytes)
 
 -- an answer under which the buffer stays
 abbrev Keeps : Answer → Type 0
 Keeps r = (w o : List ℕ) → after r w o ≡ o
 
-module _ {list d o : List ℕ} where
-  stays : {r : Answer} → Keeps r → r ≡ answerOf list d (length o) → Answers list d o r o
-  unfolding bytesAfter
-  stays {r} k e =
-      record { is = e; bytes = sym (k (cutOf list d) o) ∙ ap (λ (x : Answer). after x (cutOf list d) o) e }
+stays : {a r : Answer} (w o : List ℕ) → Keeps r → r ≡ a → Answers a w o r o
+stays w o k e = record { is = e; bytes = sym (k w o) ∙ ap (λ (x : Answer). after x w o) e }
 
 fault-keeps : (w : Why) (n : ℕ) → Keeps (faultOf w n)
 fault-keeps why.Doctype n w o = refl
@@ -74,49 +83,44 @@ fault-keeps why.TooLarge n w o = refl
 
 -- ---- a sound list
 
--- what is left to the document
-by-document : (list d o : List ℕ) → listAnswer list ≡ lists.Sound → {j : Judged} → j ≡ judgeOf d
-    → byDocument j (byRoom (length o) (cutOf list d) (countOf list d)) ≡ answerOf list d (length o)
-unfolding answerOf
-by-document list d o sound e =
-    ap (λ (x : Judged). byDocument x (byRoom (length o) (cutOf list d) (countOf list d))) e
-    ∙ sym (ap (λ (x : ListAnswer). byList x (byDocument (judgeOf d) (byRoom (length o) (cutOf list d) (countOf list d)))) sound)
+module _ (list d o : List ℕ) where
+  -- what is left to the document
+  by-document : {j : Judged} → j ≡ judgeOf d
+      → byDocument j (byRoom (length o) (cutOf list d) (countOf list d)) ≡ answerBy list d (length o)
+  by-document e = ap (λ (x : Judged). byDocument x (byRoom (length o) (cutOf list d) (countOf list d))) e
 
-module _ (list d o : List ℕ) (sound : listAnswer list ≡ lists.Sound) where
-  pub by-long : 16777216 < length d → Answers list d o TooLong o
-  by-long l = stays (λ w o. refl) (by-document list d o sound (judged-long d l))
+  pub by-long : 16777216 < length d → AnswersBy list d o TooLong o
+  by-long l = stays (cutOf list d) o (λ w o. refl) (by-document (judged-long d l))
 
-  pub by-char : length d ≤ 16777216 → {c : Checked} → c ≡ checkOf d → {k : ℕ} → c ≡ BadAt k → Answers list d o (NotChar k) o
-  by-char l e q = stays (λ w o. refl) (by-document list d o sound (judged-char d l e q))
+  pub by-char : length d ≤ 16777216 → {c : Checked} → c ≡ checkOf d → {k : ℕ} → c ≡ BadAt k → AnswersBy list d o (NotChar k) o
+  by-char l e q = stays (cutOf list d) o (λ w o. refl) (by-document (judged-char d l e q))
 
 -- ---- and a document of characters
 
-module _ (list d o : List ℕ) (sound : listAnswer list ≡ lists.Sound) (small : length d ≤ 16777216) (chars : checkOf d ≡ All)
-    {s s′ : List ℕ} {m : Outcome} (p : Passed list d s m s′) where
+module _ (list d o : List ℕ) (small : length d ≤ 16777216) (chars : checkOf d ≡ All) {s s′ : List ℕ} {m : Outcome} (p : Passed list d s m s′) where
   judged-is : judgedBy m ≡ judgeOf d
   judged-is = judged-items d small (sym chars) refl (p .judged)
 
-  pub written-fault : {w : Why} {at : ℕ} → m ≡ Fault w at → {r : Answer} → r ≡ faultOf w at → Answers list d o r o
+  pub written-fault : {w : Why} {at : ℕ} → m ≡ Fault w at → {r : Answer} → r ≡ faultOf w at → AnswersBy list d o r o
   written-fault {w} {at} q e =
-      rw e (stays (fault-keeps w at) (by-document list d o sound (sym (ap judgedBy q) ∙ judged-is)))
+      rw e (stays (cutOf list d) o (fault-keeps w at) (by-document list d o (sym (ap judgedBy q) ∙ judged-is)))
 
   module _ {len count : ℕ} (q : m ≡ Fine len count) where
     told : (len ≡ length (cutOf list d)) × (count ≡ countOf list d) × (s′ ≡ sets s 0 (cutOf list d))
     told = rw q at (p .told)
 
     room-is : {b : Bool} → ltb (length o) (length (cutOf list d)) ≡ b
-        → cond b (Short (length (cutOf list d))) (Written (length (cutOf list d)) (countOf list d)) ≡ answerOf list d (length o)
+        → cond b (Short (length (cutOf list d))) (Written (length (cutOf list d)) (countOf list d)) ≡ answerBy list d (length o)
     room-is e =
         ap (λ (x : Bool). cond x (Short (length (cutOf list d))) (Written (length (cutOf list d)) (countOf list d))) (sym e)
-        ∙ by-document list d o sound (sym (ap judgedBy q) ∙ judged-is)
+        ∙ by-document list d o (sym (ap judgedBy q) ∙ judged-is)
 
-    pub written-short : length o < len → Answers list d o (Short len) o
+    pub written-short : length o < len → AnswersBy list d o (Short len) o
     written-short l =
         let z = told .0 in
-        rw z (stays (λ w o. refl) (room-is (lt-ltb (length o) (length (cutOf list d)) (omega (arith, z)))))
+        rw z (stays (cutOf list d) o (λ w o. refl) (room-is (lt-ltb (length o) (length (cutOf list d)) (omega (arith, z)))))
 
-    pub written-whole : len ≤ length o → {m₂ : Outcome} {o′ : List ℕ} → Passed list d o m₂ o′ → Answers list d o (Written len count) o′
-    unfolding bytesAfter
+    pub written-whole : len ≤ length o → {m₂ : Outcome} {o′ : List ℕ} → Passed list d o m₂ o′ → AnswersBy list d o (Written len count) o′
     written-whole l {m₂} {o′} p₂ =
         let z = told .0 in
         let e = room-is (le-ltb (length o) (length (cutOf list d)) (omega (arith, z))) in
@@ -138,18 +142,22 @@ module _ (list d o : List ℕ) (sound : listAnswer list ≡ lists.Sound) (small 
 -- ---- any list
 
 module _ (list d o : List ℕ) {a : ListAnswer} (e : a ≡ listAnswer list) where
-  list-is : (x : ListAnswer) → a ≡ x → {r : Answer}
-      → byList x (byDocument (judgeOf d) (byRoom (length o) (cutOf list d) (countOf list d))) ≡ r → r ≡ answerOf list d (length o)
+  list-is : (x : ListAnswer) → a ≡ x → {r : Answer} → byList x (answerBy list d (length o)) ≡ r → r ≡ answerOf list d (length o)
   unfolding answerOf
-  list-is x q h =
-      sym h
-      ∙ ap (λ (y : ListAnswer). byList y (byDocument (judgeOf d) (byRoom (length o) (cutOf list d) (countOf list d)))) (sym q ∙ e)
+  list-is x q h = sym h ∙ ap (λ (y : ListAnswer). byList y (answerBy list d (length o))) (sym q ∙ e)
 
-  pub cut-long : a ≡ lists.TooLong → Answers list d o ListTooLong o
-  cut-long q = stays (λ w o. refl) (list-is lists.TooLong q refl)
+  pub cut-sound : a ≡ lists.Sound → {r : Answer} {o′ : List ℕ} → r ≡ answerBy list d (length o) → o′ ≡ bytesBy list d o
+      → AnswersOf list d o r o′
+  unfolding bytesBy
+  cut-sound q f g =
+      let z : answerBy list d (length o) ≡ answerOf list d (length o) = list-is lists.Sound q refl in
+      record { is = f ∙ z; bytes = g ∙ ap (λ (x : Answer). after x (cutOf list d) o) z }
 
-  pub cut-malformed : {n : ℕ} → a ≡ lists.Malformed n → Answers list d o (ListMalformed n) o
-  cut-malformed {n} q = stays (λ w o. refl) (list-is (lists.Malformed n) q refl)
+  pub cut-long : a ≡ lists.TooLong → AnswersOf list d o ListTooLong o
+  cut-long q = stays (cutOf list d) o (λ w o. refl) (list-is lists.TooLong q refl)
 
-  pub cut-large : {n : ℕ} → a ≡ lists.TooLarge n → Answers list d o (ListTooLarge n) o
-  cut-large {n} q = stays (λ w o. refl) (list-is (lists.TooLarge n) q refl)
+  pub cut-malformed : {n : ℕ} → a ≡ lists.Malformed n → AnswersOf list d o (ListMalformed n) o
+  cut-malformed {n} q = stays (cutOf list d) o (λ w o. refl) (list-is (lists.Malformed n) q refl)
+
+  pub cut-large : {n : ℕ} → a ≡ lists.TooLarge n → AnswersOf list d o (ListTooLarge n) o
+  cut-large {n} q = stays (cutOf list d) o (λ w o. refl) (list-is (lists.TooLarge n) q refl)

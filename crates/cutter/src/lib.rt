@@ -1,5 +1,6 @@
-// The cut of a document by a list: one call, from a list, a document and a buffer to an answer and, under 0, the cut. What is answered and
-// what stands in the buffer afterwards is in specs/Answer.antt.
+// The cut of a document by a list: one call, from a list, a document and a buffer to an answer and, under 0, the cut. It is made of two:
+// the list is read and compiled, by `compiled::compile::read`, and the document is cut by its tables, by `cut_by`. What is answered and what
+// stands in the buffer afterwards is in specs/Answer.antt.
 //
 //     list      judged and compiled                         refused: 1 2 3
 //     document  its length, then its characters             refused: 4 5
@@ -8,17 +9,16 @@
 //               the same pass, which writes                 0
 ghost use mathlib.Core.Path.{_≡_};
 ghost use lib.ListN.{length};
-ghost use Rattle.paths.specs.Judge.{listAnswer, listPaths};
-ghost use Rattle.paths.specs.declared.ListAnswer.the-variants.{Sound};
 ghost use Rattle.chars.specs.Check.{checkOf};
 ghost use Rattle.chars.specs.declared.whole.Checked.the-variants.{All};
 ghost use Prim.Native.Nat.{_≤_};
-ghost use Rattle.compiled.specs.Compiled.{compiledOf};
-ghost use Rattle.cutter.specs.Answer.{faultOf, answerOf, bytesAfter};
+ghost use Rattle.matcher.specs.Fit.{Serves};
+ghost use Rattle.cutter.specs.Answer.{faultOf, answerBy, bytesBy, answerOf, bytesAfter};
 use chars::whole::Checked;
 use chars::whole::check;
 use compiled::Compiled;
 use compiled::compile::read;
+use compiled::layout;
 use document::Open;
 use document::Why;
 use passes::Outcome;
@@ -53,72 +53,37 @@ fn fault_of(why: Why, at: usize) -> Answer
     }
 }
 
-// By a sound list, a document of characters: measured, and written where there is room.
-fn written(list: &[u8], compiled: Compiled, doc: &[u8], out: &mut [u8]) -> Answer
-    requires { ⌜ (listAnswer (now list) ≡ Sound) × (compiled ≡ compiledOf (listPaths (now list))) × (length (now doc) ≤ 16777216)
-        × (checkOf (now doc) ≡ All) ⌝ }
-    ensures { λ r. ⌜ r ≡ answerOf (now (list .entry)) (now (doc .entry)) (length (now (out .entry))) ⌝ }
-    ensures { λ r. ⌜ now (out .exit) ≡ bytesAfter (now (list .entry)) (now (doc .entry)) (now (out .entry)) ⌝ }
+// By the tables of a sound list, a document of characters: measured, and written where there is room.
+fn written(list: &[u8], t: &Compiled, doc: &[u8], out: &mut [u8]) -> Answer
+    requires { ⌜ Serves (now list) (now t) × (length (now doc) ≤ 16777216) × (checkOf (now doc) ≡ All) ⌝ }
+    ensures { λ r. ⌜ r ≡ answerBy (now (list .entry)) (now (doc .entry)) (length (now (out .entry))) ⌝ }
+    ensures { λ r. ⌜ now (out .exit) ≡ bytesBy (now (list .entry)) (now (doc .entry)) (now (out .entry)) ⌝ }
 {
     let table = classes();
-    let at = compiled.at;
-    let len = compiled.len;
-    let head = compiled.head;
-    let next = compiled.next;
-    let rows = compiled.rows;
-    let descends = compiled.descends;
-    let lasts = compiled.lasts;
-    let marks = compiled.marks;
     let mut scratch = [0u8; 1];
-    match pass(
-        &table,
-        list,
-        &at,
-        &len,
-        &head,
-        &next,
-        &rows,
-        &descends,
-        &lasts,
-        &marks,
-        doc,
-        &mut scratch,
-    ) {
+    match pass(&table, list, t, doc, &mut scratch) {
         Outcome::Fault(why, place) => fault_of(why, place),
         Outcome::Fine(length, selected) => {
             if out.len() < length {
                 return Answer::Short(length);
             }
-            pass(
-                &table,
-                list,
-                &at,
-                &len,
-                &head,
-                &next,
-                &rows,
-                &descends,
-                &lasts,
-                &marks,
-                doc,
-                out,
-            );
+            pass(&table, list, t, doc, out);
             Answer::Written { length, selected }
         }
     }
 }
 
-// By a sound list, any document.
-fn cut_by(list: &[u8], compiled: Compiled, doc: &[u8], out: &mut [u8]) -> Answer
-    requires { ⌜ (listAnswer (now list) ≡ Sound) × (compiled ≡ compiledOf (listPaths (now list))) ⌝ }
-    ensures { λ r. ⌜ r ≡ answerOf (now (list .entry)) (now (doc .entry)) (length (now (out .entry))) ⌝ }
-    ensures { λ r. ⌜ now (out .exit) ≡ bytesAfter (now (list .entry)) (now (doc .entry)) (now (out .entry)) ⌝ }
+// By the tables of a sound list, any document and any buffer: for callers that read a list once and cut many documents by it.
+pub fn cut_by(list: &[u8], t: &Compiled, doc: &[u8], out: &mut [u8]) -> Answer
+    requires { ⌜ Serves (now list) (now t) ⌝ }
+    ensures { λ r. ⌜ r ≡ answerBy (now (list .entry)) (now (doc .entry)) (length (now (out .entry))) ⌝ }
+    ensures { λ r. ⌜ now (out .exit) ≡ bytesBy (now (list .entry)) (now (doc .entry)) (now (out .entry)) ⌝ }
 {
     if doc.len() > Open::BYTES {
         return Answer::TooLong;
     }
     match check(doc) {
-        Checked::All => written(list, compiled, doc, out),
+        Checked::All => written(list, t, doc, out),
         Checked::BadAt(o) => Answer::NotChar(o),
     }
 }
@@ -128,10 +93,9 @@ pub fn cut(list: &[u8], doc: &[u8], out: &mut [u8]) -> Answer
     ensures { λ r. ⌜ r ≡ answerOf (now (list .entry)) (now (doc .entry)) (length (now (out .entry))) ⌝ }
     ensures { λ r. ⌜ now (out .exit) ≡ bytesAfter (now (list .entry)) (now (doc .entry)) (now (out .entry)) ⌝ }
 {
-    let said = read(list);
-    let judged = said.answer;
-    match judged {
-        ListAnswer::Sound => cut_by(list, said.compiled, doc, out),
+    let mut t = [0u16; layout::LENGTH];
+    match read(list, &mut t) {
+        ListAnswer::Sound => cut_by(list, &t, doc, out),
         ListAnswer::TooLong => Answer::ListTooLong,
         ListAnswer::Malformed(line) => Answer::ListMalformed(line),
         ListAnswer::TooLarge(line) => Answer::ListTooLarge(line),

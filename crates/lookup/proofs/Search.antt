@@ -6,7 +6,7 @@ use mathlib.Core.List.{List, [], _∷_, map}
 use Prim.Native.Nat.{ℕ, zero, suc, _+_, _-_, _*_, _%_, _≤_, _<_}
 use native.Mathlib.Omega.{arith}
 use borrow.Author.Needs.{needs}
-use lib.ListN.{length, take, drop, getD, length-drop}
+use lib.ListN.{length, take, drop, getD, length-map, length-drop}
 use lib.Seq.{length-take-le}
 use Rattle.xml.specs.Character.{begins}
 use Rattle.xml.specs.Productions.{same}
@@ -16,7 +16,7 @@ use Rattle.lookup.specs.Names.{Named, placeOf, hashFrom, hashOf}
 use Rattle.lookup.specs.Index.{padded, Stands, Indexed, Tables, Found}
 use Rattle.xml.proofs.Same.{same-other, begins-same}
 use Rattle.lookup.proofs.Places.{nameAt}
-use Rattle.lookup.proofs.Padded.{padded-get}
+use Rattle.lookup.proofs.Padded.{padded-long, padded-get}
 use Rattle.lookup.proofs.Chains.{stops, chain, Linked, chains-linked}
 
 -- ---- `same`
@@ -82,10 +82,17 @@ module _ {d at len head next : List ℕ} {ns : List Named} (v : Indexed d at len
   pub index-linked : Linked ns head next
   index-linked = rw (v .head-is, v .next-is) (chains-linked (v .once) (v .few))
 
+  -- how long each table is
+  pub at-long : length at ≡ 512
+  at-long = rw (v .at-is) (padded-long 512 (map (λ x. x .place) ns) (rw (length-map ns (λ x. x .place)) (v .few)))
+
+  pub len-long : length len ≡ 512
+  len-long = rw (v .len-is) (padded-long 512 (map (λ x. length (x .name)) ns) (rw (length-map ns (λ x. length (x .name))) (v .few)))
+
 -- ---- `find`
 
-pub tables-head : {d at len head next : List ℕ} → Tables d at len head next → (h : ℕ) → getD head h 0 ≤ 512
-tables-head t h = let a = index-linked (t .indexed) .top h in let b = t .indexed .few in omega arith
+pub tables-heads : {d at len head next : List ℕ} → Tables d at len head next → length head ≡ 256
+tables-heads t = index-linked (t .indexed) .head-long
 
 -- from the place k on the chain goes to the place of n
 pub record Walking (ns : List Named) (next n : List ℕ) (k : ℕ) : Type 0 where
@@ -111,8 +118,18 @@ module _ {d at len head next n : List ℕ} {k : ℕ} (v : Finding d at len head 
   here : Walking (v .tables .names) next n k
   here = v .walk (v .tables .names) (v .tables .indexed)
 
-  pub find-room : k - 1 < 512
+  find-room : k - 1 < 512
   find-room = let a = here .k-in in let b = v .tables .indexed .few in omega arith
+
+  -- each table has an entry for the place k
+  pub room-at : k - 1 < length at
+  room-at = rw (at-long (v .tables .indexed)) find-room
+
+  pub room-len : k - 1 < length len
+  room-len = rw (len-long (v .tables .indexed)) find-room
+
+  pub room-next : k - 1 < length next
+  room-next = rw (index-linked (v .tables .indexed) .next-long) find-room
 
   pub find-in : getD at (k - 1) 0 + getD len (k - 1) 0 ≤ length d
   find-in = index-entry (v .tables .indexed) (k - 1) (let a = here .k-in in omega arith) .inside
@@ -169,4 +186,4 @@ find-end {next = next} {n = n} {k = k} v l =
           sym (ap (chain ns next n (suc (w .bound))) z) ∙ w .goes (suc (w .bound)) (omega arith);
     }
 
-pub ruleset finding = (find-start, find-room, find-in, find-less, find-end, needs)
+pub ruleset finding = (find-start, room-at, room-len, room-next, find-in, find-less, find-end, needs)

@@ -5,8 +5,6 @@ ghost use Prim.Native.Nat.{_+_, _≤_};
 ghost use lib.ListN.{length, take, drop};
 ghost use Rattle.xml.specs.Productions.{same as sameName};
 ghost use Rattle.lookup.specs.Index.{Tables, Found};
-use crate::HEADS;
-use crate::NAMES;
 use crate::hashing::hash;
 use chars::text::stands;
 
@@ -22,14 +20,7 @@ fn same(list: &[u8], a: usize, n: usize, name: &[u8]) -> bool
 }
 
 // Where a name stands among those of the tables, from 1; 0 where it does not.
-pub fn find(
-    list: &[u8],
-    at: &[u16; NAMES],
-    len: &[u16; NAMES],
-    head: &[u16; HEADS],
-    next: &[u16; NAMES],
-    name: &[u8],
-) -> usize
+pub fn find(list: &[u8], at: &[u16], len: &[u16], head: &[u16], next: &[u16], name: &[u8]) -> usize
     requires { ⌜ Tables (now list) (now at) (now len) (now head) (now next) ⌝ }
     ensures { λ r.
         ⌜ Found (now (list .entry)) (now (at .entry)) (now (len .entry)) (now (head .entry)) (now (next .entry)) (now (name .entry)) r ⌝ }

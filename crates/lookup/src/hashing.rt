@@ -3,6 +3,7 @@
 ghost use mathlib.Core.Path.{_≡_};
 ghost use Prim.Native.Nat.{_<_};
 ghost use Rattle.lookup.specs.Names.{hashOf};
+use crate::HEADS;
 
 // A byte as a number.
 fn wide(b: u8) -> usize
@@ -18,7 +19,7 @@ pub fn hash(name: &[u8]) -> usize
     let mut h: usize = 0;
     let mut i: usize = 0;
     while i < name.len() {
-        h = (h * 31 + wide(name[i])) % 256;
+        h = (h * 31 + wide(name[i])) % HEADS;
         i += 1;
     }
     h

@@ -1,50 +1,59 @@
 -- `fit_of`: the tables of a sound list serve a search, and the row of the place found, with the list's columns, is the name's fit.
 -- A caller has what `fit_of` asks for from the contract of `read`.
-use mathlib.Core.Path.{_≡_, refl, ap}
+use mathlib.Core.Path.{_≡_, ap, _∙_}
 use mathlib.Core.List.{List}
-use Prim.Native.Nat.{ℕ}
-use borrow.Author.Needs.{needs}
-use Rattle.paths.specs.Judge.{listAnswer, listPaths}
-use Rattle.paths.specs.declared.ListAnswer.the-variants.{Sound}
-use Rattle.lookup.specs.Names.{namesOf}
+use Prim.Native.Nat.{ℕ, _+_, _*_, _≤_}
+use lib.ListN.{take, drop}
+use Rattle.paths.specs.Judge.{listPaths}
+use Rattle.lookup.specs.Names.{namesOf, placeOf}
 use Rattle.lookup.specs.Index.{Indexed, Tables, Found}
-use Rattle.compiled.specs.Compiled.{compiledOf}
-use Rattle.compiled.specs.declared.Compiled.{Compiled}
-use Rattle.compiled.proofs.Lookup.{lookup-indexed}
+use Rattle.compiled.specs.Bits.{fitOf, descendsOf, lastsOf, marksOf}
+use Rattle.compiled.specs.Compiled.{tablesOf}
+use Rattle.compiled.proofs.Lookup.{lookup-indexed, row-in, row-part, descends-part, lasts-part, marks-part}
 use Rattle.compiled.proofs.OverLines.{sound-sized}
-use Rattle.matcher.specs.Row.{rowIn}
 use Rattle.matcher.specs.Fit.{fitFor, Serves}
 use Rattle.matcher.specs.declared.fit.Fit.{Fit}
-use Rattle.matcher.proofs.Rows.{row-fit}
 
-module _ {d at len head next rows descends lasts marks : List ℕ} (v : Serves d at len head next rows descends lasts marks) where
+module _ {d t : List ℕ} (v : Serves d t) where
+  -- the parts of the tables that `find` asks for
+  abbrev at : List ℕ
+  at = take 512 (drop 0 t)
+
+  abbrev len : List ℕ
+  len = take 512 (drop 512 t)
+
+  abbrev head : List ℕ
+  head = take 256 (drop 1024 t)
+
+  abbrev next : List ℕ
+  next = take 512 (drop 1280 t)
+
   indexed : Indexed d at len head next (namesOf (listPaths d))
-  indexed = rw (v .at-is, v .len-is, v .head-is, v .next-is) (lookup-indexed (v .sound) refl)
+  indexed = lookup-indexed (v .sound) (v .tables)
 
   pub serves-tables : Tables d at len head next
   serves-tables = record { names = namesOf (listPaths d); indexed = indexed }
 
-  pub serves-fit : {n : List ℕ} {k : ℕ} → Found d at len head next n k → {passes : List ℕ} → passes ≡ rowIn rows k
-      → _≡_ {A = Fit} (record { passes = passes; descends = descends; lasts = lasts; marks = marks }) (fitFor (listPaths d) n)
-  unfolding compiledOf fitFor
-  serves-fit {n} {k} f {passes} e =
-      let k-is = f .is (namesOf (listPaths d)) indexed in
-      rw (e, k-is, v .rows-are, v .descends-are, v .lasts-are, v .marks-are, row-fit (listPaths d) (sound-sized d (v .sound)) n)
+  module _ {n : List ℕ} {k : ℕ} (f : Found d at len head next n k) where
+    pub serves-row : k ≤ 512
+    serves-row = rw (f .is (namesOf (listPaths d)) indexed) (row-in (listPaths d) (sound-sized d (v .sound)) n)
 
-pub ruleset serving = (serves-tables, serves-fit, needs)
-
--- what a caller has who has read a sound list
-pub read-serves : {d : List ℕ} → listAnswer d ≡ Sound → {c : Compiled} → c ≡ compiledOf (listPaths d)
-    → Serves d (c .at) (c .len) (c .head) (c .next) (c .rows) (c .descends) (c .lasts) (c .marks)
-read-serves s q =
-    record {
-      sound = s;
-      at-is = ap (λ (x : Compiled). x .at) q;
-      len-is = ap (λ (x : Compiled). x .len) q;
-      head-is = ap (λ (x : Compiled). x .head) q;
-      next-is = ap (λ (x : Compiled). x .next) q;
-      rows-are = ap (λ (x : Compiled). x .rows) q;
-      descends-are = ap (λ (x : Compiled). x .descends) q;
-      lasts-are = ap (λ (x : Compiled). x .lasts) q;
-      marks-are = ap (λ (x : Compiled). x .marks) q;
-    }
+    pub serves-fit : {passes descends lasts marks : List ℕ} → passes ≡ take 32 (drop (1792 + 32 * k) t)
+        → descends ≡ take 32 (drop 18208 t) → lasts ≡ take 32 (drop 18240 t) → marks ≡ take 32 (drop 18272 t)
+        → _≡_ {A = Fit} (record { passes = passes; descends = descends; lasts = lasts; marks = marks }) (fitFor (listPaths d) n)
+    unfolding fitFor
+    serves-fit {passes} {descends} {lasts} {marks} a b c e =
+        let ps = listPaths d in
+        let s = sound-sized d (v .sound) in
+        let k-is = f .is (namesOf ps) indexed in
+        let column : (i : ℕ) → take 32 (drop i t) ≡ take 32 (drop i (tablesOf ps)) =
+        λ i. ap (λ (u : List ℕ). take 32 (drop i u)) (v .tables) in
+        let p : passes ≡ fitOf ps n =
+        a
+        ∙ ap (λ (j : ℕ). take 32 (drop (1792 + 32 * j) t)) k-is
+        ∙ column (1792 + 32 * placeOf (namesOf ps) n)
+        ∙ row-part ps s n in
+        let q : descends ≡ descendsOf ps = b ∙ column 18208 ∙ descends-part ps s in
+        let r : lasts ≡ lastsOf ps = c ∙ column 18240 ∙ lasts-part ps s in
+        let w : marks ≡ marksOf ps = e ∙ column 18272 ∙ marks-part ps s in
+        rw (p, q, r, w)

@@ -6,20 +6,13 @@ use Rattle.paths.specs.Path.{Path}
 use Rattle.paths.specs.Judge.{listAnswer, listPaths}
 use Rattle.paths.specs.declared.ListAnswer.the-variants.{Sound}
 use Rattle.compiled.specs.Bits.{fitOf, descendsOf, lastsOf, marksOf}
-use Rattle.compiled.specs.Compiled.{compiledOf}
+use Rattle.compiled.specs.Compiled.{tablesOf}
 use Rattle.matcher.specs.declared.fit.Fit.{Fit}
 
 unfoldable pub fitFor : List Path → List ℕ → Fit
 fitFor ps n = record { passes = fitOf ps n; descends = descendsOf ps; lasts = lastsOf ps; marks = marksOf ps }
 
--- the tables are those of the list's paths
-pub record Serves (list at len head next rows descends lasts marks : List ℕ) : Type 0 where
+-- the tables are those of the paths of a sound list
+pub record Serves (list t : List ℕ) : Type 0 where
   pub sound : listAnswer list ≡ Sound
-  pub at-is : at ≡ compiledOf (listPaths list) .at
-  pub len-is : len ≡ compiledOf (listPaths list) .len
-  pub head-is : head ≡ compiledOf (listPaths list) .head
-  pub next-is : next ≡ compiledOf (listPaths list) .next
-  pub rows-are : rows ≡ compiledOf (listPaths list) .rows
-  pub descends-are : descends ≡ compiledOf (listPaths list) .descends
-  pub lasts-are : lasts ≡ compiledOf (listPaths list) .lasts
-  pub marks-are : marks ≡ compiledOf (listPaths list) .marks
+  pub tables : t ≡ tablesOf (listPaths list)

@@ -4,5 +4,4 @@ pub mod Select
 pub mod Test
 pub mod Says
 pub mod Fit
-pub mod Row
 pub mod State

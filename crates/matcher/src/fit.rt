@@ -2,11 +2,12 @@
 // A name is looked up among the distinct names of the list, by its bytes.
 ghost use mathlib.Core.Path.{_≡_};
 ghost use Rattle.paths.specs.Judge.{listPaths};
-ghost use Prim.Native.Nat.{_*_, _≤_};
-ghost use Rattle.matcher.specs.Row.{rowOf, rowIn};
+ghost use Prim.Native.Nat.{_+_, _≤_};
+ghost use lib.ListN.{length, take, drop};
 ghost use Rattle.matcher.specs.Fit.{fitFor, Serves};
 use crate::state::MatchState;
 use compiled::Compiled;
+use compiled::layout;
 use lookup::find::find;
 
 // For each path: the steps that pass the name; those that descend; the last one; and the last one again if the path is marked.
@@ -17,52 +18,42 @@ pub struct Fit {
     pub marks: [u16; MatchState::PATHS],
 }
 
-// The place of a row's first number; row 0 stands for those past the last.
-fn row_start(k: usize) -> usize
-    ensures { λ r. ⌜ (r ≡ 32 * rowOf k) × (r ≤ 16384) ⌝ }
+// A number for each path, from a place of the tables on.
+fn numbers(t: &[u16], from: usize) -> [u16; MatchState::PATHS]
+    requires { ⌜ from + 32 ≤ length (now t) ⌝ }
+    ensures { λ r. ⌜ r ≡ take 32 (drop from (now (t .entry))) ⌝ }
 {
-    if k < 513 {
-        return Compiled::PATHS * k;
-    }
-    0
-}
-
-// Row k: that of the name at place k among the list's names, and row 0 for k past the rows.
-fn row_at(rows: &[u16; Compiled::ENTRIES], k: usize) -> [u16; MatchState::PATHS]
-    ensures { λ r. ⌜ r ≡ rowIn (now (rows .entry)) k ⌝ }
-{
-    let base = row_start(k);
     let mut bits = [0u16; MatchState::PATHS];
     let mut p: usize = 0;
     while p < MatchState::PATHS {
-        bits[p] = rows[base + p];
+        bits[p] = t[from + p];
         p += 1;
     }
     bits
 }
 
-// The fit of a name, by the tables of a sound list.
-pub fn fit_of(
-    list: &[u8],
-    at: &[u16; Compiled::NAMES],
-    len: &[u16; Compiled::NAMES],
-    head: &[u16; Compiled::HEADS],
-    next: &[u16; Compiled::NAMES],
-    rows: &[u16; Compiled::ENTRIES],
-    descends: &[u16; MatchState::PATHS],
-    lasts: &[u16; MatchState::PATHS],
-    marks: &[u16; MatchState::PATHS],
-    name: &[u8],
-) -> Fit
-    requires { ⌜ Serves (now list) (now at) (now len) (now head) (now next) (now rows) (now descends) (now lasts) (now marks) ⌝ }
+// The fit of a name, by the tables of a sound list: the row of the name's place among the list's names, and the list's columns.
+pub fn fit_of(list: &[u8], t: &Compiled, name: &[u8]) -> Fit
+    requires { ⌜ Serves (now list) (now t) ⌝ }
     ensures { λ r. ⌜ r ≡ fitFor (listPaths (now (list .entry))) (now (name .entry)) ⌝ }
 {
-    let k = find(list, at, len, head, next, name);
-    let passes = row_at(rows, k);
+    let s = &t[..];
+    let k = find(
+        list,
+        &s[layout::AT..layout::LEN],
+        &s[layout::LEN..layout::HEAD],
+        &s[layout::HEAD..layout::NEXT],
+        &s[layout::NEXT..layout::ROWS],
+        name,
+    );
+    let passes = numbers(s, layout::ROWS + layout::PATHS * k);
+    let descends = numbers(s, layout::DESCENDS);
+    let lasts = numbers(s, layout::LASTS);
+    let marks = numbers(s, layout::MARKS);
     Fit {
         passes,
-        descends: *descends,
-        lasts: *lasts,
-        marks: *marks,
+        descends,
+        lasts,
+        marks,
     }
 }

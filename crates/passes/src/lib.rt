@@ -56,26 +56,12 @@ fn parent_of(level: usize, top: MatchState) -> MatchState
 }
 
 // By the tables of a sound list.
-pub fn pass(
-    table: &Classes,
-    list: &[u8],
-    places: &[u16; Compiled::NAMES],
-    sizes: &[u16; Compiled::NAMES],
-    heads: &[u16; Compiled::HEADS],
-    nexts: &[u16; Compiled::NAMES],
-    rows: &[u16; Compiled::ENTRIES],
-    descends: &[u16; MatchState::PATHS],
-    lasts: &[u16; MatchState::PATHS],
-    marks: &[u16; MatchState::PATHS],
-    doc: &[u8],
-    out: &mut [u8],
-) -> Outcome
-    requires { ⌜ (now table ≡ classTable) × (length (now doc) ≤ 16777216)
-        × Serves (now list) (now places) (now sizes) (now heads) (now nexts) (now rows) (now descends) (now lasts) (now marks) ⌝ }
+pub fn pass(table: &Classes, list: &[u8], t: &Compiled, doc: &[u8], out: &mut [u8]) -> Outcome
+    requires { ⌜ (now table ≡ classTable) × (length (now doc) ≤ 16777216) × Serves (now list) (now t) ⌝ }
     ensures { λ r. ⌜ Passed (now (list .entry)) (now (doc .entry)) (now (out .entry)) r (now (out .exit)) ⌝ }
 {
     let fresh = MatchState::fresh();
-    let mut states = [fresh; MatchState::LEVELS];
+    let mut states = [fresh; Open::LEVELS];
     let mut starts = [0usize; Open::LEVELS];
     let mut lens = [0usize; Open::LEVELS];
     let mut opened = Open::none();
@@ -104,18 +90,7 @@ pub fn pass(
                     let top = states[innermost(level)];
                     let parent = parent_of(level, top);
                     let a = at + 1;
-                    let fit = fit_of(
-                        list,
-                        places,
-                        sizes,
-                        heads,
-                        nexts,
-                        rows,
-                        descends,
-                        lasts,
-                        marks,
-                        &doc[a..a + name],
-                    );
+                    let fit = fit_of(list, t, &doc[a..a + name]);
                     let verdict = parent.verdict_on(fit);
                     states[level] = parent.deeper(fit);
                     run = tag_step(

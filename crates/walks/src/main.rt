@@ -10,6 +10,7 @@ mod list; // a list drawn
 mod walk; // a walk drawn, and what the matcher says on the way
 
 use compiled::compile::read;
+use compiled::layout;
 use draw::fold;
 use libc::STDOUT_FILENO;
 use list::put_list;
@@ -51,14 +52,12 @@ fn print(t: Tally) {
 
 // The list is read, and what it says on a walk is printed.
 fn tell(list: &[u8], seed: usize, m: Mode) {
-    let got = read(list);
-    let said = got.answer;
-    let ListAnswer::Sound = said else {
+    let mut tables = [0u16; layout::LENGTH];
+    let ListAnswer::Sound = read(list, &mut tables) else {
         io::write_all(STDOUT_FILENO, b" refused\n");
         return;
     };
-    let c = got.compiled;
-    print(walk(list, c, seed, m));
+    print(walk(list, &tables, seed, m));
 }
 
 // A round: its list is drawn, and then its walk. Every list that is drawn is sound and shorter than the buffer.

@@ -1,7 +1,8 @@
 // The matcher, in nanoseconds an element: 32 paths of 8 steps on a walk through nested places, beside the same in ordinary Rust; and the
 // parts of it by themselves.
-use crate::ours::compiled::Compiled;
 use crate::ours::compiled::compile::read;
+use crate::ours::compiled::{layout, Compiled};
+use crate::ours::document::Open;
 use crate::ours::lookup::find::find;
 use crate::ours::matcher::fit::{fit_of, Fit};
 use crate::ours::matcher::state::MatchState;
@@ -14,23 +15,24 @@ use std::hint::black_box;
 struct Ours<'a> {
     list: &'a [u8],
     tables: &'a Compiled,
-    states: [MatchState; MatchState::LEVELS],
+    states: [MatchState; Open::LEVELS],
     level: usize,
 }
 
 impl<'a> Ours<'a> {
     fn new(list: &'a [u8], tables: &'a Compiled) -> Self {
-        Ours { list, tables, states: [MatchState::fresh(); MatchState::LEVELS], level: 0 }
+        Ours { list, tables, states: [MatchState::fresh(); Open::LEVELS], level: 0 }
     }
 
     fn fit(&self, name: &[u8]) -> Fit {
-        let t = self.tables;
-        fit_of(self.list, &t.at, &t.len, &t.head, &t.next, &t.rows, &t.descends, &t.lasts, &t.marks, name)
+        fit_of(self.list, self.tables, name)
     }
 
     fn find(&self, name: &[u8]) -> usize {
         let t = self.tables;
-        find(self.list, &t.at, &t.len, &t.head, &t.next, name)
+        let part = |from: usize, to: usize| &t[from..to];
+        let (at, len) = (part(layout::AT, layout::LEN), part(layout::LEN, layout::HEAD));
+        find(self.list, at, len, part(layout::HEAD, layout::NEXT), part(layout::NEXT, layout::ROWS), name)
     }
 
     fn start_by(&mut self, fit: Fit) -> usize {
@@ -88,7 +90,8 @@ fn look_up<A>(walk: &Walk, look: impl Fn(&[u8]) -> A) {
 
 pub fn measure() {
     let (list, walk) = (places::list(), places::walk());
-    let tables = read(list.as_bytes()).compiled;
+    let mut tables = [0; layout::LENGTH];
+    read(list.as_bytes(), &mut tables);
     let paths = steps::paths(&list);
     let ours = || Ours::new(list.as_bytes(), &tables);
     let fits: Vec<Fit> = places::names().iter().map(|name| ours().fit(name.as_bytes())).collect();

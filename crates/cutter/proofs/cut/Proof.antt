@@ -1,9 +1,8 @@
 -- `cut` meets its contract:
 -- a list at fault decides, and a sound one leaves it to the document.
-use mathlib.Core.Path.{sym, ap, _∙_}
+use mathlib.Core.Path.{sym, _∙_}
+use Rattle.cutter.proofs.Cutting.{both, cut-sound, cut-long, cut-malformed, cut-large}
 use borrow.Author.Needs.{needs}
-use Rattle.compiled.specs.declared.compile.ListRead.{ListRead}
-use Rattle.cutter.proofs.Cutting.{both, cut-long, cut-malformed, cut-large}
 use Rattle.cutter.proofs.cut.Statement.{statement}
 use Rattle.cutter.proofs.cut.Tie as tie
 
@@ -14,40 +13,37 @@ enum-told : tie.Need-enum-told
 enum-told c = search needs
 
 cut-by-requires : tie.Need-cut-by-requires
-cut-by-requires c κs = (
-  sym (ap (λ (x : ListRead). x .answer) (c .before .before .before .read .ensures)) ∙ c .before .enum-told .given .1,
-  ap (λ (x : ListRead). x .compiled) (c .before .before .before .read .ensures),
-)
+cut-by-requires c κs =
+    let r = c .before .before .before .before .read .ensures in record { sound = sym (r .0) ∙ c .before .before .enum-told .given .1; tables = r .1 }
 
 enum-told-2 : tie.Need-enum-told-2
 enum-told-2 c = search needs
 
-enum-known-judged : tie.Need-enum-known-judged
-enum-known-judged c = search needs
+enum-known-line : tie.Need-enum-known-line
+enum-known-line c = search needs
 
-enum-known-judged-2 : tie.Need-enum-known-judged-2
-enum-known-judged-2 c = search needs
+enum-known-line-2 : tie.Need-enum-known-line-2
+enum-known-line-2 c = search needs
 
 same-length : tie.Need-same-length
 same-length c = search needs
 
 returns : tie.Need-returns
 returns c =
-    c .before .before .cut-by .ensures
+    let b = c .before .before .cut-by .ensures in
+    both _ _ _ (cut-sound _ _ _ (c .before .before .before .before .before .before .before .read .ensures .0) (c .before .before .before .before .before .enum-told .given .1) (b .0) (b .1))
 
 returns-2 : tie.Need-returns-2
 returns-2 c =
-    both (cut-long _ _ _ (ap (λ (x : ListRead). x .answer) (c .before .before .read .ensures)) (c .enum-told2 .given .1))
+    both _ _ _ (cut-long _ _ _ (c .before .before .read .ensures .0) (c .enum-told2 .given .1))
 
 returns-3 : tie.Need-returns-3
 returns-3 c =
-    both (cut-malformed _ _ _ (ap (λ (x : ListRead). x .answer) (c .before .before .before .read .ensures)) (c .before .judged
-    .given .1))
+    both _ _ _ (cut-malformed _ _ _ (c .before .before .before .read .ensures .0) (c .before .line .given .1))
 
 returns-4 : tie.Need-returns-4
 returns-4 c =
-    both (cut-large _ _ _ (ap (λ (x : ListRead). x .answer) (c .before .before .before .read .ensures)) (c .before .judged2 .given
-    .1))
+    both _ _ _ (cut-large _ _ _ (c .before .before .before .read .ensures .0) (c .before .line2 .given .1))
 
 pub cut-spec : {M : Type 1} → statement M
 cut-spec =
@@ -57,8 +53,8 @@ cut-spec =
     enum-told
     cut-by-requires
     enum-told-2
-    enum-known-judged
-    enum-known-judged-2
+    enum-known-line
+    enum-known-line-2
     same-length
     returns
     returns-2

@@ -11,12 +11,12 @@ use Rattle.passes.proofs.pass.Statement.{statement}
 use Rattle.passes.proofs.pass.Tie as tie
 
 abbrev Inv-loop : tie.InvT-loop
-Inv-loop table list places sizes heads nexts rows descends lasts marks doc out₀ states₀ starts₀ lens₀ opened₀ run₀ at₀ first₀ out
+Inv-loop table list t doc out₀ states₀ starts₀ lens₀ opened₀ run₀ at₀ first₀ out
     states starts lens opened run at first =
     Passing list doc out₀ states starts lens opened run at first out
 
 abbrev μ-loop : tie.MeasureT-loop
-μ-loop table list places sizes heads nexts rows descends lasts marks doc out₀ states₀ starts₀ lens₀ opened₀ run₀ at₀ first₀ out
+μ-loop table list t doc out₀ states₀ starts₀ lens₀ opened₀ run₀ at₀ first₀ out
     states starts lens opened run at first =
     length doc - at
 

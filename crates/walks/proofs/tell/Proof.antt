@@ -1,8 +1,6 @@
 -- `tell` meets what `walk` requires: the tables are those of a list that is read as sound, from what `read` ensures.
 -- There is no loop.
-use mathlib.Core.Path.{sym, ap, _∙_}
-use Rattle.compiled.specs.declared.compile.ListRead.{ListRead}
-use Rattle.matcher.proofs.Serving.{read-serves}
+use mathlib.Core.Path.{sym, _∙_}
 use borrow.Author.Needs.{needs}
 use Rattle.walks.proofs.tell.Statement.{statement}
 use Rattle.walks.proofs.tell.Tie as tie
@@ -24,8 +22,7 @@ returns c = search needs
 
 walk-requires : tie.Need-walk-requires
 walk-requires c κs =
-    let e = c .before .before .before .read .ensures in
-    read-serves (sym (ap (λ (x : ListRead). x .answer) e) ∙ c .before .enum-told .given .1) (ap (λ (x : ListRead). x .compiled) e)
+    let r = c .before .before .before .read .ensures in record { sound = sym (r .0) ∙ c .before .enum-told .given .1; tables = r .1 }
 
 print-requires : tie.Need-print-requires
 print-requires c κs = search needs

@@ -1,7 +1,7 @@
 -- `with_name` meets its contract: no bytes are `*`;
 -- a name that is found keeps its place; a new one is stored after the others.
-use borrow.Author.Needs.{needs}
 use Rattle.compiled.proofs.Enter.{enter-any, enter-there, enter-new}
+use borrow.Author.Needs.{needs}
 use Rattle.compiled.proofs.build.with_name.Statement.{statement}
 use Rattle.compiled.proofs.build.with_name.Tie as tie
 
@@ -26,9 +26,9 @@ find-requires c κs = search needs
 
 returns-2 : tie.Need-returns-2
 returns-2 c =
-    let s = c .before .before .before .before .before .before .before .before .before in
+    let s = c .before .before .before .before .before .before .before .before .before .before .before .before .before in
     enter-there (s .args .names) (s .args .a) (s .args .n) (s .pre .1)
-    (c .before .before .before .before .before .before .before .if1 .left) (c .before .find .ensures) (c .if2 .taken)
+    (c .before .before .before .before .before .before .before .before .before .before .before .if1 .left) (c .before .find .ensures) (c .if2 .taken)
 
 sub-hash : tie.Need-sub-hash
 sub-hash c = search needs
@@ -84,17 +84,17 @@ mul-head c = search needs
 element-write-head : tie.Need-element-write-head
 element-write-head c = search needs
 
-add-t18 : tie.Need-add-t18
-add-t18 c = search needs
+add-t22 : tie.Need-add-t22
+add-t22 c = search needs
 
-add-t31 : tie.Need-add-t31
-add-t31 c = search needs
+add-t35 : tie.Need-add-t35
+add-t35 c = search needs
 
 returns-3 : tie.Need-returns-3
 returns-3 c =
-    let s = c .before .before .before .before .before .before .before .before .before .before .before .before in
+    let s = c .before .before .before .before .before .before .before .before .before .before .before .before .before .before .before .before in
     enter-new (s .args .names) (s .args .a) (s .args .n) (s .pre .1)
-    (c .before .before .before .before .before .before .before .before .before .before .if1 .left)
+    (c .before .before .before .before .before .before .before .before .before .before .before .before .before .before .if1 .left)
     (c .before .before .before .before .find .ensures) (c .before .before .before .if2 .left)
     (s .pre .0) (c .before .hash .ensures .0)
 
@@ -127,6 +127,6 @@ with-name-spec =
     cast-head
     mul-head
     element-write-head
-    add-t18
-    add-t31
+    add-t22
+    add-t35
     returns-3)

@@ -1,8 +1,9 @@
 -- `find` meets its contract. The loop's invariant: whatever names the tables are of, the chain from k on goes to the place of the name.
 -- The measure is k: a link goes down.
+use Prim.Native.Nat.{_-_}
 use native.Mathlib.Omega.{arith}
 use borrow.Author.Needs.{needs}
-use Rattle.lookup.proofs.Search.{find-in, find-less, tables-head, find-room, finding, Finding, find-here, find-more}
+use Rattle.lookup.proofs.Search.{finding, Finding, tables-heads, room-next, find-here, find-more}
 use Rattle.lookup.proofs.find.find.Statement.{statement}
 use Rattle.lookup.proofs.find.find.Tie as tie
 
@@ -18,12 +19,13 @@ hash-requires c κs = search finding
 mul-k : tie.Need-mul-k Inv-loop μ-loop
 mul-k c = search finding
 
-element-copy-out-k : tie.Need-element-copy-out-k Inv-loop μ-loop
-element-copy-out-k c = search finding
+shared-slice-read-k : tie.Need-shared-slice-read-k Inv-loop μ-loop
+shared-slice-read-k c =
+    let l = tables-heads (c .before .before .before .before .before .before .before .before .pre) in omega (arith, c .before .hash .ensures .1)
 
 cast-k : tie.Need-cast-k Inv-loop μ-loop
 cast-k c =
-    omega (arith, tables-head (c .before .before .before .before .pre) (c .before .hash .result))
+    omega (arith, c .shared-slice-known7 .given (c .before .hash .result))
 
 loop-holds : tie.Need-loop-holds Inv-loop μ-loop
 loop-holds c = search finding
@@ -32,29 +34,27 @@ sub-same : tie.Need-sub-same Inv-loop μ-loop
 sub-same c = search finding
 
 mul-same : tie.Need-mul-same Inv-loop μ-loop
-mul-same c =
-    let r = find-room (c .before .loop .inv) (search needs) in search needs
+mul-same c = search finding
 
-element-copy-out-same : tie.Need-element-copy-out-same Inv-loop μ-loop
-element-copy-out-same c = search finding
+shared-slice-read-same : tie.Need-shared-slice-read-same Inv-loop μ-loop
+shared-slice-read-same c = search finding
 
 cast-same : tie.Need-cast-same Inv-loop μ-loop
 cast-same c =
-    omega (arith, find-in (c .before .before .loop .inv) (search needs))
+    omega (arith, c .shared-slice-known8 .given (c .before .before .loop .k - 1))
 
 sub-same-2 : tie.Need-sub-same-2 Inv-loop μ-loop
 sub-same-2 c = search finding
 
 mul-same-2 : tie.Need-mul-same-2 Inv-loop μ-loop
-mul-same-2 c =
-    let r = find-room (c .before .before .loop .inv) (search needs) in search needs
+mul-same-2 c = search finding
 
-element-copy-out-same-2 : tie.Need-element-copy-out-same-2 Inv-loop μ-loop
-element-copy-out-same-2 c = search finding
+shared-slice-read-same-2 : tie.Need-shared-slice-read-same-2 Inv-loop μ-loop
+shared-slice-read-same-2 c = search finding
 
 cast-same-2 : tie.Need-cast-same-2 Inv-loop μ-loop
 cast-same-2 c =
-    omega (arith, find-in (c .before .before .before .loop .inv) (search needs))
+    omega (arith, c .shared-slice-known9 .given (c .before .before .before .loop .k - 1))
 
 same-requires : tie.Need-same-requires Inv-loop μ-loop
 same-requires c κs = search finding
@@ -67,24 +67,22 @@ sub-k : tie.Need-sub-k Inv-loop μ-loop
 sub-k c = search finding
 
 mul-k-2 : tie.Need-mul-k-2 Inv-loop μ-loop
-mul-k-2 c =
-    let r = find-room (c .before .before .before .before .before .loop .inv) (search needs) in search needs
+mul-k-2 c = search finding
 
-element-copy-out-k-2 : tie.Need-element-copy-out-k-2 Inv-loop μ-loop
-element-copy-out-k-2 c = search finding
+shared-slice-read-k-2 : tie.Need-shared-slice-read-k-2 Inv-loop μ-loop
+shared-slice-read-k-2 c =
+    room-next (c .before .before .before .before .before .before .loop .inv) (search needs)
 
 cast-k-2 : tie.Need-cast-k-2 Inv-loop μ-loop
 cast-k-2 c =
-    let v = c .before .before .before .before .before .before .loop .inv in
-    omega (arith, find-room v (search needs), find-less v (search needs))
+    omega (arith, c .shared-slice-known10 .given (c .before .before .before .before .before .before .loop .k - 1))
 
 loop-less : tie.Need-loop-less Inv-loop μ-loop
 loop-less c = search finding
 
 loop-again : tie.Need-loop-again Inv-loop μ-loop
 loop-again c =
-    let v = c .before .before .before .before .before .before .loop .inv in
-    find-more v (search needs) (c .before .before .same .ensures) (c .before .if1 .left)
+    find-more (c .before .before .before .before .before .before .loop .inv) (search needs) (c .before .before .same .ensures) (c .before .if1 .left)
 
 returns-2 : tie.Need-returns-2 Inv-loop μ-loop
 returns-2 c = search finding
@@ -97,22 +95,22 @@ find-spec =
     μ-loop
     hash-requires
     mul-k
-    element-copy-out-k
+    shared-slice-read-k
     cast-k
     loop-holds
     sub-same
     mul-same
-    element-copy-out-same
+    shared-slice-read-same
     cast-same
     sub-same-2
     mul-same-2
-    element-copy-out-same-2
+    shared-slice-read-same-2
     cast-same-2
     same-requires
     returns
     sub-k
     mul-k-2
-    element-copy-out-k-2
+    shared-slice-read-k-2
     cast-k-2
     loop-less
     loop-again

@@ -1,20 +1,96 @@
--- `fit_of` meets its contract: the tables serve the search,
--- and the row found with the list's columns is the name's fit.
-use Rattle.matcher.proofs.Serving.{serving, serves-fit}
+-- `fit_of` meets its contract: the parts of the tables serve the search, the place found is that of a row, and the row with the list's
+-- columns is the name's fit.
+use Rattle.matcher.proofs.Serving.{serves-tables, serves-row, serves-fit}
+use borrow.Author.Needs.{needs}
 use Rattle.matcher.proofs.fit.fit_of.Statement.{statement}
 use Rattle.matcher.proofs.fit.fit_of.Tie as tie
 
-find-requires : tie.Need-find-requires
-find-requires c κs = search serving
+sub-find : tie.Need-sub-find
+sub-find c = search needs
 
-row-at-requires : tie.Need-row-at-requires
-row-at-requires c κs = search serving
+part-find-start : tie.Need-part-find-start
+part-find-start c = search needs
+
+part-find-end : tie.Need-part-find-end
+part-find-end c = search needs
+
+sub-find-2 : tie.Need-sub-find-2
+sub-find-2 c = search needs
+
+part-find-start-2 : tie.Need-part-find-start-2
+part-find-start-2 c = search needs
+
+part-find-end-2 : tie.Need-part-find-end-2
+part-find-end-2 c = search needs
+
+sub-find-3 : tie.Need-sub-find-3
+sub-find-3 c = search needs
+
+part-find-start-3 : tie.Need-part-find-start-3
+part-find-start-3 c = search needs
+
+part-find-end-3 : tie.Need-part-find-end-3
+part-find-end-3 c = search needs
+
+sub-find-4 : tie.Need-sub-find-4
+sub-find-4 c = search needs
+
+part-find-start-4 : tie.Need-part-find-start-4
+part-find-start-4 c = search needs
+
+part-find-end-4 : tie.Need-part-find-end-4
+part-find-end-4 c = search needs
+
+find-requires : tie.Need-find-requires
+find-requires c κs =
+    serves-tables (c .before .before .before .before .before .before .before .pre)
+
+mul-numbers : tie.Need-mul-numbers
+mul-numbers c =
+    let l = serves-row (c .before .before .before .before .before .before .before .before .pre) (c .find .ensures) in search needs
+
+add-numbers : tie.Need-add-numbers
+add-numbers c =
+    let l = serves-row (c .before .before .before .before .before .before .before .before .pre) (c .find .ensures) in search needs
+
+numbers-requires : tie.Need-numbers-requires
+numbers-requires c κs =
+    let l = serves-row (c .before .before .before .before .before .before .before .before .pre) (c .find .ensures) in search needs
+
+numbers-requires-2 : tie.Need-numbers-requires-2
+numbers-requires-2 c κs = search needs
+
+numbers-requires-3 : tie.Need-numbers-requires-3
+numbers-requires-3 c κs = search needs
+
+numbers-requires-4 : tie.Need-numbers-requires-4
+numbers-requires-4 c κs = search needs
 
 returns : tie.Need-returns
 returns c =
-    let f = c .before .before .before .before .find .ensures in
-    let r = c .before .before .before .row-at .ensures in
-    serves-fit (c .before .before .before .before .before .before .before .pre) f r
+    serves-fit (c .before .before .before .before .before .before .before .before .before .before .before .before .pre) (c .before .before .before .before .find .ensures) (c .before .before .before .numbers .ensures) (c .before .before .numbers2 .ensures) (c .before .numbers3 .ensures) (c .numbers4 .ensures)
 
 pub fit-of-spec : {M : Type 1} → statement M
-fit-of-spec = tie.close (tie.spec find-requires row-at-requires returns)
+fit-of-spec =
+    tie.close
+    (tie.spec
+    sub-find
+    part-find-start
+    part-find-end
+    sub-find-2
+    part-find-start-2
+    part-find-end-2
+    sub-find-3
+    part-find-start-3
+    part-find-end-3
+    sub-find-4
+    part-find-start-4
+    part-find-end-4
+    find-requires
+    mul-numbers
+    add-numbers
+    numbers-requires
+    numbers-requires-2
+    numbers-requires-3
+    numbers-requires-4
+    returns)

@@ -9,16 +9,13 @@ use Rattle.walks.proofs.walk.walk.Statement.{statement}
 use Rattle.walks.proofs.walk.walk.Tie as tie
 
 abbrev Inv-loop : tie.InvT-loop
-Inv-loop list start m c seed₀ states₀ t₀ d₀ i₀ seed states t d i = (d ≤ 64) × (length states ≡ 64) × (i ≤ 300)
+Inv-loop list tables start m seed₀ states₀ t₀ d₀ i₀ seed states t d i = (d ≤ 64) × (length states ≡ 64) × (i ≤ 300)
 
 abbrev μ-loop : tie.MeasureT-loop
-μ-loop list start m c seed₀ states₀ t₀ d₀ i₀ seed states t d i = 300 - i
+μ-loop list tables start m seed₀ states₀ t₀ d₀ i₀ seed states t d i = 300 - i
 
 fresh-requires : tie.Need-fresh-requires Inv-loop μ-loop
 fresh-requires c κs = search needs
-
-none-requires : tie.Need-none-requires Inv-loop μ-loop
-none-requires c κs = search needs
 
 loop-holds : tie.Need-loop-holds Inv-loop μ-loop
 loop-holds c = search needs
@@ -29,23 +26,41 @@ add-i c = search needs
 below-requires : tie.Need-below-requires Inv-loop μ-loop
 below-requires c κs = search needs
 
-mul-s : tie.Need-mul-s Inv-loop μ-loop
-mul-s c = search needs
+mul-state : tie.Need-mul-state Inv-loop μ-loop
+mul-state c = search needs
 
-array-copy-out-s : tie.Need-array-copy-out-s Inv-loop μ-loop
-array-copy-out-s c = search needs
+array-copy-out-state : tie.Need-array-copy-out-state Inv-loop μ-loop
+array-copy-out-state c = search needs
 
 below-requires-2 : tie.Need-below-requires-2 Inv-loop μ-loop
 below-requires-2 c κs = search needs
 
-meet-requires : tie.Need-meet-requires Inv-loop μ-loop
-meet-requires c κs = search needs
+name-of-requires : tie.Need-name-of-requires Inv-loop μ-loop
+name-of-requires c κs = search needs
+
+sub-fit-of : tie.Need-sub-fit-of Inv-loop μ-loop
+sub-fit-of c = search needs
+
+part-fit-of-start : tie.Need-part-fit-of-start Inv-loop μ-loop
+part-fit-of-start c = search needs
+
+part-fit-of-end : tie.Need-part-fit-of-end Inv-loop μ-loop
+part-fit-of-end c = search needs
+
+fit-of-requires : tie.Need-fit-of-requires Inv-loop μ-loop
+fit-of-requires c κs = search needs
 
 add-d : tie.Need-add-d Inv-loop μ-loop
 add-d c = search needs
 
+verdict-on-requires : tie.Need-verdict-on-requires Inv-loop μ-loop
+verdict-on-requires c κs = search needs
+
 with-requires : tie.Need-with-requires Inv-loop μ-loop
 with-requires c κs = search needs
+
+deeper-requires : tie.Need-deeper-requires Inv-loop μ-loop
+deeper-requires c κs = search needs
 
 mul-states : tie.Need-mul-states Inv-loop μ-loop
 mul-states c = search needs
@@ -55,25 +70,21 @@ array-set-from-states c = search needs
 
 loop-less : tie.Need-loop-less Inv-loop μ-loop
 loop-less c =
-    let named = c .before .before .before .before .before .before .before .before .before .before .before .before .before in
-    omega (arith, named .before .before .before .before .before .before .before .before .loop-test .taken)
+    omega (arith, c .before .before .before .before .before .before .before .before .before .before .before .before .before .before .before .before .before .loop-test .taken)
 
 loop-again : tie.Need-loop-again Inv-loop μ-loop
 loop-again c =
-    let named = c .before .before .before .before .before .before .before .before .before .before .before .before .before in
-    let turn = named .before .before .before .before .before .before .before .before in
+    let turn = c .before .before .before .before .before .before .before .before .before .before .before .before .before .before .before .before .before in
     (omega (arith, c .before .if3 .taken), simp length-set (turn .before .loop .inv .1), omega (arith, turn .loop-test .taken))
 
 loop-less-2 : tie.Need-loop-less-2 Inv-loop μ-loop
 loop-less-2 c =
-    let named = c .before .before .before .before .before .before .before .before .before .before .before .before in
-    omega (arith, named .before .before .before .before .before .before .before .before .loop-test .taken)
+    omega (arith, c .before .before .before .before .before .before .before .before .before .before .before .before .before .before .before .before .loop-test .taken)
 
 loop-again-2 : tie.Need-loop-again-2 Inv-loop μ-loop
 loop-again-2 c =
-    let named = c .before .before .before .before .before .before .before .before .before .before .before .before in
-    let turn = named .before .before .before .before .before .before .before .before in
-    (omega (arith, named .before .before .before .if2 .taken), turn .before .loop .inv .1, omega (arith, turn .loop-test .taken))
+    let turn = c .before .before .before .before .before .before .before .before .before .before .before .before .before .before .before .before in
+    (omega (arith, c .before .before .before .before .before .before .before .before .before .before .before .if2 .taken), turn .before .loop .inv .1, omega (arith, turn .loop-test .taken))
 
 loop-less-3 : tie.Need-loop-less-3 Inv-loop μ-loop
 loop-less-3 c = search needs
@@ -106,16 +117,21 @@ walk-spec =
     Inv-loop
     μ-loop
     fresh-requires
-    none-requires
     loop-holds
     add-i
     below-requires
-    mul-s
-    array-copy-out-s
+    mul-state
+    array-copy-out-state
     below-requires-2
-    meet-requires
+    name-of-requires
+    sub-fit-of
+    part-fit-of-start
+    part-fit-of-end
+    fit-of-requires
     add-d
+    verdict-on-requires
     with-requires
+    deeper-requires
     mul-states
     array-set-from-states
     loop-less

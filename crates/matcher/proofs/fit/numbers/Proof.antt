@@ -1,18 +1,15 @@
--- `row_at` meets its contract. The loop's invariant:
--- the first p numbers are those of the row. The measure is what is left of 32.
+-- `numbers` meets its contract. The loop's invariant:
+-- the first p numbers are those from the place on. The measure is what is left of 32.
 use Prim.Native.Nat.{_-_}
 use Rattle.matcher.proofs.Rows.{copying, Copying}
-use Rattle.matcher.proofs.fit.row_at.Statement.{statement}
-use Rattle.matcher.proofs.fit.row_at.Tie as tie
+use Rattle.matcher.proofs.fit.numbers.Statement.{statement}
+use Rattle.matcher.proofs.fit.numbers.Tie as tie
 
 abbrev Inv-loop : tie.InvT-loop
-Inv-loop rows k base bits₀ p₀ bits p = Copying rows k base bits p
+Inv-loop t from bits₀ p₀ bits p = Copying t from bits p
 
 abbrev μ-loop : tie.MeasureT-loop
-μ-loop rows k base bits₀ p₀ bits p = 32 - p
-
-row-start-requires : tie.Need-row-start-requires Inv-loop μ-loop
-row-start-requires c κs = search copying
+μ-loop t from bits₀ p₀ bits p = 32 - p
 
 loop-holds : tie.Need-loop-holds Inv-loop μ-loop
 loop-holds c = search copying
@@ -23,8 +20,8 @@ add-bits c = search copying
 mul-bits : tie.Need-mul-bits Inv-loop μ-loop
 mul-bits c = search copying
 
-element-copy-out-bits : tie.Need-element-copy-out-bits Inv-loop μ-loop
-element-copy-out-bits c = search copying
+shared-slice-read-bits : tie.Need-shared-slice-read-bits Inv-loop μ-loop
+shared-slice-read-bits c = search copying
 
 mul-bits-2 : tie.Need-mul-bits-2 Inv-loop μ-loop
 mul-bits-2 c = search copying
@@ -44,17 +41,16 @@ loop-again c = search copying
 returns : tie.Need-returns Inv-loop μ-loop
 returns c = search copying
 
-pub row-at-spec : {M : Type 1} → statement M
-row-at-spec =
+pub numbers-spec : {M : Type 1} → statement M
+numbers-spec =
     tie.close
     (tie.spec
     Inv-loop
     μ-loop
-    row-start-requires
     loop-holds
     add-bits
     mul-bits
-    element-copy-out-bits
+    shared-slice-read-bits
     mul-bits-2
     array-write-bits
     add-p
