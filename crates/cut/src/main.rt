@@ -11,12 +11,13 @@ use exported::Numbers;
 use exported::numbers_of;
 use libc::STDIN_FILENO;
 use libc::STDOUT_FILENO;
+use paths::ListAnswer;
 
 // The most bytes of a document.
 const DOCUMENT: usize = 32768;
 
 // One byte more than a list may have, so that a longer one is refused.
-const LIST: usize = 8193;
+const LIST: usize = ListAnswer::BYTES + 1;
 
 // A space, and n in decimal.
 fn number(n: u64) {

@@ -3,6 +3,7 @@
 ghost use mathlib.Core.Path.{_≡_};
 ghost use Rattle.points.specs.Class.{classOf, classTable, pairs};
 use crate::table::Classes;
+use crate::table::ENTRIES;
 
 // The ranges of [4] NameStartChar, and those that [4a] NameChar adds: a first and a last code point each.
 const START: [u32; 32] = [
@@ -91,8 +92,8 @@ pub fn class_of(classes: &Classes, c: u32) -> u8
     requires { ⌜ now classes ≡ classTable ⌝ }
     ensures { λ r. ⌜ r ≡ classOf c ⌝ }
 {
-    if c < 768 {
-        let k = c as usize;
+    let k = c as usize;
+    if k < ENTRIES {
         return classes[k];
     }
     by_ranges(c)

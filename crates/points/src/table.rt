@@ -4,7 +4,10 @@
 ghost use mathlib.Core.Path.{_≡_};
 ghost use Rattle.points.specs.Class.{classTable};
 
-pub type Classes = [u8; 768];
+// The code points below U+0300.
+pub const ENTRIES: usize = 0x300;
+
+pub type Classes = [u8; ENTRIES];
 
 // The table, to be lent.
 pub fn classes() -> Classes
