@@ -90,10 +90,6 @@ module _ (f : Path → ℕ) where
   unfolding column
   column-get ps i = padded-get 32 (map f ps) i
 
-  pub column-below : (b : ℕ) (ps : List Path) → 0 < b → All (λ p. f p < b) ps → Below b (column f ps)
-  unfolding column
-  column-below b ps l a = below-padded b 32 (map f ps) (below-all l (all-mapped f a))
-
   pub column-snoc : (ps : List Path) (q : Path) → length ps < 32 → set (column f ps) (length ps) (f q) ≡ column f (ps ++ q ∷ [])
   unfolding column
   column-snoc ps q l =

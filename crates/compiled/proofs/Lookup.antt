@@ -2,7 +2,7 @@
 -- The parts for names are those that `find` asks for; the row of a name is its fit.
 use mathlib.Core.Path.{_≡_, refl, sym, ap, _∙_}
 use mathlib.Core.List.{List, [], _++_}
-use Prim.Native.Nat.{ℕ, _+_, _-_, _*_, _≤_, _<_}
+use Prim.Native.Nat.{ℕ, _+_, _*_, _≤_}
 use native.Mathlib.Omega.{arith}
 use lib.ListN.{length, take, drop, length-drop}
 use lib.Seq.{take-at, drop-at, drop-drop, take-append-le, drop-append-le}
@@ -19,7 +19,7 @@ use Rattle.compiled.specs.Compiled.{rowsOf, placesOf, lengthsOf, tablesO
 use Rattle.compiled.proofs.Firsts.{names-few}
 use Rattle.compiled.proofs.NameRows.{rows-fit}
 use Rattle.compiled.proofs.Stand.{paths-indexed}
-use Rattle.compiled.proofs.Sizes.{tables-long}
+use Rattle.compiled.proofs.Sizes.{Long, tables-long}
 use Rattle.compiled.proofs.OverLines.{sound-sized}
 
 -- ---- a table, and what is behind it
@@ -34,45 +34,54 @@ module _ (t : List ℕ) (i n : ℕ) (x y : List ℕ) (e : drop i t ≡ x ++ y) (
 -- ---- the tables of the paths ps
 
 module _ (ps : List Path) (s : Sized ps) where
+  abbrev head : List ℕ
+  head = chainsOf (namesOf ps) .head
+
+  abbrev next : List ℕ
+  next = chainsOf (namesOf ps) .next
+
   abbrev columns : List ℕ
   columns = descendsOf ps ++ (lastsOf ps ++ (marksOf ps ++ []))
 
   abbrev behind-len : List ℕ
-  behind-len = chainsOf (namesOf ps) .head ++ (chainsOf (namesOf ps) .next ++ (rowsOf ps ++ columns))
+  behind-len = head ++ (next ++ (rowsOf ps ++ columns))
+
+  long : Long ps
+  long = tables-long ps s
 
   from-at : drop 0 (tablesOf ps) ≡ placesOf ps ++ (lengthsOf ps ++ behind-len)
   unfolding tablesOf
   from-at = refl
 
   from-len : drop 512 (tablesOf ps) ≡ lengthsOf ps ++ behind-len
-  from-len = behind (tablesOf ps) 0 512 (placesOf ps) (lengthsOf ps ++ behind-len) from-at (tables-long ps s .at)
+  from-len = behind (tablesOf ps) 0 512 (placesOf ps) (lengthsOf ps ++ behind-len) from-at (long .at)
 
   from-head : drop 1024 (tablesOf ps) ≡ behind-len
-  from-head = behind (tablesOf ps) 512 512 (lengthsOf ps) behind-len from-len (tables-long ps s .len)
+  from-head = behind (tablesOf ps) 512 512 (lengthsOf ps) behind-len from-len (long .len)
 
-  from-next : drop 1280 (tablesOf ps) ≡ chainsOf (namesOf ps) .next ++ (rowsOf ps ++ columns)
-  from-next = behind (tablesOf ps) 1024 256 (chainsOf (namesOf ps) .head) (chainsOf (namesOf ps) .next ++ (rowsOf ps ++ columns)) from-head (tables-long ps s .head)
+  from-next : drop 1280 (tablesOf ps) ≡ next ++ (rowsOf ps ++ columns)
+  from-next = behind (tablesOf ps) 1024 256 head (next ++ (rowsOf ps ++ columns)) from-head (long .head)
 
   from-rows : drop 1792 (tablesOf ps) ≡ rowsOf ps ++ columns
-  from-rows = behind (tablesOf ps) 1280 512 (chainsOf (namesOf ps) .next) (rowsOf ps ++ columns) from-next (tables-long ps s .next)
+  from-rows = behind (tablesOf ps) 1280 512 next (rowsOf ps ++ columns) from-next (long .next)
 
   from-descends : drop 18208 (tablesOf ps) ≡ columns
-  from-descends = behind (tablesOf ps) 1792 16416 (rowsOf ps) columns from-rows (tables-long ps s .rows)
+  from-descends = behind (tablesOf ps) 1792 16416 (rowsOf ps) columns from-rows (long .rows)
 
   from-lasts : drop 18240 (tablesOf ps) ≡ lastsOf ps ++ (marksOf ps ++ [])
-  from-lasts = behind (tablesOf ps) 18208 32 (descendsOf ps) (lastsOf ps ++ (marksOf ps ++ [])) from-descends (tables-long ps s .descends)
+  from-lasts = behind (tablesOf ps) 18208 32 (descendsOf ps) (lastsOf ps ++ (marksOf ps ++ [])) from-descends (long .descends)
 
   from-marks : drop 18272 (tablesOf ps) ≡ marksOf ps ++ []
-  from-marks = behind (tablesOf ps) 18240 32 (lastsOf ps) (marksOf ps ++ []) from-lasts (tables-long ps s .lasts)
+  from-marks = behind (tablesOf ps) 18240 32 (lastsOf ps) (marksOf ps ++ []) from-lasts (long .lasts)
 
   pub descends-part : take 32 (drop 18208 (tablesOf ps)) ≡ descendsOf ps
-  descends-part = table-here (tablesOf ps) 18208 32 (descendsOf ps) (lastsOf ps ++ (marksOf ps ++ [])) from-descends (tables-long ps s .descends)
+  descends-part = table-here (tablesOf ps) 18208 32 (descendsOf ps) (lastsOf ps ++ (marksOf ps ++ [])) from-descends (long .descends)
 
   pub lasts-part : take 32 (drop 18240 (tablesOf ps)) ≡ lastsOf ps
-  lasts-part = table-here (tablesOf ps) 18240 32 (lastsOf ps) (marksOf ps ++ []) from-lasts (tables-long ps s .lasts)
+  lasts-part = table-here (tablesOf ps) 18240 32 (lastsOf ps) (marksOf ps ++ []) from-lasts (long .lasts)
 
   pub marks-part : take 32 (drop 18272 (tablesOf ps)) ≡ marksOf ps
-  marks-part = table-here (tablesOf ps) 18272 32 (marksOf ps) [] from-marks (tables-long ps s .marks)
+  marks-part = table-here (tablesOf ps) 18272 32 (marksOf ps) [] from-marks (long .marks)
 
   -- the place of a name is that of a row
   pub row-in : (n : List ℕ) → placeOf (namesOf ps) n ≤ 512
@@ -83,21 +92,21 @@ module _ (ps : List Path) (s : Sized ps) where
   row-part n =
       let k = 32 * placeOf (namesOf ps) n in
       let h = row-in n in
-      let l = tables-long ps s .rows in
+      let l = long .rows in
       ap (take 32) (sym (drop-drop k 1792 (tablesOf ps)) ∙ ap (drop k) from-rows ∙ drop-append-le k (rowsOf ps) columns (omega arith))
       ∙ take-append-le 32 (drop k (rowsOf ps)) columns (let z = length-drop k (rowsOf ps) in omega arith)
       ∙ rows-fit ps s n
 
   pub part-indexed : {d : List ℕ}
-      → Indexed d (placesOf ps) (lengthsOf ps) (chainsOf (namesOf ps) .head) (chainsOf (namesOf ps) .next) (namesOf ps)
+      → Indexed d (placesOf ps) (lengthsOf ps) head next (namesOf ps)
       → Indexed d (take 512 (drop 0 (tablesOf ps))) (take 512 (drop 512 (tablesOf ps))) (take 256 (drop 1024 (tablesOf ps)))
       (take 512 (drop 1280 (tablesOf ps))) (namesOf ps)
   part-indexed i =
       rw (
-        table-here (tablesOf ps) 0 512 (placesOf ps) (lengthsOf ps ++ behind-len) from-at (tables-long ps s .at),
-        table-here (tablesOf ps) 512 512 (lengthsOf ps) behind-len from-len (tables-long ps s .len),
-        table-here (tablesOf ps) 1024 256 (chainsOf (namesOf ps) .head) (chainsOf (namesOf ps) .next ++ (rowsOf ps ++ columns)) from-head (tables-long ps s .head),
-        table-here (tablesOf ps) 1280 512 (chainsOf (namesOf ps) .next) (rowsOf ps ++ columns) from-next (tables-long ps s .next),
+        table-here (tablesOf ps) 0 512 (placesOf ps) (lengthsOf ps ++ behind-len) from-at (long .at),
+        table-here (tablesOf ps) 512 512 (lengthsOf ps) behind-len from-len (long .len),
+        table-here (tablesOf ps) 1024 256 head (next ++ (rowsOf ps ++ columns)) from-head (long .head),
+        table-here (tablesOf ps) 1280 512 next (rowsOf ps ++ columns) from-next (long .next),
       ) i
 
 -- ---- a sound list

@@ -31,11 +31,10 @@ use Rattle.compiled.specs.declared.build.Line.{Line}
 use Rattle.compiled.specs.declared.build.Tail.{Tail}
 use Rattle.lookup.proofs.Search.{index-linked, at-long, len-long}
 use Rattle.compiled.proofs.Alls.{all-map}
-use Rattle.compiled.proofs.Bits.{column-snoc}
+use Rattle.compiled.proofs.Bits.{column-long, column-snoc}
 use Rattle.compiled.proofs.NameRows.{joined-zeros}
 use Rattle.compiled.proofs.Listed.{listed-constant}
 use Rattle.compiled.proofs.Spreading.{numbers-spreadable, numbers-spread}
-use Rattle.compiled.proofs.Sizes.{tables-long}
 use Rattle.compiled.proofs.Laid.{Longs}
 use Rattle.compiled.proofs.InLine.{print-append, print-parts, whole, path-few, sound-bytes}
 
@@ -241,6 +240,59 @@ module _ {d at len head next rows downs lasts marks : List ℕ} {names p place :
             marks-are = column-stored _ (v .done) path l (v .marks-are) (v .p-is) q;
           }
 
+  -- how long each table is
+  pub at-size : length at ≡ 512
+  at-size = at-long (v .built .indexed)
+
+  pub len-size : length len ≡ 512
+  len-size = len-long (v .built .indexed)
+
+  pub head-size : length head ≡ 256
+  head-size = index-linked (v .built .indexed) .head-long
+
+  pub next-size : length next ≡ 512
+  next-size = index-linked (v .built .indexed) .next-long
+
+  done-few : length (v .done) ≤ 32
+  done-few =
+      let a = sound-sized d (v .sound) .few in
+      let b = ap length (v .all) ∙ length-append (v .done) (v .left) in
+      omega arith
+
+  pub downs-size : length downs ≡ 32
+  unfolding descendsOf
+  downs-size = rw (v .downs-are) (column-long _ (v .done) done-few)
+
+  pub lasts-size : length lasts ≡ 32
+  unfolding lastsOf
+  lasts-size = rw (v .lasts-are) (column-long _ (v .done) done-few)
+
+  pub marks-size : length marks ≡ 32
+  unfolding marksOf
+  marks-size = rw (v .marks-are) (column-long _ (v .done) done-few)
+
+  -- and that there is room for it at its place
+  pub at-fits : 0 + length at ≤ 18304
+  at-fits = let z = at-size in omega arith
+
+  pub len-fits : 512 + length len ≤ 18304
+  len-fits = let z = len-size in omega arith
+
+  pub head-fits : 1024 + length head ≤ 18304
+  head-fits = let z = head-size in omega arith
+
+  pub next-fits : 1280 + length next ≤ 18304
+  next-fits = let z = next-size in omega arith
+
+  pub downs-fit : 18208 + length downs ≤ 18304
+  downs-fit = let z = downs-size in omega arith
+
+  pub lasts-fit : 18240 + length lasts ≤ 18304
+  lasts-fit = let z = lasts-size in omega arith
+
+  pub marks-fit : 18272 + length marks ≤ 18304
+  marks-fit = let z = marks-size in omega arith
+
   -- no line is left
   module _ (l : length d ≤ place) where
     all-done : v .done ≡ listPaths d
@@ -267,17 +319,15 @@ module _ {d at len head next rows downs lasts marks : List ℕ} {names p place :
     module _ {rows′ : List ℕ} (s : Spread rows rows′) where
       pub lines-long : Longs at len head next rows′ downs lasts marks
       lines-long =
-          let i = v .built .indexed in
-          let k = tables-long (listPaths d) sized in
           record {
-            at-long = at-long i;
-            len-long = len-long i;
-            head-long = index-linked i .head-long;
-            next-long = index-linked i .next-long;
+            at-long = at-size;
+            len-long = len-size;
+            head-long = head-size;
+            next-long = next-size;
             rows-long = s .long;
-            downs-long = rw (v .downs-are, all-done) (k .descends);
-            lasts-long = rw (v .lasts-are, all-done) (k .lasts);
-            marks-long = rw (v .marks-are, all-done) (k .marks);
+            downs-long = downs-size;
+            lasts-long = lasts-size;
+            marks-long = marks-size;
           }
 
       -- each is that of the list's paths
@@ -292,3 +342,7 @@ module _ {d at len head next rows downs lasts marks : List ℕ} {names p place :
           cc (i .at-is, i .len-is, i .head-is, i .next-is)
 
 pub ruleset over-lines = (lines-start, lines-line, lines-few, lines-less, lines-more, lines-spreadable, needs)
+
+pub ruleset sizes = (at-size, len-size, head-size, next-size, downs-size, lasts-size, marks-size, needs)
+
+pub ruleset rooms = (at-fits, len-fits, head-fits, next-fits, downs-fit, lasts-fit, marks-fit, needs)

@@ -97,7 +97,8 @@ module _ (list d o : List ℕ) where
 
 -- ---- and a document of characters
 
-module _ (list d o : List ℕ) (small : length d ≤ 16777216) (chars : checkOf d ≡ All) {s s′ : List ℕ} {m : Outcome} (p : Passed list d s m s′) where
+module _ (list d o : List ℕ) (small : length d ≤ 16777216) (chars : checkOf d ≡ All) {s s′ : List ℕ} {m : Outcome} (p : Passed list
+    d s m s′) where
   judged-is : judgedBy m ≡ judgeOf d
   judged-is = judged-items d small (sym chars) refl (p .judged)
 

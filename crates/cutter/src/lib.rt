@@ -1,6 +1,6 @@
 // The cut of a document by a list: one call, from a list, a document and a buffer to an answer and, under 0, the cut. It is made of two:
-// the list is read and compiled, by `compiled::compile::read`, and the document is cut by its tables, by `cut_by`. What is answered and what
-// stands in the buffer afterwards is in specs/Answer.antt.
+// the list is read and compiled, by `compiled::compile::read`, and the document is cut by its tables, by `cut_by`. What is answered and
+// what stands in the buffer afterwards is in specs/Answer.antt.
 //
 //     list      judged and compiled                         refused: 1 2 3
 //     document  its length, then its characters             refused: 4 5

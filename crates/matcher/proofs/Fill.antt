@@ -1,5 +1,5 @@
 -- An array of 32 numbers that is filled from the front: the first p are those of a function.
--- `row_at` and `deeper` fill theirs so.
+-- `numbers` and `deeper` fill theirs so.
 use mathlib.Core.Path.{_≡_, refl, sym, ap, _∙_}
 use mathlib.Core.List.{List, [], _∷_, _++_}
 use Prim.Native.Nat.{ℕ, zero, suc, _+_, _≤_, _<_}

@@ -9,7 +9,7 @@ use Rattle.lookup.specs.Names.{namesOf, placeOf}
 use Rattle.lookup.specs.Index.{Indexed, Tables, Found}
 use Rattle.compiled.specs.Bits.{fitOf, descendsOf, lastsOf, marksOf}
 use Rattle.compiled.specs.Compiled.{tablesOf}
-use Rattle.compiled.proofs.Lookup.{lookup-indexed, row-in, row-part, descends-part, lasts-part, marks-part}
+use Rattle.compiled.proofs.Lookup.{lookup-indexed, lookup-tables, row-in, row-part, descends-part, lasts-part, marks-part}
 use Rattle.compiled.proofs.OverLines.{sound-sized}
 use Rattle.matcher.specs.Fit.{fitFor, Serves}
 use Rattle.matcher.specs.declared.fit.Fit.{Fit}
@@ -32,7 +32,7 @@ module _ {d t : List ℕ} (v : Serves d t) where
   indexed = lookup-indexed (v .sound) (v .tables)
 
   pub serves-tables : Tables d at len head next
-  serves-tables = record { names = namesOf (listPaths d); indexed = indexed }
+  serves-tables = lookup-tables (v .sound) (v .tables)
 
   module _ {n : List ℕ} {k : ℕ} (f : Found d at len head next n k) where
     pub serves-row : k ≤ 512

@@ -13,7 +13,8 @@ use std::num::wrapping_add_usize;
 
 const EVENTS: usize = 300;
 
-// As many levels as a document may have. Their source is `Open` of the crate document, on which neither the matcher nor this program stands.
+// As many levels as a document may have. Their source is `Open` of the crate document, on which neither the matcher nor this program
+// stands.
 const LEVELS: usize = 64;
 
 // What is printed of a walk: the deepest level, a sum of the names met, how often each verdict came, a sum of levels and verdicts.

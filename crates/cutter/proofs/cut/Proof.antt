@@ -14,7 +14,11 @@ enum-told c = search needs
 
 cut-by-requires : tie.Need-cut-by-requires
 cut-by-requires c κs =
-    let r = c .before .before .before .before .read .ensures in record { sound = sym (r .0) ∙ c .before .before .enum-told .given .1; tables = r .1 }
+    let r = c .before .before .before .before .read .ensures in record {
+      sound = sym (r .0) ∙ c .before .before .enum-told .given
+          .1;
+      tables = r .1;
+    }
 
 enum-told-2 : tie.Need-enum-told-2
 enum-told-2 c = search needs
@@ -31,7 +35,8 @@ same-length c = search needs
 returns : tie.Need-returns
 returns c =
     let b = c .before .before .cut-by .ensures in
-    both _ _ _ (cut-sound _ _ _ (c .before .before .before .before .before .before .before .read .ensures .0) (c .before .before .before .before .before .enum-told .given .1) (b .0) (b .1))
+    both _ _ _ (cut-sound _ _ _ (c .before .before .before .before .before .before .before .read .ensures .0) (c .before .before
+    .before .before .before .enum-told .given .1) (b .0) (b .1))
 
 returns-2 : tie.Need-returns-2
 returns-2 c =

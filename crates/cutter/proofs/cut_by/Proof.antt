@@ -17,8 +17,12 @@ enum-told : tie.Need-enum-told
 enum-told c = search needs
 
 written-requires : tie.Need-written-requires
-written-requires c κs =
-    (c .before .before .before .before .before .before .before .before .pre, c .before .before .before .before .if1 .left, sym (c .before .before .before .check .ensures) ∙ c .before .enum-told .given .1)
+written-requires c κs = (
+  c .before .before .before .before .before .before .before .before .pre,
+  c .before .before .before .before .if1 .left,
+  sym (c
+      .before .before .before .check .ensures) ∙ c .before .enum-told .given .1,
+)
 
 enum-known-o : tie.Need-enum-known-o
 enum-known-o c = search needs
@@ -31,7 +35,8 @@ returns-2 c = search needs
 
 returns-3 : tie.Need-returns-3
 returns-3 c =
-    both-by _ _ _ (by-char _ _ _ (c .before .before .before .before .if1 .left) (c .before .before .before .check .ensures) (c .before .o .given .1))
+    both-by _ _ _ (by-char _ _ _ (c .before .before .before .before .if1 .left) (c .before .before .before .check .ensures) (c
+    .before .o .given .1))
 
 pub cut-by-spec : {M : Type 1} → statement M
 cut-by-spec =

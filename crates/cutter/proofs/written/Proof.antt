@@ -26,7 +26,8 @@ enum-known-length c = search needs
 returns : tie.Need-returns
 returns c =
     let p = c .before .before .before .before .before .before .before .before .before .before .before .before .pre in
-    both-by _ _ _ (written-short _ _ _ (p .1) (p .2) (c .before .before .before .before .before .pass .ensures) (c .before .before .length .given .1) (c .if1 .taken))
+    both-by _ _ _ (written-short _ _ _ (p .1) (p .2) (c .before .before .before .before .before .pass .ensures) (c .before .before
+    .length .given .1) (c .if1 .taken))
 
 pass-requires-2 : tie.Need-pass-requires-2
 pass-requires-2 c κs = search needs
@@ -34,16 +35,20 @@ pass-requires-2 c κs = search needs
 returns-2 : tie.Need-returns-2
 returns-2 c =
     let p = c .before .before .before .before .before .before .before .before .before .before .before .before .pre in
-    both-by _ _ _ (written-fault _ _ _ (p .1) (p .2) (c .before .before .before .before .before .pass .ensures) (c .before .before .why .given .1) (c .fault-of .ensures))
+    both-by _ _ _ (written-fault _ _ _ (p .1) (p .2) (c .before .before .before .before .before .pass .ensures) (c .before .before
+    .why .given .1) (c .fault-of .ensures))
 
 same-length : tie.Need-same-length
 same-length c = search needs
 
 returns-3 : tie.Need-returns-3
 returns-3 c =
-    let p = c .before .before .before .before .before .before .before .before .before .before .before .before .before .before .before .before .before .pre in
+    let p = c .before .before .before .before .before .before .before .before .before .before .before .before .before .before
+    .before .before .before .pre in
     both-by _ _ _
-    (written-whole _ _ _ (p .1) (p .2) (c .before .before .before .before .before .before .before .before .before .before .pass .ensures) (c .before .before .before .before .before .before .before .length .given .1) (c .before .before .before .before .before .if1 .left) (c .before .before .pass2 .ensures))
+    (written-whole _ _ _ (p .1) (p .2) (c .before .before .before .before .before .before .before .before .before .before .pass
+    .ensures) (c .before .before .before .before .before .before .before .length .given .1) (c .before .before .before .before
+    .before .if1 .left) (c .before .before .pass2 .ensures))
 
 pub written-spec : {M : Type 1} → statement M
 written-spec =

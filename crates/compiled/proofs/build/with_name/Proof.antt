@@ -28,7 +28,8 @@ returns-2 : tie.Need-returns-2
 returns-2 c =
     let s = c .before .before .before .before .before .before .before .before .before .before .before .before .before in
     enter-there (s .args .names) (s .args .a) (s .args .n) (s .pre .1)
-    (c .before .before .before .before .before .before .before .before .before .before .before .if1 .left) (c .before .find .ensures) (c .if2 .taken)
+    (c .before .before .before .before .before .before .before .before .before .before .before .if1 .left) (c .before .find
+    .ensures) (c .if2 .taken)
 
 sub-hash : tie.Need-sub-hash
 sub-hash c = search needs
@@ -92,7 +93,8 @@ add-t35 c = search needs
 
 returns-3 : tie.Need-returns-3
 returns-3 c =
-    let s = c .before .before .before .before .before .before .before .before .before .before .before .before .before .before .before .before in
+    let s = c .before .before .before .before .before .before .before .before .before .before .before .before .before .before
+    .before .before in
     enter-new (s .args .names) (s .args .a) (s .args .n) (s .pre .1)
     (c .before .before .before .before .before .before .before .before .before .before .before .before .before .before .if1 .left)
     (c .before .before .before .before .find .ensures) (c .before .before .before .if2 .left)

@@ -3,16 +3,16 @@
 use Prim.Native.Nat.{_-_}
 use native.Mathlib.Omega.{arith}
 use mathlib.Core.Path.{_∙_}
-use borrow.Author.Needs.{needs}
 use lib.ListN.{length}
 use Rattle.compiled.proofs.InLine.{path-few}
 use Rattle.compiled.proofs.Laid.{laid-tables}
-use Rattle.compiled.proofs.OverLines.{over-lines, Lining, lines-long, lines-end}
+use Rattle.compiled.proofs.OverLines.{over-lines, sizes, rooms, Lining, lines-long, lines-end}
 use Rattle.compiled.proofs.compile.compile.Statement.{statement}
 use Rattle.compiled.proofs.compile.compile.Tie as tie
 
 abbrev Inv-loop : tie.InvT-loop
-Inv-loop list t descends₀ lasts₀ marks₀ at₀ len₀ head₀ next₀ rows₀ names₀ p₀ place₀ descends lasts marks at len head next rows names p place =
+Inv-loop list t descends₀ lasts₀ marks₀ at₀ len₀ head₀ next₀ rows₀ names₀ p₀ place₀ descends lasts marks at len head next rows names
+    p place =
     Lining list at len head next rows descends lasts marks names p place
 
 abbrev μ-loop : tie.MeasureT-loop
@@ -66,75 +66,68 @@ spread-requires : tie.Need-spread-requires Inv-loop μ-loop
 spread-requires c κs = search over-lines
 
 slice-aggregate-lay : tie.Need-slice-aggregate-lay Inv-loop μ-loop
-slice-aggregate-lay c =
-    let m = lines-long (c .before .before .before .before .before .loop .inv) (c .before .before .before .before .loop-test .left) (c .before .before .spread .ensures) in search needs
+slice-aggregate-lay c = search sizes
 
 lay-requires : tie.Need-lay-requires Inv-loop μ-loop
-lay-requires c κs =
-    let m = lines-long (c .before .before .before .before .before .loop .inv) (c .before .before .before .before .loop-test .left) (c .before .before .spread .ensures) in search needs
+lay-requires c κs = search rooms
 
 slice-aggregate-lay-2 : tie.Need-slice-aggregate-lay-2 Inv-loop μ-loop
-slice-aggregate-lay-2 c =
-    let m = lines-long (c .before .before .before .before .before .before .before .before .loop .inv) (c .before .before .before .before .before .before .before .loop-test .left) (c .before .before .before .before .before .spread .ensures) in search needs
+slice-aggregate-lay-2 c = search sizes
 
 lay-requires-2 : tie.Need-lay-requires-2 Inv-loop μ-loop
-lay-requires-2 c κs =
-    let m = lines-long (c .before .before .before .before .before .before .before .before .loop .inv) (c .before .before .before .before .before .before .before .loop-test .left) (c .before .before .before .before .before .spread .ensures) in search needs
+lay-requires-2 c κs = search rooms
 
 slice-aggregate-lay-3 : tie.Need-slice-aggregate-lay-3 Inv-loop μ-loop
-slice-aggregate-lay-3 c =
-    let m = lines-long (c .before .before .before .before .before .before .before .before .before .before .before .loop .inv) (c .before .before .before .before .before .before .before .before .before .before .loop-test .left) (c .before .before .before .before .before .before .before .before .spread .ensures) in search needs
+slice-aggregate-lay-3 c = search sizes
 
 lay-requires-3 : tie.Need-lay-requires-3 Inv-loop μ-loop
-lay-requires-3 c κs =
-    let m = lines-long (c .before .before .before .before .before .before .before .before .before .before .before .loop .inv) (c .before .before .before .before .before .before .before .before .before .before .loop-test .left) (c .before .before .before .before .before .before .before .before .spread .ensures) in search needs
+lay-requires-3 c κs = search rooms
 
 slice-aggregate-lay-4 : tie.Need-slice-aggregate-lay-4 Inv-loop μ-loop
-slice-aggregate-lay-4 c =
-    let m = lines-long (c .before .before .before .before .before .before .before .before .before .before .before .before .before .before .loop .inv) (c .before .before .before .before .before .before .before .before .before .before .before .before .before .loop-test .left) (c .before .before .before .before .before .before .before .before .before .before .before .spread .ensures) in search needs
+slice-aggregate-lay-4 c = search sizes
 
 lay-requires-4 : tie.Need-lay-requires-4 Inv-loop μ-loop
-lay-requires-4 c κs =
-    let m = lines-long (c .before .before .before .before .before .before .before .before .before .before .before .before .before .before .loop .inv) (c .before .before .before .before .before .before .before .before .before .before .before .before .before .loop-test .left) (c .before .before .before .before .before .before .before .before .before .before .before .spread .ensures) in search needs
+lay-requires-4 c κs = search rooms
 
 slice-aggregate-lay-5 : tie.Need-slice-aggregate-lay-5 Inv-loop μ-loop
-slice-aggregate-lay-5 c =
-    let m = lines-long (c .before .before .before .before .before .before .before .before .before .before .before .before .before .before .before .before .before .loop .inv) (c .before .before .before .before .before .before .before .before .before .before .before .before .before .before .before .before .loop-test .left) (c .before .before .before .before .before .before .before .before .before .before .before .before .before .before .spread .ensures) in search needs
+slice-aggregate-lay-5 c = search sizes
 
 lay-requires-5 : tie.Need-lay-requires-5 Inv-loop μ-loop
-lay-requires-5 c κs =
-    let m = lines-long (c .before .before .before .before .before .before .before .before .before .before .before .before .before .before .before .before .before .loop .inv) (c .before .before .before .before .before .before .before .before .before .before .before .before .before .before .before .before .loop-test .left) (c .before .before .before .before .before .before .before .before .before .before .before .before .before .before .spread .ensures) in search needs
+lay-requires-5 c κs = search rooms
 
 slice-aggregate-lay-6 : tie.Need-slice-aggregate-lay-6 Inv-loop μ-loop
-slice-aggregate-lay-6 c =
-    let m = lines-long (c .before .before .before .before .before .before .before .before .before .before .before .before .before .before .before .before .before .before .before .before .loop .inv) (c .before .before .before .before .before .before .before .before .before .before .before .before .before .before .before .before .before .before .before .loop-test .left) (c .before .before .before .before .before .before .before .before .before .before .before .before .before .before .before .before .before .spread .ensures) in search needs
+slice-aggregate-lay-6 c = search sizes
 
 lay-requires-6 : tie.Need-lay-requires-6 Inv-loop μ-loop
-lay-requires-6 c κs =
-    let m = lines-long (c .before .before .before .before .before .before .before .before .before .before .before .before .before .before .before .before .before .before .before .before .loop .inv) (c .before .before .before .before .before .before .before .before .before .before .before .before .before .before .before .before .before .before .before .loop-test .left) (c .before .before .before .before .before .before .before .before .before .before .before .before .before .before .before .before .before .spread .ensures) in search needs
+lay-requires-6 c κs = search rooms
 
 slice-aggregate-lay-7 : tie.Need-slice-aggregate-lay-7 Inv-loop μ-loop
-slice-aggregate-lay-7 c =
-    let m = lines-long (c .before .before .before .before .before .before .before .before .before .before .before .before .before .before .before .before .before .before .before .before .before .before .before .loop .inv) (c .before .before .before .before .before .before .before .before .before .before .before .before .before .before .before .before .before .before .before .before .before .before .loop-test .left) (c .before .before .before .before .before .before .before .before .before .before .before .before .before .before .before .before .before .before .before .before .spread .ensures) in search needs
+slice-aggregate-lay-7 c = search sizes
 
 lay-requires-7 : tie.Need-lay-requires-7 Inv-loop μ-loop
-lay-requires-7 c κs =
-    let m = lines-long (c .before .before .before .before .before .before .before .before .before .before .before .before .before .before .before .before .before .before .before .before .before .before .before .loop .inv) (c .before .before .before .before .before .before .before .before .before .before .before .before .before .before .before .before .before .before .before .before .before .before .loop-test .left) (c .before .before .before .before .before .before .before .before .before .before .before .before .before .before .before .before .before .before .before .before .spread .ensures) in search needs
+lay-requires-7 c κs = search rooms
 
 slice-aggregate-lay-8 : tie.Need-slice-aggregate-lay-8 Inv-loop μ-loop
-slice-aggregate-lay-8 c =
-    let m = lines-long (c .before .before .before .before .before .before .before .before .before .before .before .before .before .before .before .before .before .before .before .before .before .before .before .before .before .before .loop .inv) (c .before .before .before .before .before .before .before .before .before .before .before .before .before .before .before .before .before .before .before .before .before .before .before .before .before .loop-test .left) (c .before .before .before .before .before .before .before .before .before .before .before .before .before .before .before .before .before .before .before .before .before .before .before .spread .ensures) in search needs
+slice-aggregate-lay-8 c = search sizes
 
 lay-requires-8 : tie.Need-lay-requires-8 Inv-loop μ-loop
-lay-requires-8 c κs =
-    let m = lines-long (c .before .before .before .before .before .before .before .before .before .before .before .before .before .before .before .before .before .before .before .before .before .before .before .before .before .before .loop .inv) (c .before .before .before .before .before .before .before .before .before .before .before .before .before .before .before .before .before .before .before .before .before .before .before .before .before .loop-test .left) (c .before .before .before .before .before .before .before .before .before .before .before .before .before .before .before .before .before .before .before .before .before .before .before .spread .ensures) in search needs
+lay-requires-8 c κs = search rooms
 
 returns : tie.Need-returns Inv-loop μ-loop
 returns c =
-    let v = c .before .before .before .before .before .before .before .before .before .before .before .before .before .before .before .before .before .before .before .before .before .before .before .before .before .before .before .loop .inv in
-    let l = c .before .before .before .before .before .before .before .before .before .before .before .before .before .before .before .before .before .before .before .before .before .before .before .before .before .before .loop-test .left in
-    let s = c .before .before .before .before .before .before .before .before .before .before .before .before .before .before .before .before .before .before .before .before .before .before .before .before .spread .ensures in
-    laid-tables (lines-long v l s) _ (c .before .before .before .before .before .before .before .before .before .before .before .before .before .before .before .before .before .before .before .before .before .before .before .before .before .before .before .before .before .pre .1) (c .before .before .before .before .before .before .before .before .before .before .before .before .before .before .before .before .before .before .before .before .before .lay .ensures) (c .before .before .before .before .before .before .before .before .before .before .before .before .before .before .before .before .before .before .lay2 .ensures) (c .before .before .before .before .before .before .before .before .before .before .before .before .before .before .before .lay3 .ensures) (c .before .before .before .before .before .before .before .before .before .before .before .before .lay4 .ensures) (c .before .before .before .before .before .before .before .before .before .lay5 .ensures) (c .before .before .before .before .before .before .lay6 .ensures) (c .before .before .before .lay7 .ensures) (c .lay8 .ensures)
+    let c₇ = c .before .before .before in
+    let c₆ = c₇ .before .before .before in
+    let c₅ = c₆ .before .before .before in
+    let c₄ = c₅ .before .before .before in
+    let c₃ = c₄ .before .before .before in
+    let c₂ = c₃ .before .before .before in
+    let c₁ = c₂ .before .before .before in
+    let c₀ = c₁ .before .before .before in
+    let v = c₀ .before .before .before .loop .inv in
+    let l = c₀ .before .before .loop-test .left in
+    let s = c₀ .spread .ensures in
+    laid-tables (lines-long v l s) _ (c₀ .before .before .before .before .before .pre .1) (c₁ .lay .ensures) (c₂ .lay2 .ensures)
+    (c₃ .lay3 .ensures) (c₄ .lay4 .ensures) (c₅ .lay5 .ensures) (c₆ .lay6 .ensures) (c₇ .lay7 .ensures) (c .lay8 .ensures)
     ∙ lines-end v l s
 
 pub compile-spec : {M : Type 1} → statement M

@@ -21,7 +21,11 @@ mul-k c = search finding
 
 shared-slice-read-k : tie.Need-shared-slice-read-k Inv-loop μ-loop
 shared-slice-read-k c =
-    let l = tables-heads (c .before .before .before .before .before .before .before .before .pre) in omega (arith, c .before .hash .ensures .1)
+    let l = tables-heads (c .before .before .before .before .before .before .before .before .pre) in omega (
+      arith,
+      c .before .hash
+          .ensures .1,
+    )
 
 cast-k : tie.Need-cast-k Inv-loop μ-loop
 cast-k c =
@@ -82,7 +86,8 @@ loop-less c = search finding
 
 loop-again : tie.Need-loop-again Inv-loop μ-loop
 loop-again c =
-    find-more (c .before .before .before .before .before .before .loop .inv) (search needs) (c .before .before .same .ensures) (c .before .if1 .left)
+    find-more (c .before .before .before .before .before .before .loop .inv) (search needs) (c .before .before .same .ensures) (c
+    .before .if1 .left)
 
 returns-2 : tie.Need-returns-2 Inv-loop μ-loop
 returns-2 c = search finding

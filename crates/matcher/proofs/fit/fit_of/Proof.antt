@@ -68,7 +68,9 @@ numbers-requires-4 c κs = search needs
 
 returns : tie.Need-returns
 returns c =
-    serves-fit (c .before .before .before .before .before .before .before .before .before .before .before .before .pre) (c .before .before .before .before .find .ensures) (c .before .before .before .numbers .ensures) (c .before .before .numbers2 .ensures) (c .before .numbers3 .ensures) (c .numbers4 .ensures)
+    serves-fit (c .before .before .before .before .before .before .before .before .before .before .before .before .pre) (c .before
+    .before .before .before .find .ensures) (c .before .before .before .numbers .ensures) (c .before .before .numbers2 .ensures) (c
+    .before .numbers3 .ensures) (c .numbers4 .ensures)
 
 pub fit-of-spec : {M : Type 1} → statement M
 fit-of-spec =
