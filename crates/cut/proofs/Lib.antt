@@ -1,3 +1,3 @@
--- Laws:
--- a cut that is written fits the room.
-pub mod Fits
+-- What the program prints, in worked examples.
+-- The program itself has no contract: nothing can say what is read or written.
+pub mod Examples

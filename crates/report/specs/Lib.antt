@@ -1,0 +1,4 @@
+-- Definitions:
+-- a number in decimal, and all that the program `cut` prints.
+pub mod Decimal
+pub mod Printed
