@@ -58,6 +58,8 @@ module _ {o o₁ o₂ o₃ s w : List ℕ} {a b r : ℕ} (p : Wrote o 0 s a o₁
   pub kept-short : a ≤ 50 → length w ≤ 65536 → r ≤ 65600
   kept-short k h = omega (arith, q .long, u .long)
 
+pub ruleset keeping = (wrote-kept, kept-short, needs)
+
 -- ---- the cut in the room
 
 -- under 0 the second number is the cut's length, there is room for it, and it stands at the front

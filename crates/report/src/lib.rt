@@ -63,7 +63,8 @@ fn kept(out: &mut [u8], selected: u64, cut: &[u8]) -> usize
     ensures { λ r. ⌜ Wrote (now (out .entry)) 0 (keptOf selected (now (cut .entry))) r (now (out .exit)) ⌝ }
     ensures { λ r. ⌜ r ≤ 65600 ⌝ }
 {
-    let headed = line(out, b"kept", selected, cut.len() as u64);
+    let length = cut.len() as u64;
+    let headed = line(out, b"kept", selected, length);
     let whole = copy(out, headed, cut);
     put(out, whole, b'\n')
 }

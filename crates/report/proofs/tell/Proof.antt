@@ -46,7 +46,7 @@ returns-2 c =
     let cut = c .before .before .before .before .before .before .before .choughbell-cut .ensures in
     let kept = c .before .before .kept .ensures in (
       tell-kept (start .args .list .now) (start .args .input .now) (search needs) _ (search needs) (cut .0) (cut .1)
-          (c .before .before .before .before .before .if2 .taken) refl (kept .0),
+          (c .before .before .before .before .before .if2 .taken) refl (search needs),
       kept .1,
     )
 
@@ -65,7 +65,7 @@ returns-3 c =
     let cut = c .before .before .before .before .before .before .before .choughbell-cut .ensures in
     let line = c .before .before .line .ensures in (
       tell-refused (start .args .list .now) (start .args .input .now) (search needs) _ (search needs) (cut .0) (cut .1)
-          (c .before .before .before .before .before .if2 .left) (line .0),
+          (c .before .before .before .before .before .if2 .left) (search needs),
       omega (arith, line .1),
     )
 
