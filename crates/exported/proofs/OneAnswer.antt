@@ -1,16 +1,20 @@
--- Two results that one contract allows are equal: of `choughbell_check` and `numbers_of`, which can't change what they are lent, and of
--- `choughbell_cut` with what it leaves in the buffer.
+-- Two results that one contract allows are equal: of `choughbell_characters`, `choughbell_judge` and `numbers_of`, which can't change what
+-- they are lent, and of `choughbell_cut` with what it leaves in the buffer.
 use mathlib.Core.Path.{_≡_, sym, _∙_}
 use mathlib.Core.List.{List}
 use Prim.Native.Nat.{ℕ}
 use lib.ListN.{length}
+use Rattle.document.specs.Judge.{judgeOf}
 use Rattle.cutter.specs.Answer.{answerOf, bytesAfter}
 use Rattle.cutter.specs.declared.Answer.{Answer}
-use Rattle.exported.specs.Numbers.{checkEnd, numbersOf}
+use Rattle.exported.specs.Numbers.{charactersEnd, judgedOf, numbersOf}
 use Rattle.exported.specs.declared.Numbers.{Numbers}
 
-pub check-one : (s : List ℕ) (r r′ : ℕ) → r ≡ checkEnd s → r′ ≡ checkEnd s → r ≡ r′
-check-one s r r′ p q = p ∙ sym q
+pub characters-one : (s : List ℕ) (r r′ : ℕ) → r ≡ charactersEnd s → r′ ≡ charactersEnd s → r ≡ r′
+characters-one s r r′ p q = p ∙ sym q
+
+pub judge-one : (doc : List ℕ) (r r′ : Numbers) → r ≡ judgedOf (judgeOf doc) → r′ ≡ judgedOf (judgeOf doc) → r ≡ r′
+judge-one doc r r′ p q = p ∙ sym q
 
 pub numbers-one : (a : Answer) (r r′ : Numbers) → r ≡ numbersOf a → r′ ≡ numbersOf a → r ≡ r′
 numbers-one a r r′ p q = p ∙ sym q

@@ -2,10 +2,14 @@
 // library is a number here, or three: document 01's "Numbers handed back".
 ghost use mathlib.Core.Path.{_≡_};
 ghost use lib.ListN.{length};
+ghost use Rattle.document.specs.Judge.{whyNumber, judgeOf};
 ghost use Rattle.cutter.specs.Answer.{answerOf, bytesAfter};
-ghost use Rattle.exported.specs.Numbers.{checkEnd, refusalOf, numbersOf};
+ghost use Rattle.exported.specs.Numbers.{charactersEnd, refusalOf, judgedOf, numbersOf};
 use chars::whole::Checked;
 use cutter::Answer;
+use document::Why;
+use document::judge::Judged;
+use document::judge::judge;
 
 // The number, the second and the third.
 #[repr(C)]
@@ -48,14 +52,38 @@ pub fn numbers_of(a: Answer) -> Numbers
     }
 }
 
+// The number of a fault in an item.
+fn why_number(why: Why) -> u64
+    ensures { λ r. ⌜ r ≡ whyNumber why ⌝ }
+{
+    match why {
+        Why::Doctype => 6,
+        Why::Malformed => 7,
+        Why::TooLarge => 8,
+    }
+}
+
 // How many bytes at the front are characters that XML allows: all of them, or the offset of the first bad sequence.
 #[no_mangle]
-pub extern "C" fn choughbell_check(s: &[u8]) -> usize
-    ensures { λ r. ⌜ r ≡ checkEnd (now (s .entry)) ⌝ }
+pub extern "C" fn choughbell_characters(s: &[u8]) -> usize
+    ensures { λ r. ⌜ r ≡ charactersEnd (now (s .entry)) ⌝ }
 {
     match chars::whole::check(s) {
         Checked::All => s.len(),
         Checked::BadAt(o) => o,
+    }
+}
+
+// The numbers of a document alone, by any list that is sound and in any room that suffices: 4 to 8, or 0 and no length.
+#[no_mangle]
+pub extern "C" fn choughbell_judge(doc: &[u8]) -> Numbers
+    ensures { λ r. ⌜ r ≡ judgedOf (judgeOf (now (doc .entry))) ⌝ }
+{
+    match judge(doc) {
+        Judged::Sound => refusal(0, 0),
+        Judged::TooLong => refusal(4, 0),
+        Judged::NotChar(o) => refusal(5, o),
+        Judged::AtFault(why, o) => refusal(why_number(why), o),
     }
 }
 

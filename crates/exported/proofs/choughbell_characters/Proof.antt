@@ -1,8 +1,8 @@
--- `choughbell_check` meets its contract: each case of the answer gives its number.
+-- `choughbell_characters` meets its contract: each case of the answer gives its number.
 -- proofs/Numbering.antt has the laws.
 use Rattle.exported.proofs.Numbering.{numbering}
-use Rattle.exported.proofs.choughbell_check.Statement.{statement}
-use Rattle.exported.proofs.choughbell_check.Tie as tie
+use Rattle.exported.proofs.choughbell_characters.Statement.{statement}
+use Rattle.exported.proofs.choughbell_characters.Tie as tie
 
 check-requires : tie.Need-check-requires
 check-requires c κs = search numbering
@@ -19,6 +19,6 @@ returns c = search numbering
 returns-2 : tie.Need-returns-2
 returns-2 c = search numbering
 
-pub choughbell-check-spec : {M : Type 1} → statement M
-choughbell-check-spec =
+pub choughbell-characters-spec : {M : Type 1} → statement M
+choughbell-characters-spec =
     tie.close (tie.spec check-requires enum-told enum-known-o returns returns-2)
