@@ -1,4 +1,4 @@
-/* The proved filter, for callers in C: two functions of the static library. Link with -lchoughbell, or with libexported.a as `make library`
+/* The proved filter, for callers in C: three functions of the static library. Link with -lchoughbell, or with libexported.a as `make library`
  * leaves it. They allocate nothing, keep nothing between calls and call nothing but memset, so threads may call them at once. A call takes
  * less than 64 KiB of stack.
  *
@@ -44,8 +44,13 @@ struct choughbell_numbers {
 struct choughbell_numbers choughbell_cut(const uint8_t *list, size_t list_len, const uint8_t *doc, size_t doc_len, uint8_t *out,
                                          size_t out_len);
 
-/* How many bytes at the front are characters that XML allows, in UTF-8: `s_len`, or the offset of the first bad sequence. */
-size_t choughbell_check(const uint8_t *s, size_t s_len);
+/* The numbers of a document alone, as above: 4 to 8 with the second number, or 0 where the document is sound, and then the second number
+ * is 0 too. The third is 0. A sound document is cut by every sound list, in a room that suffices. */
+struct choughbell_numbers choughbell_judge(const uint8_t *doc, size_t doc_len);
+
+/* How many bytes at the front are characters that XML allows, in UTF-8: `s_len`, or the offset of the first bad sequence. There is no limit
+ * to the length. */
+size_t choughbell_characters(const uint8_t *s, size_t s_len);
 
 #ifdef __cplusplus
 }

@@ -37,7 +37,8 @@ pub struct Numbers {
 
 #[link(name = "exported", kind = "static")]
 extern "C" {
-    // Nothing checks this against the Rattle source, crates/exported/src/lib.rt: a slice is its pointer and then its length.
+    // Nothing checks these against the Rattle source, crates/exported/src/lib.rt: a slice is its pointer and then its length.
+    fn choughbell_judge(doc: *const u8, doc_len: usize) -> Numbers;
     fn choughbell_cut(list: *const u8, list_len: usize, doc: *const u8, doc_len: usize, out: *mut u8, out_len: usize) -> Numbers;
 }
 
@@ -79,13 +80,11 @@ pub fn cut_of(list: &[u8], doc: &[u8]) -> Result<Cut, Refusal> {
     }
 }
 
-/// Whether a document is sound, within the sizes: the answer of `cut` by an empty list, whatever the room. It is never 1 to 3 or 9.
+/// Whether a document is sound, within the sizes: what `cut` answers by a list that is sound itself, in a room that suffices. It is never
+/// 1 to 3 or 9.
 pub fn check(doc: &[u8]) -> Result<(), Refusal> {
-    // A cut is never empty, so without room a sound document is answered by 9.
-    match cut(&[], doc, &mut []).answer() {
-        Ok(_) | Err(Refusal::Short { .. }) => Ok(()),
-        Err(refusal) => Err(refusal),
-    }
+    let numbers = unsafe { choughbell_judge(doc.as_ptr(), doc.len()) };
+    numbers.answer().map(|_| ())
 }
 
 #[cfg(test)]
@@ -121,5 +120,8 @@ mod tests {
         assert_eq!(check(b"<g><v></g>"), Err(Refusal::NotWellFormed { offset: 6 }));
         assert_eq!(check(b""), Err(Refusal::NotWellFormed { offset: 0 }));
         assert_eq!(check(&vec![b' '; DOCUMENT_LIMIT + 1]), Err(Refusal::DocumentTooLong));
+        assert_eq!(check(b"<g>\xFF</g>"), Err(Refusal::NotCharacter { offset: 3 }));
+        assert_eq!(check(b"<!DOCTYPE g><g/>"), Err(Refusal::DocumentType { offset: 0 }));
+        assert_eq!(check("<g>".repeat(65).as_bytes()), Err(Refusal::OverSize { offset: 192 }));
     }
 }

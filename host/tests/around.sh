@@ -1,12 +1,38 @@
-# What is beside the command: the header with the example in C, and what `make install` puts where.
-ran=$((ran + 1))
-# shellcheck disable=SC2086
-${CC:-cc} -std=c99 -Wall -Wextra -Werror -I "$root/host/include" -o example \
-    "$root/host/example/cut.c" "$root/target/staticlib/libexported.a" || fault 'the example in C' 'does not compile'
+# What is beside the command: the header with the examples in C, and what `make install` puts where.
+for c in cut judge; do
+    ran=$((ran + 1))
+    # shellcheck disable=SC2086
+    ${CC:-cc} -std=c99 -Wall -Wextra -Werror -I "$root/host/include" -o "example-$c" \
+        "$root/host/example/$c.c" "$root/target/staticlib/libexported.a" || fault "the example $c.c" 'does not compile'
+done
 
-# example NAME STATUS WORDS..: a run of the example.
+# judge NAME STATUS DOCUMENT: a run of the example of a document alone.
+judge() {
+    program_before=$program program=$room/example-judge
+    try "C: $1" "$2" "$3"
+    program=$program_before
+}
+lines sound 'characters: 18 of 18 bytes'
+judge 'a sound document' 0 b.xml
+printf '<g><v></g>' > unmatched.xml
+lines 'refused 7 6' 'characters: 10 of 10 bytes'
+judge 'an end tag that does not match' 7 unmatched.xml
+printf '<g>\377</g>' > byte.xml
+lines 'refused 5 3' 'characters: 3 of 8 bytes'
+judge 'a byte that is no character' 5 byte.xml
+printf '<g/><!DOCTYPE g>' > later.xml
+lines 'refused 6 4' 'characters: 16 of 16 bytes'
+judge 'a document type' 6 later.xml
+repeat 65 '<g>' > deep.xml
+lines 'refused 8 192' 'characters: 195 of 195 bytes'
+judge 'level 65' 8 deep.xml
+: > nothing.xml
+lines 'refused 7 0' 'characters: 0 of 0 bytes'
+judge 'no bytes' 7 nothing.xml
+
+# example NAME STATUS WORDS..: a run of the example of a cut.
 example() {
-    program_before=$program program=$room/example
+    program_before=$program program=$room/example-cut
     try "C: $1" "$2" "$3" "$4" ${5+"$5"}
     program=$program_before
 }

@@ -4,7 +4,7 @@ use crate::gazetteer;
 use crate::lists;
 use crate::ours::cutter::{cut, Answer};
 use crate::ours::document::judge::{judge, Judged};
-use crate::ours::exported::choughbell_check;
+use crate::ours::exported::choughbell_characters;
 use crate::rounds::{times, work, Work, ROUNDS};
 use std::hint::black_box;
 
@@ -78,7 +78,7 @@ pub fn measure() {
     let mut copied = vec![0; doc.len()];
     let mut rows: Vec<Row> = vec![
         (COPY.to_string(), work(move || black_box(&mut copied).copy_from_slice(black_box(doc)))),
-        ("characters alone".to_string(), work(|| choughbell_check(black_box(doc)))),
+        ("characters alone".to_string(), work(|| choughbell_characters(black_box(doc)))),
         ("document alone, judge".to_string(), work(|| matches!(judge(black_box(doc)), Judged::Sound))),
     ];
     rows.extend(rows_of("cut, 8 steps a path", &long, doc));
