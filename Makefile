@@ -1,5 +1,6 @@
 # make run          cuts a sample gazetteer by two lists
 # make test         every check, and last what the toolchain's gate, rt ci, said last: 'N passed, 0 failed'
+# make outside      those of its checks that need Rust, or compilers for x86-64
 # make runs         the program `cut` on further cases
 #
 # host/rules.mk, the command and the library under it:
@@ -18,7 +19,7 @@
 
 MADE = target/rust
 
-.PHONY: run test runs cut toolchain rt rust format lines
+.PHONY: run test outside runs cut toolchain rt rust format lines
 
 run: rt cut
 	@for list in atlas desk; do \
@@ -26,11 +27,24 @@ run: rt cut
 	    crates/cut/run.sh examples/$$list.lst < examples/gazetteer.xml || exit 1; \
 	done
 
-# The runs follow the gate, which begins from nothing and leaves the programs proved and built. Its last line is said again after them.
-test: toolchain x86 cargo format lines expected
+# First what fails fastest and needs the toolchain alone: the layout; the gate, which begins from nothing and leaves the programs proved and
+# built; runs of the program `cut`. Then what needs more. The gate's last line is said again at the end.
+test: rt format lines
 	@said=$$(mktemp -d) && trap 'rm -rf $$said' EXIT && \
 	{ rt ci; echo $$? > $$said/status; } | tee $$said/lines && [ "$$(cat $$said/status)" = 0 ] && \
-	crates/cut/runs.sh && $(MAKE) --no-print-directory -s -j2 -O host-tests big && tail -n 1 $$said/lines
+	crates/cut/runs.sh && $(MAKE) --no-print-directory -s outside && tail -n 1 $$said/lines
+
+# What needs Rust, or compilers for x86-64 and what runs their code. A machine that lacks some of it makes the checks that it can make, and
+# is told at the end what was missing and which were not made.
+outside:
+	@made= left= missing=; \
+	there() { $(MAKE) --no-print-directory -s $$1 || { missing="$${missing:+$$missing, }$$2" && false; }; }; \
+	if there rust rustc; then made=expected; else left=expected; fi; \
+	if ! there x86 'what compiles for x86-64 and runs it'; then left="$$left host-tests big"; \
+	elif there cargo cargo; then made="$$made host-tests big"; \
+	else made="$$made big" left="$$left host-tests"; fi; \
+	if [ -n "$$made" ]; then $(MAKE) --no-print-directory -s -j2 -O $$made || exit 1; fi; \
+	if [ -n "$$left" ]; then echo "missing: $$missing. So these were not made:" $$left; exit 1; fi
 
 runs: rt cut
 	crates/cut/runs.sh
