@@ -1,18 +1,15 @@
--- Two results that the contract of `cut` or of `cut_by` allows are equal: the answer, and every byte of the buffer.
--- So are the three numbers of document 01, which are functions of the answer.
-use mathlib.Core.Path.{_≡_, sym, _∙_}
-use mathlib.Core.List.{List}
-use lib.ListN.{length}
-use Prim.Native.Nat.{ℕ}
-use Rattle.cutter.specs.Answer.{answerBy, answerOf, bytesBy, bytesAfter}
-use Rattle.cutter.specs.declared.Answer.{Answer}
+-- Two results that the contract of `cut` or of `cut_by` allows are equal, the answer and every byte of the buffer: over the contracts that
+-- the toolchain makes of the source. So are the three numbers of document 01, which are functions of the answer.
+use mathlib.Core.Path.{sym, _∙_}
+use denote.Ref.{now}
+use Rattle.contracts.specs.One.{OneOutcome}
+use Rattle.cutter.proofs.cut.Reads as cut
+use Rattle.cutter.proofs.cut_by.Reads as cut-by
 
 -- `cut`
-pub cut-one : (list d o : List ℕ) (r r′ : Answer) (o₁ o₂ : List ℕ) → r ≡ answerOf list d (length o) → o₁ ≡ bytesAfter list d o
-    → r′ ≡ answerOf list d (length o) → o₂ ≡ bytesAfter list d o → (r ≡ r′) × (o₁ ≡ o₂)
-cut-one list d o r r′ o₁ o₂ p b q c = (p ∙ sym q, b ∙ sym c)
+pub cut-one : OneOutcome cut.Asked cut.Learnt (λ κs e. now (e .1 .1 .0))
+cut-one κs a z z′ e e′ x p q = (p .0 ∙ sym (q .0), p .1 ∙ sym (q .1))
 
 -- `cut_by`
-pub cut-by-one : (list d o : List ℕ) (r r′ : Answer) (o₁ o₂ : List ℕ) → r ≡ answerBy list d (length o) → o₁ ≡ bytesBy list d o
-    → r′ ≡ answerBy list d (length o) → o₂ ≡ bytesBy list d o → (r ≡ r′) × (o₁ ≡ o₂)
-cut-by-one list d o r r′ o₁ o₂ p b q c = (p ∙ sym q, b ∙ sym c)
+pub cut-by-one : OneOutcome cut-by.Asked cut-by.Learnt (λ κs e. now (e .1 .1 .1 .0))
+cut-by-one κs a z z′ e e′ x p q = (p .0 ∙ sym (q .0), p .1 ∙ sym (q .1))

@@ -1,26 +1,21 @@
--- Two results that one contract allows are equal: of `choughbell_characters`, `choughbell_judge` and `numbers_of`, which can't change what
--- they are lent, and of `choughbell_cut` with what it leaves in the buffer.
-use mathlib.Core.Path.{_≡_, sym, _∙_}
-use mathlib.Core.List.{List}
-use Prim.Native.Nat.{ℕ}
-use lib.ListN.{length}
-use Rattle.document.specs.Judge.{judgeOf}
-use Rattle.cutter.specs.Answer.{answerOf, bytesAfter}
-use Rattle.cutter.specs.declared.Answer.{Answer}
-use Rattle.exported.specs.Numbers.{charactersEnd, judgedOf, numbersOf}
-use Rattle.exported.specs.declared.Numbers.{Numbers}
+-- Two results that one contract allows are equal, over the contracts that the toolchain makes of the source: of `choughbell_characters`,
+-- `choughbell_judge` and `numbers_of`, which can't change what they are lent, and of `choughbell_cut` with what it leaves in the buffer.
+use mathlib.Core.Path.{sym, _∙_}
+use denote.Ref.{now}
+use Rattle.contracts.specs.One.{OneResult, OneOutcome}
+use Rattle.exported.proofs.choughbell_characters.Reads as characters
+use Rattle.exported.proofs.choughbell_judge.Reads as judge
+use Rattle.exported.proofs.numbers_of.Reads as numbers
+use Rattle.exported.proofs.choughbell_cut.Reads as cut
 
-pub characters-one : (s : List ℕ) (r r′ : ℕ) → r ≡ charactersEnd s → r′ ≡ charactersEnd s → r ≡ r′
-characters-one s r r′ p q = p ∙ sym q
+pub characters-one : OneResult characters.Asked characters.Learnt
+characters-one κs a z z′ e e′ x p q = p ∙ sym q
 
-pub judge-one : (doc : List ℕ) (r r′ : Numbers) → r ≡ judgedOf (judgeOf doc) → r′ ≡ judgedOf (judgeOf doc) → r ≡ r′
-judge-one doc r r′ p q = p ∙ sym q
+pub judge-one : OneResult judge.Asked judge.Learnt
+judge-one κs a z z′ e e′ x p q = p ∙ sym q
 
-pub numbers-one : (a : Answer) (r r′ : Numbers) → r ≡ numbersOf a → r′ ≡ numbersOf a → r ≡ r′
-numbers-one a r r′ p q = p ∙ sym q
+pub numbers-one : OneResult numbers.Asked numbers.Learnt
+numbers-one κs a z z′ e e′ x p q = p ∙ sym q
 
--- o is the buffer before, w and w′ are what stands in it afterwards
-pub cut-one : (list doc o : List ℕ) (r r′ : Numbers) (w w′ : List ℕ)
-    → r ≡ numbersOf (answerOf list doc (length o)) → w ≡ bytesAfter list doc o
-    → r′ ≡ numbersOf (answerOf list doc (length o)) → w′ ≡ bytesAfter list doc o → (r ≡ r′) × (w ≡ w′)
-cut-one list doc o r r′ w w′ p u q v = (p ∙ sym q, u ∙ sym v)
+pub cut-one : OneOutcome cut.Asked cut.Learnt (λ κs e. now (e .1 .1 .0))
+cut-one κs a z z′ e e′ x p q = (p .0 ∙ sym (q .0), p .1 ∙ sym (q .1))

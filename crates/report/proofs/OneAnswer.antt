@@ -1,9 +1,8 @@
--- Two results that the contract of `told` allows are equal.
+-- Two results that the contract of `told` allows show the same bytes, over the contract that the toolchain makes of the source.
 -- The buffer is lent for as long as the result is used.
 use mathlib.Core.Path.{_≡_, sym, _∙_}
-use mathlib.Core.List.{List}
-use Prim.Native.Nat.{ℕ}
-use Rattle.report.specs.Printed.{printed}
+use denote.Ref.{now}
+use Rattle.report.proofs.told.Reads as told
 
-pub told-one : (list input r r′ : List ℕ) → r ≡ printed list input → r′ ≡ printed list input → r ≡ r′
-told-one list input r r′ p q = p ∙ sym q
+pub told-one : {κs : _} {a : _} {z z′ : _} {e e′ : _} → told.Learnt κs a z e → told.Learnt κs a z′ e′ → now z ≡ now z′
+told-one p q = p ∙ sym q
