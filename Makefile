@@ -39,10 +39,10 @@ test: rt format lines
 outside:
 	@made= left= missing=; \
 	there() { $(MAKE) --no-print-directory -s $$1 || { missing="$${missing:+$$missing, }$$2" && false; }; }; \
-	if there rust rustc; then made=expected; else left=expected; fi; \
+	if there rust rustc; then $(MAKE) --no-print-directory -s expected || exit 1; else left=expected; fi; \
 	if ! there x86 'what compiles for x86-64 and runs it'; then left="$$left host-tests big"; \
-	elif there cargo cargo; then made="$$made host-tests big"; \
-	else made="$$made big" left="$$left host-tests"; fi; \
+	elif there cargo cargo; then made='host-tests big'; \
+	else made=big left="$$left host-tests"; fi; \
 	if [ -n "$$made" ]; then $(MAKE) --no-print-directory -s -j2 -O $$made || exit 1; fi; \
 	if [ -n "$$left" ]; then echo "missing: $$missing. So these were not made:" $$left; exit 1; fi
 

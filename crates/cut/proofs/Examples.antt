@@ -1,5 +1,5 @@
--- All that the program prints for a list and a standard input, in one table under one statement; what is printed was worked out by hand. Row
--- b is document 01's own. antt computes the answer, the cut and the decimals. Then `too long`, for every list.
+-- All that the program prints for a list and a standard input, in one table under one statement, worked out by hand; row b is document 01's
+-- own. antt computes the answer, the cut and the decimals. Then `too long`, for every list.
 use mathlib.Core.Path.{_≡_, refl}
 use mathlib.Core.List.{List, [], _∷_, map}
 use Prim.Native.Nat.{ℕ, _<_}

@@ -1,7 +1,8 @@
 -- Demand 3: "Let two lists be accepted, and let every path of the narrow list stand in the wide list, marked there if it is marked in the
 -- narrow one. If the wide cut was written and is itself within the document size, then cutting it by the narrow list, with room enough,
 -- gives byte for byte the narrow cut of the master, and the same number of selected elements."
--- In order: what a call writes; the wide cut as a document; its narrow cut and number; the answer and the buffer; two calls, `cut-of-cut`, which is `demand-3` of Demands.antt.
+-- In order: what a call writes; the wide cut as a document; its narrow cut and number; the answer and the buffer; two calls, `cut-of-cut`,
+-- which is `demand-3` of Demands.antt.
 use mathlib.Core.Path.{_≡_, refl, sym, ap, _∙_}
 use mathlib.Core.List.{List, [], _∷_, _++_}
 use Prim.Native.Nat.{ℕ, _≤_}

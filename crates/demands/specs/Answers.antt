@@ -1,5 +1,6 @@
 -- What each answer of a cut says, in document 01's words and order: "1; 2 and 3 by line; 4; 5; 6 to 8 by item; 9". In order: how many of
--- some things something holds of; what is cut; the answers; the buffer; the place of a refusal. proofs/Answers.antt shows that each call has the one answer that is said.
+-- some things something holds of; what is cut; the answers; the buffer; the place of a refusal. proofs/Answers.antt shows that each call
+-- has the one answer that is said.
 use mathlib.Core.Path.{_≡_}
 use mathlib.Core.List.{List, [], _∷_, _++_}
 use Prim.Native.Nat.{ℕ, _+_, _≤_, _<_}

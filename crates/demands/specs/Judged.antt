@@ -14,7 +14,8 @@ use Rattle.document.specs.declared.judge.Judged.{Judged}
 use Rattle.document.specs.declared.judge.Judged.the-variants.{Sound, TooLong, NotChar, AtFault}
 use Rattle.demands.specs.Reached.{FirstFault}
 
--- "in UTF-8 and keeps XML 1.0 (Fifth Edition) without a document type, within the stated sizes": production [1] derives it, with this forest
+-- "in UTF-8 and keeps XML 1.0 (Fifth Edition) without a document type, within the stated sizes": production [1] derives it, with the
+-- forest f
 pub record Accepted (d : List ℕ) (f : Forest) : Type 0 where
   pub size : length d ≤ 16777216
   pub chars : Chars d

@@ -1,5 +1,6 @@
--- Whether an item may stand where it stands, or why it is at fault, in document 01's words. In order: what is open; well-formed if something
--- holds; a tag that opens an element; the end of the items; the item in its place. What an item itself is says `ItemSays` of the crate items.
+-- Whether an item may stand where it stands, or why it is at fault, in document 01's words. In order: what is open; well-formed if
+-- something holds; a tag that opens an element; the end of the items; the item in its place. What an item itself is says `ItemSays` of the
+-- crate items.
 use mathlib.Core.Path.{_≡_}
 use mathlib.Core.Bool.{Bool, true, false}
 use mathlib.Core.List.{List, [], _∷_}

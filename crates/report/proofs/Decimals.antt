@@ -1,9 +1,9 @@
--- Laws of a number in decimal: any number of turns that suffices gives the same digits; the digits before the last are those of a tenth; and
--- how many there are.
-use mathlib.Core.Path.{_≡_, refl, sym, ap, _∙_}
+-- Laws of a number in decimal: any number of turns that suffices gives the same digits; the digits before the last are those of a tenth;
+-- how many there are; and digits laid into a buffer.
+use mathlib.Core.Path.{_≡_, refl, ap}
 use mathlib.Core.Bool.{Bool, true, false, cond}
 use mathlib.Core.List.{List, [], _∷_, _++_}
-use Prim.Native.Nat.{ℕ, zero, suc, _+_, _*_, _/_, _%_, _^_, _≤_, _<_}
+use Prim.Native.Nat.{ℕ, zero, suc, _+_, _*_, _/_, _^_, _≤_, _<_}
 use native.Mathlib.Nat.{pow-succ'}
 use native.Mathlib.Omega.{arith}
 use borrow.Author.Needs.{needs}
@@ -32,7 +32,10 @@ decimal-one n l = rw (lt-ltb n 10 l)
 
 pub decimal-more : (n : ℕ) → 10 ≤ n → decimal (n / 10) ++ (lastDigit n ∷ []) ≡ decimal n
 unfolding decimal decimalBy
-decimal-more n l = rw (le-ltb n 10 l) (ap (λ (s : List ℕ). s ++ (lastDigit n ∷ [])) (decimal-turns (suc (n / 10)) n (n / 10) (omega arith) (omega arith)))
+decimal-more n l =
+    let m = n / 10 in
+    let e : decimalBy (suc m) m ≡ decimalBy n m = decimal-turns (suc m) n m (omega arith) (omega arith) in
+    rw (le-ltb n 10 l) (ap (λ (s : List ℕ). s ++ (lastDigit n ∷ [])) e)
 
 -- a number below a power of ten has at most so many digits
 by-short : (m k n : ℕ) → n < 10 ^ suc k → length (decimalBy m n) ≤ suc k

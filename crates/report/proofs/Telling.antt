@@ -1,14 +1,14 @@
--- Laws of what is told: a line of a word and two numbers, laid text by text; under 0 the cut stands at the front of the room, and its length
--- is the second number; and the three ways out of `tell`.
-use mathlib.Core.Path.{_≡_, refl, sym, ap, subst, _∙_}
-use mathlib.Core.Bool.{Bool, true, false, not, cond}
+-- Laws of what is told: a line of a word and two numbers, laid text by text; under 0 the cut stands at the front of the room, and its
+-- length is the second number; the three ways out of `tell`; and what stands at the front of a buffer that is long enough.
+use mathlib.Core.Path.{_≡_, refl, sym, ap, _∙_}
+use mathlib.Core.Bool.{Bool, true, false, cond}
 use mathlib.Core.List.{List, [], _∷_, _++_}
 use Prim.Native.Nat.{ℕ, _+_, _≤_, _<_}
 use native.Mathlib.Omega.{arith}
 use borrow.Author.Needs.{needs}
 use borrow.Author.Tests.{lt-ltb, le-ltb, eq-eqb, ne-eqb, ltb-false}
-use lib.Dec.{ltb, eqb}
-use lib.ListN.{length, take, drop, length-append}
+use lib.Dec.{ltb}
+use lib.ListN.{length, take, drop}
 use lib.Seq.{take-at}
 use Rattle.xml.specs.Notation.{bytes}
 use Rattle.paths.specs.Judge.{listAnswer}
@@ -27,7 +27,7 @@ use Rattle.exported.specs.declared.Numbers.{Numbers}
 use Rattle.writer.specs.Wrote.{Wrote}
 use Rattle.writer.proofs.Laying.{wrote-more, laid-whole}
 use Rattle.report.specs.Decimal.{decimal}
-use Rattle.report.specs.Printed.{spaced, newline, lineOf, keptOf, refusedOf, toldOf, printed}
+use Rattle.report.specs.Printed.{spaced, newline, keptOf, refusedOf, toldOf, printed}
 use Rattle.report.proofs.Decimals.{decimal-short}
 
 -- ---- a line
@@ -118,7 +118,8 @@ unfolding printed
 told-is list input short = rw (le-ltb 32768 (length input) short)
 
 module _ (list input : List ℕ) where
-  pub tell-long : {o o′ : List ℕ} {r : ℕ} → 32768 < length input → Wrote o 0 (bytes "too long" ++ newline) r o′ → Wrote o 0 (printed list input) r o′
+  pub tell-long : {o o′ : List ℕ} {r : ℕ} → 32768 < length input → Wrote o 0 (bytes "too long" ++ newline) r o′
+      → Wrote o 0 (printed list input) r o′
   unfolding printed
   tell-long l w = rw (lt-ltb 32768 (length input) l) w
 
@@ -136,7 +137,8 @@ module _ (list input : List ℕ) where
         let k : n .third ≡ thirdOf (answerOf list input 65536) = ap (λ (m : Numbers). m .third) answer-is in
         rw (← told-is list input short, eq-eqb _ _ y, ← k, ← x) h
 
-    pub tell-refused : (n .number ≡ 0 → ⊥) → {o o′ : List ℕ} {r : ℕ} → Wrote o 0 (refusedOf (n .number) (n .second)) r o′ → Wrote o 0 (printed list input) r o′
+    pub tell-refused : (n .number ≡ 0 → ⊥) → {o o′ : List ℕ} {r : ℕ} → Wrote o 0 (refusedOf (n .number) (n .second)) r o′
+        → Wrote o 0 (printed list input) r o′
     tell-refused z h =
         let y : n .number ≡ numberOf (answerOf list input 65536) = ap (λ (m : Numbers). m .number) answer-is in
         let k : n .second ≡ secondOf (answerOf list input 65536) = ap (λ (m : Numbers). m .second) answer-is in

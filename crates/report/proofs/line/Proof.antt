@@ -22,13 +22,13 @@ same-length c = search needs
 
 returns : tie.Need-returns
 returns c =
-    let word = c .before .before .before .before .before .before .before .before .before .before .before .before .before .before .copy .ensures in
-    let first = c .before .before .before .before .before .before .before .before .before .before .spaced .ensures in
-    let second = c .before .before .before .before .before .before .spaced2 .ensures in
-    let last = c .before .before .put .ensures in (
-      wrote-line word (first .0) (second .0) last,
-      line-short word (first .0) (second .0) last (c .before .before .before .before .before .before .before .before .before .before .before .before .before .before .before .before .before .before .pre) (first .1) (second .1),
-    )
+    let first = c .before .before .before .before .before .before .before .before .before .before in
+    let start = first .before .before .before .before .before .before .before .before in
+    let word = first .before .before .before .before .copy .ensures in
+    let a = first .spaced .ensures in
+    let b = c .before .before .before .before .before .before .spaced2 .ensures in
+    let last = c .before .before .put .ensures in
+    (wrote-line word (a .0) (b .0) last, line-short word (a .0) (b .0) last (start .pre) (a .1) (b .1))
 
 pub line-spec : {M : Type 1} → statement M
 line-spec =

@@ -14,13 +14,15 @@ tell-requires c κs = search needs
 
 slice-aggregate-result : tie.Need-slice-aggregate-result
 slice-aggregate-result c =
+    let start = c .before .before .before .before .before .before .before .before .before in
     let told = c .before .before .before .before .tell .ensures in
-    sym (length-take-le _ _ (omega (arith, told .1, wrote-long (told .0), c .before .before .before .before .before .before .before .before .before .pre)))
+    sym (length-take-le _ _ (omega (arith, told .1, wrote-long (told .0), start .pre)))
 
 returns : tie.Need-returns
 returns c =
+    let start = c .before .before .before .before .before .before .before .before .before in
     let told = c .before .before .before .before .tell .ensures in
-    front-laid (told .0) (told .1) (c .before .before .before .before .before .before .before .before .before .pre)
+    front-laid (told .0) (told .1) (start .pre)
 
 pub told-spec : {M : Type 1} → statement M
 told-spec = tie.close (tie.spec tell-requires slice-aggregate-result returns)
