@@ -40,8 +40,8 @@ struct choughbell_numbers {
 };
 
 /* Writes the cut of a document by a list to the front of `out`. Under 0 the bytes after the cut stay as they were, under any other number
- * the whole of `out` does. A cut has less than twice the bytes of its document:
- * that is not proved yet, and where `out` is too short all the same the number is 9 and nothing is written. */
+ * the whole of `out` does. A cut has less than twice the bytes of its document; that is not proved yet, and should `out` be too short all
+ * the same, the number is 9. */
 struct choughbell_numbers choughbell_cut(const uint8_t *list, size_t list_len, const uint8_t *doc, size_t doc_len, uint8_t *out,
                                          size_t out_len);
 
