@@ -6,22 +6,18 @@ use mathlib.Core.List.{List}
 use Prim.Native.Nat.{ℕ, _+_, _-_, _≤_, _<_}
 use native.Mathlib.Omega.{arith}
 use borrow.Author.Needs.{needs}
-use borrow.Author.Tests.{eqb-true, eqb-false}
-use lib.Dec.{eqb}
 use lib.ListN.{length, getD, drop}
 use Rattle.xml.specs.Character.{character, starts, wide}
 use Rattle.xml.specs.Productions.{isNameStart, isName}
 use Rattle.xml.proofs.Utf8.{utf8-low}
 use Rattle.xml.proofs.Character.{character-low}
-use Rattle.xml.proofs.Run.{starts-low, wide-long}
-use Rattle.points.specs.Class.{classOf}
+use Rattle.xml.proofs.Run.{starts-nil, starts-low, wide-long}
 use Rattle.chars.specs.Name.{nameOf, nameAt, nameEnd, nameStep}
 use Rattle.utf8.specs.Sequence.{sequenceAt}
 use Rattle.utf8.specs.declared.Sequence.{Sequence}
 use Rattle.utf8.specs.declared.Sequence.the-variants.{Point, Bad}
 use Rattle.chars.specs.declared.name.Reading.the-variants.{Ends, Fault}
-use Rattle.utf8.proofs.Place.{drop-step}
-use Rattle.points.proofs.Classes.{class-none, class-name, class-start, class-other}
+use Rattle.utf8.proofs.Place.{drop-step, drop-end}
 use Rattle.chars.proofs.Runs.{point-starts, bad-starts, point-wide, Running, run-start, run-ends, run-over, run-less, run-on}
 
 -- ---- one step
@@ -36,29 +32,29 @@ module _ (d : List ℕ) (at : ℕ) where
   goes y = sym (rw y)
 
   -- by an ASCII byte
-  module _ (h : at < length d) (l : getD d at 0 < 0x80) {k : ℕ} (q : k ≡ classOf (getD d at 0)) where
+  module _ (h : at < length d) (l : getD d at 0 < 0x80) {k : Bool} (q : k ≡ isName (getD d at 0)) where
     low-starts : starts isName (drop at d) ≡ isName (getD d at 0)
     low-starts = rw (drop-step d at h) (starts-low isName _ _ l)
 
-    pub low-stays : k ≡ 0 → at ≡ nameStep d at
-    low-stays e = stays (low-starts ∙ class-none (getD d at 0) (sym q ∙ e))
+    pub low-stays : k ≡ false → at ≡ nameStep d at
+    low-stays e = stays (low-starts ∙ sym q ∙ e)
 
-    pub low-goes : (k ≡ 0 → ⊥) → at + 1 ≡ nameStep d at
-    low-goes n =
+    pub low-goes : k ≡ true → at + 1 ≡ nameStep d at
+    low-goes e =
         let w : wide (character (drop at d)) ≡ 1 = rw (drop-step d at h, character-low _ (drop (at + 1) d) l, utf8-low _ l) in
-        ap (λ (x : ℕ). at + x) (sym w) ∙ goes (low-starts ∙ class-name (getD d at 0) (λ e. n (q ∙ e)))
+        ap (λ (x : ℕ). at + x) (sym w) ∙ goes (low-starts ∙ sym q ∙ e)
 
   -- by a sequence
   module _ {r : Sequence} (q : r ≡ sequenceAt d at) where
     pub bad-stays : r ≡ Bad → at ≡ nameStep d at
     bad-stays b = stays (bad-starts d at q isName b)
 
-    module _ {c e : ℕ} (f : r ≡ Point c e) {k : ℕ} (g : k ≡ classOf c) where
-      pub point-stays : k ≡ 0 → at ≡ nameStep d at
-      point-stays z = stays (point-starts d at q isName f ∙ class-none c (sym g ∙ z))
+    module _ {c e : ℕ} (f : r ≡ Point c e) {k : Bool} (g : k ≡ isName c) where
+      pub point-stays : k ≡ false → at ≡ nameStep d at
+      point-stays z = stays (point-starts d at q isName f ∙ sym g ∙ z)
 
-      pub point-goes : (k ≡ 0 → ⊥) → e ≡ nameStep d at
-      point-goes n = point-wide d at q f ∙ goes (point-starts d at q isName f ∙ class-name c (λ z. n (g ∙ z)))
+      pub point-goes : k ≡ true → e ≡ nameStep d at
+      point-goes z = point-wide d at q f ∙ goes (point-starts d at q isName f ∙ sym g ∙ z)
 
 pub ruleset stepping = (low-stays, low-goes, bad-stays, point-stays, point-goes, needs)
 
@@ -103,13 +99,15 @@ pub ruleset naming = (run-start, names-end, names-less, names-on, names-over, ne
 -- ---- the first character, and the answer
 
 module _ (d : List ℕ) (at : ℕ) where
+  pub start-over : length d ≤ at → false ≡ starts isNameStart (drop at d)
+  start-over h = sym (rw (drop-end d at h) (starts-nil isNameStart))
+
+  pub start-low : at < length d → getD d at 0 < 0x80 → {k : Bool} → k ≡ isNameStart (getD d at 0) → k ≡ starts isNameStart (drop at d)
+  start-low h l g = g ∙ sym (rw (drop-step d at h) (starts-low isNameStart _ _ l))
+
   module _ {r : Sequence} (q : r ≡ sequenceAt d at) where
-    pub start-point : {c e : ℕ} → r ≡ Point c e → {k : ℕ} → k ≡ classOf c → eqb k 2 ≡ starts isNameStart (drop at d)
-    start-point {c} {e} f {k} g = go (eqb k 2) refl ∙ sym (point-starts d at q isNameStart f)
-      where
-        go : (x : Bool) → eqb k 2 ≡ x → x ≡ isNameStart c
-        go true z = sym (class-start c (sym g ∙ eqb-true k 2 z))
-        go false z = sym (class-other c (λ w. eqb-false k 2 z (g ∙ w)))
+    pub start-point : {c e : ℕ} → r ≡ Point c e → {k : Bool} → k ≡ isNameStart c → k ≡ starts isNameStart (drop at d)
+    start-point f g = g ∙ sym (point-starts d at q isNameStart f)
 
     pub start-bad : r ≡ Bad → false ≡ starts isNameStart (drop at d)
     start-bad b = sym (bad-starts d at q isNameStart b)
@@ -123,4 +121,4 @@ module _ (d : List ℕ) (at : ℕ) where
     unfolding nameAt nameOf
     name-fault n = sym (rw (sym q ∙ n))
 
-pub ruleset answering = (start-point, start-bad, name-ends, name-fault, needs)
+pub ruleset answering = (start-over, start-low, start-point, start-bad, name-ends, name-fault, needs)

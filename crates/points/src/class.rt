@@ -1,9 +1,12 @@
 // The classes of name characters: 2 starts a name, 1 only goes on with one, 0 does neither. Code points below U+0300 are classed by the
-// table of 768 entries, the others by the ranges of productions [4] and [4a].
+// bits of the lent table, the others by the ranges of productions [4] and [4a].
 ghost use mathlib.Core.Path.{_≡_};
-ghost use Rattle.points.specs.Class.{classOf, classTable, pairs};
+ghost use Prim.Native.Nat.{_<_, _≤_};
+ghost use Rattle.xml.specs.Productions.{isNameStart, isName};
+ghost use Rattle.points.specs.Class.{classOf, classTable, bitAt, pairs};
+use crate::table::CLASS_BYTES;
+use crate::table::CLASSED;
 use crate::table::Classes;
-use crate::table::ENTRIES;
 
 // The ranges of [4] NameStartChar, and those that [4a] NameChar adds: a first and a last code point each.
 const START: [u32; 32] = [
@@ -75,26 +78,51 @@ fn in_ranges(t: &[u32], c: u32) -> bool
     false
 }
 
-fn by_ranges(c: u32) -> u8
-    ensures { λ r. ⌜ r ≡ classOf c ⌝ }
+// The bit of a code point below U+0300, in the class whose bytes begin at a place of the lent table.
+fn bit_at(classes: &Classes, from: usize, c: usize) -> u8
+    requires { ⌜ (from ≤ 96) × (c < 768) ⌝ }
+    ensures { λ r. ⌜ r ≡ bitAt (now (classes .entry)) from c ⌝ }
 {
-    if in_ranges(&START, c) {
-        return 2;
-    }
-    if in_ranges(&MORE, c) {
-        return 1;
-    }
-    0
+    (classes[from + c / 8] >> (c % 8)) % 2
 }
 
-// The class of a code point, by the lent table.
+// Whether a code point starts a name.
+pub fn starts(classes: &Classes, c: u32) -> bool
+    requires { ⌜ now classes ≡ classTable ⌝ }
+    ensures { λ r. ⌜ r ≡ isNameStart c ⌝ }
+{
+    let k = c as usize;
+    if k < CLASSED {
+        return bit_at(classes, 0, k) == 1;
+    }
+    in_ranges(&START, c)
+}
+
+// Whether a code point goes on with a name.
+pub fn goes_on(classes: &Classes, c: u32) -> bool
+    requires { ⌜ now classes ≡ classTable ⌝ }
+    ensures { λ r. ⌜ r ≡ isName c ⌝ }
+{
+    let k = c as usize;
+    if k < CLASSED {
+        return bit_at(classes, CLASS_BYTES, k) == 1;
+    }
+    if in_ranges(&START, c) {
+        return true;
+    }
+    in_ranges(&MORE, c)
+}
+
+// The class of a code point.
 pub fn class_of(classes: &Classes, c: u32) -> u8
     requires { ⌜ now classes ≡ classTable ⌝ }
     ensures { λ r. ⌜ r ≡ classOf c ⌝ }
 {
-    let k = c as usize;
-    if k < ENTRIES {
-        return classes[k];
+    if starts(classes, c) {
+        return 2;
     }
-    by_ranges(c)
+    if goes_on(classes, c) {
+        return 1;
+    }
+    0
 }

@@ -8,17 +8,17 @@ use Rattle.chars.proofs.name.name_step.Tie as tie
 shared-slice-read-b : tie.Need-shared-slice-read-b
 shared-slice-read-b c = search stepping
 
-cast-class-of : tie.Need-cast-class-of
-cast-class-of c = omega (arith, c .before .shared-slice-known2 .given (c .before .before .before .args .at))
+cast-goes-on : tie.Need-cast-goes-on
+cast-goes-on c = omega (arith, c .before .shared-slice-known2 .given (c .before .before .before .args .at))
 
-class-of-requires : tie.Need-class-of-requires
-class-of-requires c κs = search stepping
-
-returns : tie.Need-returns
-returns c = search stepping
+goes-on-requires : tie.Need-goes-on-requires
+goes-on-requires c κs = search stepping
 
 add-result : tie.Need-add-result
 add-result c = search stepping
+
+returns : tie.Need-returns
+returns c = search stepping
 
 returns-2 : tie.Need-returns-2
 returns-2 c = search stepping
@@ -29,8 +29,8 @@ sequence-at-requires c κs = search stepping
 enum-known-c : tie.Need-enum-known-c
 enum-known-c c = search stepping
 
-class-of-requires-2 : tie.Need-class-of-requires-2
-class-of-requires-2 c κs = search stepping
+goes-on-requires-2 : tie.Need-goes-on-requires-2
+goes-on-requires-2 c κs = search stepping
 
 returns-3 : tie.Need-returns-3
 returns-3 c = search stepping
@@ -49,14 +49,14 @@ name-step-spec =
     tie.close
     (tie.spec
     shared-slice-read-b
-    cast-class-of
-    class-of-requires
-    returns
+    cast-goes-on
+    goes-on-requires
     add-result
+    returns
     returns-2
     sequence-at-requires
     enum-known-c
-    class-of-requires-2
+    goes-on-requires-2
     returns-3
     enum-told
     returns-4

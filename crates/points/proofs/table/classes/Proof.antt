@@ -1,13 +1,13 @@
 -- `classes` meets its contract. This is the one computed test over the whole table: antt computes the class of each of the 768 code points
 -- from the ranges of [4] and [4a], and compares it with the entry of the constant.
 use mathlib.Core.Path.{refl}
-use Rattle.xml.specs.Productions.{isNameStart, isNameMore}
-use Rattle.points.specs.Class.{classOf, classesFrom, classTable}
+use Rattle.xml.specs.Productions.{isNameStart, isNameMore, isName}
+use Rattle.points.specs.Class.{classTable}
 use Rattle.points.proofs.table.classes.Statement.{statement}
 use Rattle.points.proofs.table.classes.Tie as tie
 
 returns : tie.Need-returns
-unfolding classTable classesFrom classOf isNameStart isNameMore
+unfolding classTable isNameStart isName isNameMore
 returns c = refl
 
 pub classes-spec : {M : Type 1} → statement M
