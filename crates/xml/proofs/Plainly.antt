@@ -7,7 +7,8 @@ use mathlib.Core.List.{List, [], _∷_, _++_, append-assoc}
 use mathlib.Core.Logic.{_⊎_, inl, inr, _↔_}
 use Prim.Native.Nat.{ℕ, suc}
 use Rattle.xml.specs.Notation.{Rule, _⨾_, _∣_, _∗, Star, done, more, Reads, text, opt}
-use Rattle.xml.specs.Productions.{S, Name as NameRule, Eq, AttValue, Reference, CharData, Comment, PI, CDSect, XMLDecl, Misc}
+use Rattle.xml.specs.Productions.{S, Name as NameRule, Eq, AttValue, Reference, CharData, Comment, PI, CDSect, Misc}
+use Rattle.xml.specs.Encoding.{Utf8Decl}
 use Rattle.xml.specs.Productions.{Attribute, STag, ETag, EmptyElemTag}
 use Rattle.xml.specs.Forest.{Name, Tag, Forest, nil, other, elem}
 use Rattle.xml.specs.Document.{Attributes, Unique, Opens, Closes, Item}
@@ -314,9 +315,9 @@ module _ (Fits : ℕ → Name → List Name → Type 0) where
       let a = rooted-plain r in plain.document (m, inr (i .reads), a .before) (a .root) (a .after)
   document-plain (doc.bare {s = s} r) = let a = rooted-plain r in plain.document (s, inl refl, a .before) (a .root) (a .after)
 
-  declared-or-bare : {s m : List ℕ} → Reads (opt XMLDecl) s m → Rooted m → (f : Forest) × doc.Document Fits s f
+  declared-or-bare : {s m : List ℕ} → Reads (opt Utf8Decl) s m → Rooted m → (f : Forest) × doc.Document Fits s f
   declared-or-bare (inl e) (f, r) = rw e (f, doc.bare r)
-  declared-or-bare {s} {m} (inr x) (f, r) = let (raw, i) = item-of XMLDecl s m x in (other raw f, doc.declared i r)
+  declared-or-bare {s} {m} (inr x) (f, r) = let (raw, i) = item-of Utf8Decl s m x in (other raw f, doc.declared i r)
 
   pub plain-document : {s : List ℕ} → Derived Fits s → (f : Forest) × doc.Document Fits s f
   plain-document (plain.document (m, x, ms) e ns) =

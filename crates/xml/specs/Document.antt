@@ -1,13 +1,15 @@
 -- The productions of the document as a whole, [1] [22] [27] [39] [43], with its forest; the constraints Element Type Match and Unique Att
--- Spec; and sizes. A document has no document type. In order: what a tag holds; content, with the elements in it; what stands outside the
--- root; the document; sizes. The flags give a text one forest and take no text away: `plainly`, proofs/Plainly.antt.
+-- Spec; and sizes. A document has no document type, and its declaration says UTF-8 or names no encoding: Encoding.antt. In order: what a tag
+-- holds; content, with the elements in it; what stands outside the root; the document; sizes. The flags give a text one forest and take no
+-- text away: `plainly`, proofs/Plainly.antt.
 use mathlib.Core.Path.{_≡_}
 use mathlib.Core.Bool.{Bool, true, false}
 use mathlib.Core.List.{List, [], _∷_, _++_}
 use Prim.Native.Nat.{ℕ, suc, _≤_}
 use lib.ListN.{length}
 use Rattle.xml.specs.Notation.{Rule, Reads, text, opt}
-use Rattle.xml.specs.Productions.{S, Name as NameRule, Eq, AttValue, Reference, CharData, Comment, PI, CDSect, XMLDecl}
+use Rattle.xml.specs.Productions.{S, Name as NameRule, Eq, AttValue, Reference, CharData, Comment, PI, CDSect}
+use Rattle.xml.specs.Encoding.{Utf8Decl}
 use Rattle.xml.specs.Forest.{Name, Tag, Forest, nil, other, elem}
 
 -- ---- tags
@@ -110,10 +112,10 @@ module _ (Fits : ℕ → Name → List Name → Type 0) where
     root : {space : Bool} {v : Tag} {ns : List Name} {raw s a b m : List ℕ} {kids f : Forest} → Opens (text ">") v ns s a
         → Fits 1 (v .name) ns → Content 1 true a b kids → Closes (v .name) raw b m → After true m f → Rooted space s (elem v kids raw f)
 
-  -- ---- [1] document ::= prolog element Misc*, [22] prolog ::= XMLDecl? Misc*
+  -- ---- [1] document ::= prolog element Misc*, [22] prolog ::= XMLDecl? Misc*; section 4.3.3: the declaration names no encoding but UTF-8
 
   pub data Document : (s : List ℕ) (f : Forest) → Type 0 where
-    declared : {raw s m : List ℕ} {f : Forest} → Item XMLDecl raw s m → Rooted true m f → Document s (other raw f)
+    declared : {raw s m : List ℕ} {f : Forest} → Item Utf8Decl raw s m → Rooted true m f → Document s (other raw f)
     bare : {s : List ℕ} {f : Forest} → Rooted true s f → Document s f
 
 -- ---- sizes: names of 255 bytes, depth 64, 32 attributes a tag

@@ -5,7 +5,8 @@
 use mathlib.Core.List.{List, [], _++_}
 use Prim.Native.Nat.{ℕ, suc}
 use Rattle.xml.specs.Notation.{Rule, _⨾_, _∣_, _∗, Reads, text, opt}
-use Rattle.xml.specs.Productions.{S, Name as NameRule, Reference, CharData, Comment, PI, CDSect, XMLDecl, Misc}
+use Rattle.xml.specs.Productions.{S, Name as NameRule, Reference, CharData, Comment, PI, CDSect, Misc}
+use Rattle.xml.specs.Encoding.{Utf8Decl}
 use Rattle.xml.specs.Forest.{Name}
 use Rattle.xml.specs.Document.{Attributes, Unique}
 
@@ -44,5 +45,6 @@ module _ (Fits : ℕ → Name → List Name → Type 0) where
 
   -- [1] document ::= prolog element Misc*
   -- [22] prolog ::= XMLDecl? Misc* (doctypedecl Misc*)?, without its doctypedecl; [27] Misc ::= Comment | PI | S
+  -- Section 4.3.3: where there is a declaration, it names no encoding but UTF-8.
   pub data Derived : (s : List ℕ) → Type 0 where
-    document : {s a b : List ℕ} → Reads (opt XMLDecl ⨾ Misc ∗) s a → Element 1 a b → Reads (Misc ∗) b [] → Derived s
+    document : {s a b : List ℕ} → Reads (opt Utf8Decl ⨾ Misc ∗) s a → Element 1 a b → Reads (Misc ∗) b [] → Derived s
