@@ -12,7 +12,7 @@ pub fn rule(peer: &str, doc: &[u8], refusal: Option<Numbers>) -> Option<&'static
     } else if number == 8 {
         Some("over a size of ours, which they don't have")
     } else if has_other_encoding(doc) {
-        Some("in another encoding, or says so: we look at UTF-8 alone, they do as it says")
+        Some("in another encoding, or says so: we refuse it, they do as it says")
     } else if peer == "rxp" && says(doc, b"version", |v| v != b"1.0") {
         Some("says another version than 1.0: rxp then judges by XML 1.1")
     } else if peer == "xmllint" && number == 7 && doc.windows(6).filter(|w| w == b"xmlns:").count() > 1 {

@@ -16,6 +16,12 @@ pub fn text(bytes: &[u8]) -> Result<&str, usize> {
     }
 }
 
+/// The ASCII at the front of some bytes, whatever follows it.
+pub fn ascii_front(bytes: &[u8]) -> &str {
+    let length = bytes.iter().take_while(|byte| byte.is_ascii()).count();
+    std::str::from_utf8(&bytes[..length]).unwrap_or("")
+}
+
 fn first_non_char(text: &str) -> Option<usize> {
     text.char_indices().find(|&(_, c)| !is_char(c)).map(|(offset, _)| offset)
 }

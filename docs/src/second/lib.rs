@@ -1,8 +1,8 @@
-//! The filter of document 01, written a second time from that page alone, slow and obvious. Here: the numbers handed
-//! back and the three public questions. The list is in `list`, the characters in `chars`, the productions in
-//! `declaration`, `markup`, `reference` and `tag` over `reader`, the items in `items`, their faults in `faults`, the
-//! tree in `tree` and `document`, the choice of places in `select`, the bytes in `write`, what the program prints in
-//! `program`.
+//! The filter of document 01 with the request Q-1 of document 02, written a second time from these pages alone, slow
+//! and obvious. Here: the numbers handed back and the three public questions. The list is in `list`, the characters in
+//! `chars`, the productions in `declaration`, `markup`, `reference` and `tag` over `reader`, the items in `items`, their
+//! faults in `faults`, the tree in `tree` and `document`, the choice of places in `select`, the bytes in `write`, what
+//! the program prints in `program`.
 
 mod chars;
 mod declaration;
@@ -36,7 +36,7 @@ fn refusal(number: u64, second: usize) -> Numbers {
 }
 
 /// The cut's bytes and the number of elements selected, whatever room there is; or the refusal, which is never 9.
-/// The list is judged before the document: "1; 2 and 3 by line; 4; 5; 6 to 8 by item".
+/// The list is judged before the document: "1; 2 and 3 by line; 4; 5; 6 to 8 by item", and 10 "stands between 4 and 5".
 pub fn whole(list: &[u8], doc: &[u8]) -> Result<(Vec<u8>, u64), Numbers> {
     let paths = list::paths(list)?;
     let mut root = document::root(doc)?;
@@ -44,7 +44,7 @@ pub fn whole(list: &[u8], doc: &[u8]) -> Result<(Vec<u8>, u64), Numbers> {
     Ok((write::cut(&root, doc), select::count(&root)))
 }
 
-/// The answer for the document alone, 4 to 8, or `None` if it is sound.
+/// The answer for the document alone, 4 to 8 or 10, or `None` if it is sound.
 pub fn judge(doc: &[u8]) -> Option<Numbers> {
     document::root(doc).err()
 }

@@ -71,12 +71,14 @@ impl<'a> Reader<'a> {
         Some(())
     }
 
-    /// `production?`: goes back to where it was if the production does not fit.
-    pub fn optional(&mut self, production: fn(&mut Reader<'a>) -> Option<()>) {
+    /// `production?`: what it finds, or nothing if it does not fit; then the place is what it was.
+    pub fn optional<T>(&mut self, production: fn(&mut Reader<'a>) -> Option<T>) -> Option<T> {
         let before = self.at;
-        if production(self).is_none() {
+        let found = production(self);
+        if found.is_none() {
             self.at = before;
         }
+        found
     }
 
     /// [3] S ::= (#x20 | #x9 | #xD | #xA)+

@@ -1,8 +1,9 @@
-//! Tests of the filter against document 01. Every expected value is worked out by hand from that page. Here are the
-//! questions that the tests ask; each of them checks every byte of the lent output.
+//! Tests of the filter against document 01 and Q-1 of document 02. Every expected value is worked out by hand from these
+//! pages. Here are the questions that the tests ask; each of them checks every byte of the lent output.
 
 mod characters;
 mod declaration;
+mod encoding;
 mod examples;
 mod limits;
 mod list_sizes;

@@ -8,7 +8,7 @@ const SAID: usize = 10;
 
 pub fn run(cases: usize, seed: u64) {
     let mut random = Random::new(seed);
-    let (mut tried, mut narrowed, mut numbers) = (0, 0, [0usize; 10]);
+    let (mut tried, mut narrowed, mut numbers) = (0, 0, [0usize; 11]);
     while tried < cases {
         let all = batch(&mut random);
         let wide = all.first().and_then(|first| Some((first, same::cut(&first.list, &first.doc)?.0)));

@@ -78,7 +78,7 @@ fn answers(folder: &str) -> Result<bool, String> {
 fn counts(folder: &str) -> Result<bool, String> {
     for name in PACKS {
         let cases = read(folder, name)?;
-        let mut by_number = [0; 10];
+        let mut by_number = [0; 11];
         for case in &cases {
             by_number[ask(case, second).0 .0 as usize] += 1;
         }

@@ -1,5 +1,5 @@
 //! Corner cases of the productions for the declaration: sound ones, then broken versions, encodings and standalones.
-//! Every broken one is 7 at the document's front.
+//! Every broken one is 7 at the document's front. Encodings of the right shape are in `encoding`.
 
 use super::{fault, sound};
 
@@ -11,8 +11,6 @@ fn sound_declarations() {
         "\n\tversion\r=\n'1.1' ",
         " version='1.00000000000000000009'",
         " version='1.0' encoding='UTF-8'",
-        " version='1.0' encoding=\"x\"",
-        " version='1.0' encoding='Shift_JIS-1.b'",
         " version='1.0' standalone='yes'",
         " version='1.0' standalone = \"no\" ",
         " version='1.0'\nencoding='utf-8'\tstandalone='no'\n",

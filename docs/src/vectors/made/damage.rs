@@ -19,6 +19,7 @@ const IN_DOCUMENTS: &[&[u8]] = &[
 const OUTSIDE: &[&str] = &[
     "<?xml version='1.0'?>", " <?xml version='1.0'?>", "<?xml version='2.0'?>", "<?xml version='1.'?>", "<?xml ?>", "<?xml?>", "<?XML a?>",
     "<?xml version='1.0' encoding='a:b'?>", "<?xml version='1.0' encoding='1'?>", "<?xml version='1.0'encoding='a'?>",
+    "\u{feff}<?xml version='1.0' encoding='UTF-8x'?>", "<?xml version='1.0' encoding='uTF-8'?>",
     "<?xml version='1.0' standalone='YES'?>", "<?xml version='1.0' standalone='yes' encoding='a'?>", "<?xml encoding='a'?>",
     "<?xml version=\"1.0' ?>", "<?xml version='1.0' a='b'?>", "\u{feff}", "\u{feff}\u{feff}", "\u{feff} ", " \u{feff}", "\u{a0}",
     "\u{85}", " \t\r\n", "x", "]]>", "&amp;", "&#32;", "<![CDATA[]]>", "<![CDATA[ ]]>", "<a/>", "<a></a>", "<a>", "</a>", "<a", "<!---->",

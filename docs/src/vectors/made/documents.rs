@@ -1,5 +1,6 @@
 // Sound documents over a few names, so that paths hit: elements inside elements to a moderate depth, and every kind of item among them.
-// With the bytes come the chains, the names from the root down to each element, for the lists to be made by.
+// Of those with a declaration one in twenty names another encoding than UTF-8, and is sound but for that. With the bytes come the chains,
+// the names from the root down to each element, for the lists to be made by.
 
 use super::random::Random;
 
@@ -30,6 +31,13 @@ const DECLARATIONS: &[&str] = &[
     "<?xml version=\"1.0\"?>",
     "<?xml version='1.10' encoding='UTF-8' ?>",
     "<?xml version=\"1.0\" standalone='yes'?>",
+    "<?xml\nversion = '1.1'\tencoding=\"utf-8\" standalone = \"no\"?>",
+];
+/// Of the right shape, but in another encoding: the whole document is refused for it.
+const OTHER_DECLARATIONS: &[&str] = &[
+    "<?xml version=\"1.0\" encoding=\"ISO-8859-1\"?>",
+    "<?xml version='1.0' encoding='UTF8' ?>",
+    "<?xml version='1.0' encoding='UTF-16' standalone='yes'?>",
     "<?xml\nversion = '1.1'\tencoding=\"x-y_1.2\" standalone = \"no\"?>",
 ];
 const BLANKS: &[&str] = &[" ", " ", " ", "  ", "\n", "\t", "\r\n"];
@@ -79,7 +87,10 @@ impl Grower<'_> {
 
     fn document(&mut self) {
         self.maybe(10, &["\u{feff}"]);
-        self.maybe(5, DECLARATIONS);
+        if self.random.one_in(5) {
+            let is_other = self.random.one_in(20);
+            self.any(if is_other { OTHER_DECLARATIONS } else { DECLARATIONS });
+        }
         self.maybe(6, &[" ", "\n"]);
         self.maybe(8, MISC);
         self.element();

@@ -1,4 +1,5 @@
-// The declaration: its parts in their order, quotes, blanks, and the shapes of its values. Where it may stand is in markup.rs (targets).
+// The declaration: its parts in their order, quotes, blanks, and the shapes of its values. Where it may stand is in markup.rs (targets);
+// which encodings it may name in encodings.rs.
 
 use super::{fault, kept, Named};
 
@@ -27,16 +28,13 @@ const SOUND: &[&str] = &[
     "  version = \"1.0\"",
     " version='1.0' encoding='UTF-8'",
     " version='1.0' encoding=\"utf-8\"",
-    " version=\"1.0\" encoding='x'",
-    " version='1.0'\nencoding\n=\n'A.b_c-1' ",
-    " version='1.0' encoding='UTF-16'",
-    " version='1.0' encoding='iso-8859-1'",
-    " version='1.0' encoding='Z0123456789._-'",
+    " version=\"1.0\" encoding='Utf-8'",
+    " version='1.0'\nencoding\n=\n'uTf-8' ",
     " version='1.0' standalone='yes'",
     " version='1.0' standalone='no'",
     " version='1.0' standalone = \"yes\" ",
     " version='1.0' encoding='UTF-8' standalone='no'",
-    " version=\"1.0\"  encoding = \"a\"\tstandalone\n=\n'yes'\n",
+    " version=\"1.0\"  encoding = \"UTF-8\"\tstandalone\n=\n'yes'\n",
 ];
 
 /// Each is no XMLDecl.

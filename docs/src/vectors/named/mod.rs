@@ -1,13 +1,15 @@
-// The cases written by hand, with what document 01 says of each, and the check that the second program says the same. The tables are in the
-// files by topic: examples.rs and readings.rs, lists.rs, characters.rs, the items (markup.rs, tags.rs, references.rs, declarations.rs),
-// places.rs, selection.rs, written.rs, limits.rs (list) and sizes.rs (document), order.rs. A case that is kept has its whole cut there, so
-// its second number is the cut's length.
+// The cases written by hand, with what documents 01 and 02 say of each, and the check that the second program says the same. The tables are
+// in the files by topic: examples.rs and readings.rs, lists.rs, characters.rs, the items (markup.rs, tags.rs, references.rs,
+// declarations.rs), places.rs, selection.rs, written.rs, limits.rs (list) and sizes.rs (document), order.rs; of document 02, encodings.rs.
+// A case that is kept has its whole cut there, so its second number is the cut's length.
 
 // Tables have one case a line.
 #[rustfmt::skip]
 mod characters;
 #[rustfmt::skip]
 mod declarations;
+#[rustfmt::skip]
+mod encodings;
 #[rustfmt::skip]
 mod examples;
 #[rustfmt::skip]
@@ -95,6 +97,7 @@ fn tables() -> Vec<Vec<Named>> {
         limits::all(),
         sizes::all(),
         order::all(),
+        encodings::all(),
     ]
 }
 

@@ -162,7 +162,8 @@ fn no_size() -> Vec<Named> {
         sound(format!("<g></g{}>", "\n".repeat(2_000))),
         sound(format!("<g>{}</g>", "<v/>".repeat(500))),
         fault(format!("<g>&{long};</g>"), 3),
-        kept("", format!("<?xml version='1.{}' encoding='{long}'?><g/>", "0".repeat(300)), "<g></g>", 0),
+        kept("", format!("<?xml version='1.{}' encoding='UTF-8'{}?><g/>", "0".repeat(300), " ".repeat(2_000)), "<g></g>", 0),
+        refused("", format!("<?xml version='1.{}' encoding='{long}'?><g/>", "0".repeat(300)), 10, 0),
         kept("//v\n", format!("<g>{}</g>", "<v/>".repeat(500)), format!("<g>{}</g>", "<v></v>".repeat(500)), 500),
     ]
 }
