@@ -19,7 +19,7 @@ use Rattle.readers.specs.Read.{spaceOf}
 use Rattle.readers.specs.Value.{valueOf}
 use Rattle.readers.specs.Named.{before, eqOf, Piece, pieceNamed, attributeOf, Gathered, gatheredBy, gather}
 use Rattle.xml.specs.Document.{Attributes, done as no-more, more as one-more}
-use Rattle.readers.specs.Meaning.{Chars}
+use Rattle.readers.specs.Meaning.{Chars, characters}
 use Rattle.readers.proofs.Combine.{then-some, chars-left}
 use Rattle.readers.proofs.Follow.{ascii, Off, off-lit, off-then, off-either, off-opt, off-space, name-off-space, space-name}
 use Rattle.readers.proofs.Follow.{space-reads, space-is, eq-takes}
@@ -117,7 +117,7 @@ attribute-sound {s} {p} d e =
     let x = space-reads (k .blank) in
     let y = piece-reads (k .named) in
     let c = chars-left Name (ascii Name refl) (k .from) to (chars-left S (ascii S refl) s (k .from) d x) y in
-    let z = eq-takes value-off-space .sound c (k .equal) in
+    let z = eq-takes {o = characters} value-off-space .sound c (k .equal) in
     record {
       from = k .from;
       to = to;
@@ -136,7 +136,7 @@ attribute-complete {s} {p} d k =
     let x : spaceOf s ≡ some (k .from) = space-is (k .blank) (name-off-space .off (k .from) (k .to) (k .named)) in
     let y : pieceNamed (k .from) ≡ some (record { name = p .name; rest = k .to })
     = piece-is (k .named) (k .name-is) (eq-off-name .off (k .to) (k .value) (k .equal)) in
-    let z : eqOf (k .to) ≡ some (k .value) = eq-takes value-off-space .complete (p .rest) c (k .equal) (k .valued) in
+    let z : eqOf (k .to) ≡ some (k .value) = eq-takes {o = characters} value-off-space .complete (p .rest) c (k .equal) (k .valued) in
     let v : valueOf (k .value) ≡ some (p .rest)
     = value-decides .complete (chars-left Eq (ascii Eq refl) (k .to) (k .value) c (k .equal)) (k .valued) in
     rw (x, y, z, v)

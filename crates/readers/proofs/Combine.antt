@@ -1,4 +1,5 @@
--- Readers put together decide productions put together. In order: a text; what is left stays characters; A B where A is a text, A | B where
+-- Readers put together decide productions put together, where only characters are left and on any bytes alike (`Rest`): a reader that
+-- needs no characters is put together of such. In order: a text; what is left stays characters; A B where A is a text, A | B where
 -- the readers never both give something; productions that read the same.
 use mathlib.Core.Path.{_≡_, refl, sym, ap, _∙_}
 use mathlib.Core.Bool.{Bool, true, false, cond, _&&_}
@@ -18,7 +19,7 @@ use Rattle.xml.proofs.Bools.{and-left, and-right}
 use Rattle.xml.proofs.Utf8.{utf8-long}
 use Rattle.xml.proofs.Character.{begins-append, begins-split, utf8-once, low-first}
 use Rattle.readers.specs.Read.{andThen, orElse, expect}
-use Rattle.readers.specs.Meaning.{Chars, Decides}
+use Rattle.readers.specs.Meaning.{Chars, Rest, characters, anything, Holds, DecidesOn}
 
 -- ---- a text
 
@@ -34,7 +35,7 @@ lit-sound w s t e = go (begins w s) refl e
     go true h k = begins-split w s h ∙ ap (λ (l : List ℕ). w ++ l) (Option·some-injective _ _ k)
     go false h k = absurd (Option·none-ne-some t k)
 
-pub lit-decides : (w : List ℕ) → Decides (lit w) (expect w)
+pub lit-decides : {o : Rest} (w : List ℕ) → DecidesOn o (lit w) (expect w)
 lit-decides w = record { sound = λ {s} {t} d e. lit-sound w s t e; complete = λ {s} {t} d e. lit-complete w s t e }
 
 -- ---- what is left stays characters: texts of rules are ASCII
@@ -80,6 +81,11 @@ chars-left (a ∗) g s t d x = go (chars-left a g) d x
     go f d (more {s = s} {m = m} r rs) = go f (f s m d r) rs
 chars-left (such a p) g s t d (w, e, h, x) = chars-left a g s t d x
 
+-- of what holds where a reader is asked
+pub rest-left : (o : Rest) (r : Rule) → Ascii r → (s t : List ℕ) → Holds o s → Reads r s t → Holds o t
+rest-left characters r g s t d x = chars-left r g s t d x
+rest-left anything r g s t d x = tt
+
 -- ---- A B
 
 -- what two readers one after the other gave, taken apart
@@ -88,20 +94,20 @@ then-some none f t e = absurd (Option·none-ne-some t e)
 then-some (some m) f t e = (m, refl, e)
 
 -- A B, where A's reader decides A
-pub seq-decides : {a b : Rule} {f g : List ℕ → Option (List ℕ)} → Ascii a → Decides a f → Decides b g
-    → Decides (a ⨾ b) (λ s. andThen (f s) g)
-seq-decides {a} {b} {f} {g} l da db =
+pub seq-decides : {o : Rest} {a b : Rule} {f g : List ℕ → Option (List ℕ)} → Ascii a → DecidesOn o a f → DecidesOn o b g
+    → DecidesOn o (a ⨾ b) (λ s. andThen (f s) g)
+seq-decides {o} {a} {b} {f} {g} l da db =
     record {
       sound = λ {s} {t} d e.
           let w = then-some (f s) g t e in
           let x = da .sound d (w .1) in
-          (w .0, x, db .sound (chars-left a l s (w .0) d x) (w .2));
-      complete = λ {s} {t} d (m, x, y). rw (da .complete d x) (db .complete (chars-left a l s m d x) y);
+          (w .0, x, db .sound (rest-left o a l s (w .0) d x) (w .2));
+      complete = λ {s} {t} d (m, x, y). rw (da .complete d x) (db .complete (rest-left o a l s m d x) y);
     }
 
 -- 'text' A
-pub lit-then : (w : List ℕ) {r : Rule} {f : List ℕ → Option (List ℕ)} → allLow w ≡ true → Decides r f
-    → Decides (lit w ⨾ r) (λ s. andThen (expect w s) f)
+pub lit-then : {o : Rest} (w : List ℕ) {r : Rule} {f : List ℕ → Option (List ℕ)} → allLow w ≡ true → DecidesOn o r f
+    → DecidesOn o (lit w ⨾ r) (λ s. andThen (expect w s) f)
 lit-then w l k = seq-decides l (lit-decides w) k
 
 -- ---- A | B
@@ -110,19 +116,19 @@ lit-then w l k = seq-decides l (lit-decides w) k
 pub record Apart (f g : List ℕ → Option (List ℕ)) : Type 0 where
   pub apart : (s t : List ℕ) → f s ≡ some t → g s ≡ none
 
-pub alt-decides : {a b : Rule} {f g : List ℕ → Option (List ℕ)} → Decides a f → Decides b g → Apart f g
-    → Decides (a ∣ b) (λ s. orElse (f s) (g s))
-alt-decides {a} {b} {f} {g} da db n =
+pub alt-decides : {o : Rest} {a b : Rule} {f g : List ℕ → Option (List ℕ)} → DecidesOn o a f → DecidesOn o b g → Apart f g
+    → DecidesOn o (a ∣ b) (λ s. orElse (f s) (g s))
+alt-decides {o} {a} {b} {f} {g} da db n =
     record {
       sound = λ {s} {t} d e. from (f s) refl d e;
       complete = λ {s} {t} d. elim [ inl r ↦ rw (da .complete d r) | inr r ↦ to (f s) refl (db .complete d r) ];
     }
   where
-    from : {s t : List ℕ} (o : Option (List ℕ)) → f s ≡ o → Chars s → orElse o (g s) ≡ some t → Reads (a ∣ b) s t
+    from : {s t : List ℕ} (k : Option (List ℕ)) → f s ≡ k → Holds o s → orElse k (g s) ≡ some t → Reads (a ∣ b) s t
     from none q d e = inr (db .sound d e)
     from (some m) q d e = inl (da .sound d (q ∙ e))
 
-    to : {s t : List ℕ} (o : Option (List ℕ)) → f s ≡ o → g s ≡ some t → orElse o (g s) ≡ some t
+    to : {s t : List ℕ} (k : Option (List ℕ)) → f s ≡ k → g s ≡ some t → orElse k (g s) ≡ some t
     to none q e = e
     to {s} {t} (some m) q e = absurd (Option·none-ne-some t (sym (n .apart s m q) ∙ e))
 
@@ -135,11 +141,12 @@ apart-sym {f} {g} p = record { apart = λ s t e. go s t (f s) refl e }
 
 -- ---- productions that read the same
 
-pub same-decides : {a b : Rule} {f : List ℕ → Option (List ℕ)} → ((s t : List ℕ) → Reads a s t → Reads b s t)
-    → ((s t : List ℕ) → Reads b s t → Reads a s t) → Decides a f → Decides b f
+pub same-decides : {o : Rest} {a b : Rule} {f : List ℕ → Option (List ℕ)} → ((s t : List ℕ) → Reads a s t → Reads b s t)
+    → ((s t : List ℕ) → Reads b s t → Reads a s t) → DecidesOn o a f → DecidesOn o b f
 same-decides to from k =
     record { sound = λ {s} {t} d e. to s t (k .sound d e); complete = λ {s} {t} d x. k .complete d (from s t x) }
 
 -- a production that a reader decides ends at one place
-pub ends-once : {r : Rule} {f : List ℕ → Option (List ℕ)} → Decides r f → {s t t′ : List ℕ} → Chars s → Reads r s t → Reads r s t′ → t ≡ t′
+pub ends-once : {r : Rule} {f : List ℕ → Option (List ℕ)} → DecidesOn characters r f → {s t t′ : List ℕ} → Chars s → Reads r s t
+    → Reads r s t′ → t ≡ t′
 ends-once k {t = t} {t′ = t′} d x y = Option·some-injective t t′ (sym (k .complete d x) ∙ k .complete d y)

@@ -1,5 +1,5 @@
 -- The declaration, [23] XMLDecl. In order: what stands in quotes; a setting, S 'word' Eq and a quoted part, and where it does not stand;
--- version, encoding and standalone; all of it.
+-- version, encoding and standalone; all of it. A declaration is ASCII throughout, so all this holds on any bytes (`Rest`).
 use mathlib.Core.Path.{_≡_, refl, sym, ap, _∙_}
 use mathlib.Core.Bool.{Bool, true, false, _||_, false≢true}
 use mathlib.Core.List.{List, [], _∷_, _++_}
@@ -12,16 +12,18 @@ use Rattle.xml.specs.Range.{Range, _to_, sign, only, inside, within}
 use Rattle.xml.specs.Utf8.{utf8}
 use Rattle.xml.specs.Notation.{Rule, Reads, Star, done, more, lit, char, text, bytes, opt, _⨾_, _∣_}
 use Rattle.xml.specs.Productions.{isSpace, S, Eq, VersionNum, VersionInfo, EncName, EncodingDecl, SDDecl, XMLDecl}
+use Rattle.xml.specs.Encoding.{EncodingBy, DeclBy}
 use Rattle.xml.specs.Character.{starts}
 use Rattle.xml.proofs.Bools.{or-either, only-equal}
 use Rattle.xml.proofs.Utf8.{utf8-low, scalar-ascii}
 use Rattle.readers.specs.Read.{andThen, expect, spaceOf}
 use Rattle.readers.specs.Value.{isDecimal}
-use Rattle.readers.specs.Named.{inQuotes, settingOf, versionOf, isLetter, isEncoding, encodingOf, yesOrNo, declarationOf}
-use Rattle.readers.specs.Meaning.{Decides}
+use Rattle.readers.specs.Named.{inQuotes, settingOf, versionOf, isLetter, isEncoding, encodingOf, yesOrNo, declarationBy}
+use Rattle.readers.specs.Named.{declarationOf}
+use Rattle.readers.specs.Meaning.{Rest, DecidesOn}
 use Rattle.readers.proofs.Combine.{then-some, lit-sound, lit-decides, lit-then, seq-decides, alt-decides, same-decides}
 use Rattle.readers.proofs.Combine.{allLow, Ascii, Apart}
-use Rattle.readers.proofs.Follow.{ascii, Off, off-lit, off-then, off-either, Takes, decides-takes, takes-then, takes-both}
+use Rattle.readers.proofs.Follow.{ascii, Off, off-lit, off-then, off-either, TakesOn, decides-takes, takes-then, takes-both, takes-opt}
 use Rattle.readers.proofs.Follow.{some-takes, led-takes, skip-then, space-then, eq-then, opt-then, space-is}
 
 -- ---- in quotes
@@ -38,8 +40,8 @@ lit-apart : (w v : List ℕ) (f g : List ℕ → Option (List ℕ)) → ((t : Li
 lit-apart w v f g n =
     record { apart = λ s t e. let (m, p, q) = then-some (expect w s) f t e in rw (ap (expect v) (lit-sound w s m p) ∙ n m) }
 
-quoted-decides : {a : Rule} {f : List ℕ → Option (List ℕ)} → Ascii a → Takes a f (text "'") → Takes a f (text "\"")
-    → Decides (Single a ∣ Double a) (inQuotes f)
+quoted-decides : {o : Rest} {a : Rule} {f : List ℕ → Option (List ℕ)} → Ascii a → TakesOn o a f (text "'") → TakesOn o a f (text "\"")
+    → DecidesOn o (Single a ∣ Double a) (inQuotes f)
 unfolding expect
 quoted-decides l k n =
     alt-decides (lit-then (bytes "'") refl (takes-then l k (lit-decides (bytes "'"))))
@@ -57,8 +59,8 @@ swap a b s t (inr x) = inl x
 
 -- ---- a setting
 
-setting-decides : {q : Rule} (f : List ℕ → Option (List ℕ)) (w : List ℕ) → allLow w ≡ true → Off isSpace (lit w) → Off isSpace q
-    → Decides q (inQuotes f) → Decides (S ⨾ lit w ⨾ Eq ⨾ q) (settingOf w f)
+setting-decides : {o : Rest} {q : Rule} (f : List ℕ → Option (List ℕ)) (w : List ℕ) → allLow w ≡ true → Off isSpace (lit w) → Off isSpace q
+    → DecidesOn o q (inQuotes f) → DecidesOn o (S ⨾ lit w ⨾ Eq ⨾ q) (settingOf w f)
 setting-decides f w l n o k = space-then (lit-then w l (eq-then k o)) (off-then n)
 
 -- where there is no white space, or something else after it, the setting does not stand
@@ -70,11 +72,11 @@ setting-none w f (inr x) n h = rw (space-is x n, h)
 
 -- ---- version, encoding, standalone
 
-version-takes : {b : Rule} → Off isDecimal b → Takes VersionNum versionOf b
+version-takes : {o : Rest} {b : Rule} → Off isDecimal b → TakesOn o VersionNum versionOf b
 unfolding versionOf isDecimal
 version-takes n = takes-both refl (decides-takes (lit-decides (bytes "1."))) (some-takes n)
 
-version-decides : Decides VersionInfo (settingOf (bytes "version") versionOf)
+pub version-decides : {o : Rest} → DecidesOn o VersionInfo (settingOf (bytes "version") versionOf)
 unfolding isSpace isDecimal
 version-decides =
     setting-decides versionOf (bytes "version") refl (off-lit _ _ (lit< tt) refl) (quoted-off VersionNum)
@@ -126,30 +128,40 @@ letter-encoding : (c : ℕ) → isLetter c ≡ true → isEncoding c ≡ true
 unfolding isLetter isEncoding
 letter-encoding c h = within-more ("A" to "Z" ∷ "a" to "z" ∷ []) ("0" to "9" ∷ sign "." ∷ sign "_" ∷ sign "-" ∷ []) c h
 
-encoding-takes : {b : Rule} → Off isEncoding b → Takes EncName encodingOf b
+pub encoding-takes : {o : Rest} {b : Rule} → Off isEncoding b → TakesOn o EncName encodingOf b
 unfolding encodingOf isLetter
-encoding-takes n =
-    let k = led-takes isLetter isEncoding letter-encoding n in
+encoding-takes {o} n =
+    let k = led-takes isLetter isEncoding letter-encoding {o = o} n in
     record {
       sound = λ {s} {m} d e. let (i, x, y) = k .sound d e in (i, x, star-map encoding-dash y);
       complete = λ {s} {m} t d (i, x, y) z. k .complete t d (i, x, star-map dash-encoding y) z;
     }
 
-encoding-decides : Decides EncodingDecl (settingOf (bytes "encoding") encodingOf)
-unfolding isSpace isEncoding
-encoding-decides =
-    setting-decides encodingOf (bytes "encoding") refl (off-lit _ _ (lit< tt) refl)
-    (off-either (off-then (off-lit _ _ (lit< tt) refl)) (off-then (off-lit _ _ (lit< tt) refl)))
-    (same-decides (swap (Single EncName) (Double EncName)) (swap (Double EncName) (Single EncName))
-    (quoted-decides (ascii EncName refl) (encoding-takes (off-lit _ _ (lit< tt) refl)) (encoding-takes (off-lit _ _ (lit< tt) refl))))
+-- [80] by what stands as the name
+pub quotes-off : (n : Rule) → Off isSpace (Double n ∣ Single n)
+unfolding isSpace
+quotes-off n = off-either (off-then (off-lit _ _ (lit< tt) refl)) (off-then (off-lit _ _ (lit< tt) refl))
 
-yes-decides : Decides (text "yes" ∣ text "no") yesOrNo
+pub named-decides : {o : Rest} {n : Rule} (f : List ℕ → Option (List ℕ)) → Ascii n → TakesOn o n f (text "'") → TakesOn o n f (text "\"")
+    → DecidesOn o (EncodingBy n) (settingOf (bytes "encoding") f)
+unfolding isSpace
+named-decides {n = n} f l k i =
+    setting-decides f (bytes "encoding") refl (off-lit _ _ (lit< tt) refl) (quotes-off n)
+    (same-decides (swap (Single n) (Double n)) (swap (Double n) (Single n)) (quoted-decides l k i))
+
+encoding-decides : {o : Rest} → DecidesOn o EncodingDecl (settingOf (bytes "encoding") encodingOf)
+unfolding isEncoding
+encoding-decides =
+    named-decides encodingOf (ascii EncName refl) (encoding-takes (off-lit _ _ (lit< tt) refl))
+    (encoding-takes (off-lit _ _ (lit< tt) refl))
+
+yes-decides : {o : Rest} → DecidesOn o (text "yes" ∣ text "no") yesOrNo
 unfolding yesOrNo expect
 yes-decides =
     alt-decides (lit-decides (bytes "yes")) (lit-decides (bytes "no"))
     (record { apart = λ s t e. ap (expect (bytes "no")) (lit-sound (bytes "yes") s t e) })
 
-standalone-decides : Decides SDDecl (settingOf (bytes "standalone") yesOrNo)
+standalone-decides : {o : Rest} → DecidesOn o SDDecl (settingOf (bytes "standalone") yesOrNo)
 unfolding isSpace
 standalone-decides =
     setting-decides yesOrNo (bytes "standalone") refl (off-lit _ _ (lit< tt) refl) (quoted-off (text "yes" ∣ text "no"))
@@ -164,20 +176,30 @@ unfolding isSpace
 end-none w f n s t (m, x, e) =
     setting-none w f x (off-lit {p = isSpace} 0x3F (bytes ">") (lit< tt) refl .off m t e) (ap (expect w) e ∙ n t)
 
+-- what follows the encoding
+abbrev pub Ending : Rule
+Ending = opt SDDecl ⨾ opt S ⨾ text "?>"
+
 -- no encoding stands at `standalone`, or at the end
-encoding-none : (s t : List ℕ) → Reads (opt SDDecl ⨾ opt S ⨾ text "?>") s t → settingOf (bytes "encoding") encodingOf s ≡ none
+pub encoding-none : (f : List ℕ → Option (List ℕ)) (s t : List ℕ) → Reads Ending s t → settingOf (bytes "encoding") f s ≡ none
 unfolding isSpace expect
-encoding-none s t (m, inl e, y) = rw e (end-none (bytes "encoding") encodingOf (λ u. refl) m t y)
-encoding-none s t (m, inr (i, x, (j, e, z)), y) =
-    setting-none (bytes "encoding") encodingOf (inr x) (off-lit {p = isSpace} 0x73 (bytes "tandalone") (lit< tt) refl .off i j e)
+encoding-none f s t (m, inl e, y) = rw e (end-none (bytes "encoding") f (λ u. refl) m t y)
+encoding-none f s t (m, inr (i, x, (j, e, z)), y) =
+    setting-none (bytes "encoding") f (inr x) (off-lit {p = isSpace} 0x73 (bytes "tandalone") (lit< tt) refl .off i j e)
     (ap (expect (bytes "encoding")) e)
 
-pub declaration-decides : Decides XMLDecl declarationOf
-unfolding declarationOf isSpace expect
-declaration-decides =
+-- [23] by what stands as the encoding
+pub declared-decides : {o : Rest} {e : Rule} {f : List ℕ → Option (List ℕ)} → Ascii e → TakesOn o e f Ending
+    → DecidesOn o (DeclBy e) (declarationBy f)
+unfolding isSpace expect
+declared-decides l k =
     lit-then (bytes "<?xml") refl
     (seq-decides (ascii VersionInfo refl) version-decides
-    (opt-then
+    (takes-then l k
     (opt-then (skip-then (lit-decides (bytes "?>")) (off-lit _ _ (lit< tt) refl)) (ascii SDDecl refl) standalone-decides
-    (end-none (bytes "standalone") yesOrNo (λ u. refl)))
-    (ascii EncodingDecl refl) encoding-decides encoding-none))
+    (end-none (bytes "standalone") yesOrNo (λ u. refl)))))
+
+pub declaration-decides : {o : Rest} → DecidesOn o XMLDecl declarationOf
+unfolding declarationOf
+declaration-decides =
+    declared-decides (ascii (opt EncodingDecl) refl) (takes-opt (decides-takes encoding-decides) (encoding-none encodingOf))

@@ -1,6 +1,6 @@
 -- Worked examples of the readers of items with names, each table under one statement that antt computes: texts, and beside them what the
--- Recommendation says that is read. In order: how the tables are written; instructions, [16]; declarations, [23]; end tags, [42]; tags,
--- [40] and [44]; repeated names and sizes.
+-- Recommendation says that is read. In order: how the tables are written; instructions, [16]; declarations, [23], and those that name
+-- another encoding; end tags, [42]; tags, [40] and [44]; repeated names and sizes.
 use mathlib.Core.Path.{_≡_, refl}
 use mathlib.Core.Bool.{Bool, true, false}
 use mathlib.Core.List.{List, [], _∷_, _++_, map}
@@ -8,6 +8,7 @@ use mathlib.Core.Option.{Option, none, some}
 use Prim.Native.Nat.{ℕ, zero, suc}
 use Prim.Native.String.{String}
 use Rattle.xml.specs.Utf8.{utf8, isScalar}
+use Rattle.xml.specs.Notation.{bytes}
 use Rattle.xml.specs.Judged.{written}
 use Rattle.xml.specs.Productions.{isChar, isSpace, isNameStart, isNameMore, isName, digitOf}
 use Rattle.xml.specs.Character.{valueOf as number, guess, character, starts, run}
@@ -18,7 +19,7 @@ use Rattle.readers.specs.Plain.{isMark}
 use Rattle.readers.specs.Value.{isDecimal, isHexadecimal, endsNumber, digitsOf, charRefOf, entityRefOf, referenceOf}
 use Rattle.readers.specs.Value.{pieceOf, quotedOf, valueOf}
 use Rattle.readers.specs.Named.{before, targetOf, instructionEnd, instructionOf, eqOf, versionOf, isLetter, isEncoding, encodingOf}
-use Rattle.readers.specs.Named.{yesOrNo, declarationOf, Piece, pieceNamed, attributeOf, gather, Tag, tagOf, endTagOf}
+use Rattle.readers.specs.Named.{yesOrNo, declarationOf, otherOf, otherEncoding, Piece, pieceNamed, attributeOf, gather, Tag, tagOf, endTagOf}
 use Rattle.readers.specs.Named.{smallTag, repeated}
 
 -- ---- how the tables are written
@@ -91,6 +92,33 @@ pub declarations-computed : read declarationOf declarations ≡ expected declara
 unfolding declarations written utf8 isScalar declarationOf versionOf encodingOf yesOrNo eqOf spaceOf skip expect starts run character guess
     number isSpace isDecimal isLetter isEncoding
 declarations-computed = refl
+
+-- ---- another encoding
+
+abbrev pub named : List String → List String → List (Row Bool)
+named [] [] = []
+named [] (s ∷ ss) = (written s at 0 gives false) ∷ named [] ss
+named (s ∷ ss) us = (written s at 0 gives true) ∷ (written s ++ 0xE9 ∷ 0xFF ∷ [] at 0 gives true) ∷ named ss us
+
+-- those that name one, each also with bytes behind it that are not UTF-8; and those that do not, by their encoding or by their shape
+pub encodings : List (Row Bool)
+encodings =
+    (bytes "<?xml version='1.0' encoding='a" ++ 0xE9 ∷ bytes "'?>" at 0 gives false)
+    ∷ named
+    ("<?xml version='1.0' encoding='ISO-8859-1'?>" ∷ "<?xml version=\"1.0\" encoding=\"ISO-8859-1\"?>"
+    ∷ "<?xml version='1.1' encoding = 'UTF-16' standalone='yes' ?><g/>" ∷ "<?xml version='1.0' encoding='UTF8'?>"
+    ∷ "<?xml version='1.0' encoding='UTF'?>" ∷ "<?xml version='1.0' encoding='UTF-8x'?>" ∷ "<?xml version='1.0' encoding='UTF-16'?><"
+    ∷ "<?xml version='1.0' encoding='US-ASCII'?>" ∷ "<?xml version='1.0' encoding='u'?>" ∷ [])
+    ("" ∷ "<g/>" ∷ "<?xml version='1.0'?>" ∷ "<?xml version='1.0' standalone='no'?>" ∷ "<?xml version='1.0' encoding='UTF-8'?>"
+    ∷ "<?xml version=\"1.0\" encoding=\"utf-8\"?>" ∷ "<?xml version='1.0' encoding='uTf-8' standalone='yes'?>"
+    ∷ "<?xml encoding='ISO-8859-1'?>" ∷ "<?xml version='1.0' encoding='ISO-8859-1'" ∷ "<?xml version='1.0' encoding='ISO-8859-1\"?>"
+    ∷ "<?xml version='1.0' encoding='8859-1'?>" ∷ "<?xml version='1.0' encoding=''?>"
+    ∷ "<?xml version='1.0' standalone='yes' encoding='ISO-8859-1'?>" ∷ " <?xml version='1.0' encoding='ISO-8859-1'?>" ∷ [])
+
+pub encodings-computed : read otherEncoding encodings ≡ expected encodings
+unfolding encodings written utf8 isScalar otherEncoding otherOf before versionOf encodingOf yesOrNo eqOf skip spaceOf expect isDecimal
+    isLetter isEncoding isSpace starts run character guess number
+encodings-computed = refl
 
 -- ---- end tags
 

@@ -21,8 +21,8 @@ use Rattle.chars.specs.Name.{nameOf}
 use Rattle.chars.proofs.Meaning.{name-found, name-is}
 use Rattle.readers.specs.Read.{andThen, orStay, skip, spaceOf}
 use Rattle.readers.specs.Named.{eqOf, someRun}
-use Rattle.readers.specs.Meaning.{Chars, Decides}
-use Rattle.readers.proofs.Combine.{then-some, lit-decides, allLow, Ascii, chars-left}
+use Rattle.readers.specs.Meaning.{Rest, characters, Holds, DecidesOn}
+use Rattle.readers.proofs.Combine.{then-some, lit-decides, allLow, Ascii, rest-left}
 
 -- ---- that a rule's texts are ASCII, by computing
 
@@ -126,47 +126,50 @@ name-off-space = off-then (off-char start-space)
 
 -- ---- a reader that takes A off where B follows
 
-pub record Takes (a : Rule) (f : List ℕ → Option (List ℕ)) (b : Rule) : Type 0 where
-  pub sound : {s m : List ℕ} → Chars s → f s ≡ some m → Reads a s m
-  pub complete : {s m : List ℕ} (t : List ℕ) → Chars s → Reads a s m → Reads b m t → f s ≡ some m
+pub record TakesOn (o : Rest) (a : Rule) (f : List ℕ → Option (List ℕ)) (b : Rule) : Type 0 where
+  pub sound : {s m : List ℕ} → Holds o s → f s ≡ some m → Reads a s m
+  pub complete : {s m : List ℕ} (t : List ℕ) → Holds o s → Reads a s m → Reads b m t → f s ≡ some m
 
-pub decides-takes : {a b : Rule} {f : List ℕ → Option (List ℕ)} → Decides a f → Takes a f b
+abbrev pub Takes : Rule → (List ℕ → Option (List ℕ)) → Rule → Type 0
+Takes = TakesOn characters
+
+pub decides-takes : {o : Rest} {a b : Rule} {f : List ℕ → Option (List ℕ)} → DecidesOn o a f → TakesOn o a f b
 decides-takes k = record { sound = λ {s} {m} d e. k .sound d e; complete = λ {s} {m} t d x y. k .complete d x }
 
 -- A B
-pub takes-then : {a b : Rule} {f g : List ℕ → Option (List ℕ)} → Ascii a → Takes a f b → Decides b g
-    → Decides (a ⨾ b) (λ s. andThen (f s) g)
-takes-then {a} {b} {f} {g} l k n =
+pub takes-then : {o : Rest} {a b : Rule} {f g : List ℕ → Option (List ℕ)} → Ascii a → TakesOn o a f b → DecidesOn o b g
+    → DecidesOn o (a ⨾ b) (λ s. andThen (f s) g)
+takes-then {o} {a} {b} {f} {g} l k n =
     record {
       sound = λ {s} {t} d e.
           let (m, p, q) = then-some (f s) g t e in
           let x = k .sound d p in
-          (m, x, n .sound (chars-left a l s m d x) q);
-      complete = λ {s} {t} d (m, x, y). rw (k .complete t d x y) (n .complete (chars-left a l s m d x) y);
+          (m, x, n .sound (rest-left o a l s m d x) q);
+      complete = λ {s} {t} d (m, x, y). rw (k .complete t d x y) (n .complete (rest-left o a l s m d x) y);
     }
 
 -- A B, where C follows
-pub takes-both : {a b c : Rule} {f g : List ℕ → Option (List ℕ)} → Ascii a → Takes a f (b ⨾ c) → Takes b g c
-    → Takes (a ⨾ b) (λ s. andThen (f s) g) c
-takes-both {a} {b} {c} {f} {g} l k n =
+pub takes-both : {o : Rest} {a b c : Rule} {f g : List ℕ → Option (List ℕ)} → Ascii a → TakesOn o a f (b ⨾ c) → TakesOn o b g c
+    → TakesOn o (a ⨾ b) (λ s. andThen (f s) g) c
+takes-both {o} {a} {b} {c} {f} {g} l k n =
     record {
       sound = λ {s} {m} d e.
           let (i, p, q) = then-some (f s) g m e in
           let x = k .sound d p in
-          (i, x, n .sound (chars-left a l s i d x) q);
-      complete = λ {s} {m} t d (i, x, y) z. rw (k .complete t d x (m, y, z)) (n .complete t (chars-left a l s i d x) y z);
+          (i, x, n .sound (rest-left o a l s i d x) q);
+      complete = λ {s} {m} t d (i, x, y) z. rw (k .complete t d x (m, y, z)) (n .complete t (rest-left o a l s i d x) y z);
     }
 
 -- A? where B follows, and A's reader gives nothing where B stands
-pub takes-opt : {a b : Rule} {f : List ℕ → Option (List ℕ)} → Takes a f b → ((s t : List ℕ) → Reads b s t → f s ≡ none)
-    → Takes (opt a) (λ s. some (orStay (f s) s)) b
-takes-opt {a} {b} {f} k n =
+pub takes-opt : {o : Rest} {a b : Rule} {f : List ℕ → Option (List ℕ)} → TakesOn o a f b → ((s t : List ℕ) → Reads b s t → f s ≡ none)
+    → TakesOn o (opt a) (λ s. some (orStay (f s) s)) b
+takes-opt {o} {a} {b} {f} k n =
     record {
       sound = λ {s} {m} d e. from (f s) refl d (Option·some-injective _ _ e);
       complete = λ {s} {m} t d. elim [ inl e ↦ (λ y. to (n s t (rw e y)) e) | inr x ↦ (λ y. rw (k .complete t d x y)) ];
     }
   where
-    from : {s m : List ℕ} (o : Option (List ℕ)) → f s ≡ o → Chars s → orStay o s ≡ m → Reads (opt a) s m
+    from : {s m : List ℕ} (p : Option (List ℕ)) → f s ≡ p → Holds o s → orStay p s ≡ m → Reads (opt a) s m
     from none q d e = inl e
     from (some t) q d e = inr (k .sound d (q ∙ ap some e))
 
@@ -196,12 +199,12 @@ module _ (p q : ℕ → Bool) (part : (c : ℕ) → p c ≡ true → q c ≡ tru
   led-is : {s t : List ℕ} → Reads (char p ⨾ char q ∗) s t → starts q t ≡ false → ledBy s ≡ some t
   led-is {s} {t} (m, x, y) n = rw (reads-starts p s m x) (ap some (run-only q (more (widen s m x) y) n))
 
-  pub led-takes : {b : Rule} → Off q b → Takes (char p ⨾ char q ∗) (λ s. cond (starts p s) (some (run q 0 s)) none) b
+  pub led-takes : {o : Rest} {b : Rule} → Off q b → TakesOn o (char p ⨾ char q ∗) (λ s. cond (starts p s) (some (run q 0 s)) none) b
   led-takes n =
       record { sound = λ {s} {m} d e. led-reads e; complete = λ {s} {m} t d x y. led-is x (n .off m t y) }
 
-pub some-takes : {p : ℕ → Bool} {b : Rule} → Off p b → Takes (plus (char p)) (someRun p) b
-some-takes {p} n = led-takes p p (λ c h. h) n
+pub some-takes : {o : Rest} {p : ℕ → Bool} {b : Rule} → Off p b → TakesOn o (plus (char p)) (someRun p) b
+some-takes {o} {p} n = led-takes p p (λ c h. h) n
 
 -- ---- white space, names, Eq
 
@@ -230,23 +233,23 @@ pub space-is : {s t : List ℕ} → Reads S s t → starts isSpace t ≡ false �
 unfolding spaceOf skip
 space-is x n = led-is isSpace isSpace (λ c h. h) x n
 
-module _ {b : Rule} where
-  pub skip-takes : Off isSpace b → Takes (opt S) (λ s. some (skip s)) b
+module _ {o : Rest} {b : Rule} where
+  pub skip-takes : Off isSpace b → TakesOn o (opt S) (λ s. some (skip s)) b
   skip-takes n =
       record {
         sound = λ {s} {m} d e. rw (← Option·some-injective _ _ e) (skip-reads s);
         complete = λ {s} {m} t d x y. ap some (skip-is x (n .off m t y));
       }
 
-  pub space-takes : Off isSpace b → Takes S spaceOf b
+  pub space-takes : Off isSpace b → TakesOn o S spaceOf b
   space-takes n =
       record { sound = λ {s} {m} d e. space-reads e; complete = λ {s} {m} t d x y. space-is x (n .off m t y) }
 
-  pub name-takes : Off isName b → Takes Name nameOf b
+  pub name-takes : Off isName b → TakesOn o Name nameOf b
   name-takes n =
       record { sound = λ {s} {m} d e. name-found s m e .0; complete = λ {s} {m} t d x y. name-is s m x (n .off m t y) }
 
-pub eq-takes : {b : Rule} → Off isSpace b → Takes Eq eqOf b
+pub eq-takes : {o : Rest} {b : Rule} → Off isSpace b → TakesOn o Eq eqOf b
 unfolding eqOf isSpace
 eq-takes n =
     takes-both (ascii (opt S) refl)
@@ -255,16 +258,16 @@ eq-takes n =
 
 -- ---- S? B, S B, Eq B and A? B
 
-module _ {b : Rule} {g : List ℕ → Option (List ℕ)} (k : Decides b g) where
-  pub skip-then : Off isSpace b → Decides (opt S ⨾ b) (λ s. g (skip s))
+module _ {o : Rest} {b : Rule} {g : List ℕ → Option (List ℕ)} (k : DecidesOn o b g) where
+  pub skip-then : Off isSpace b → DecidesOn o (opt S ⨾ b) (λ s. g (skip s))
   skip-then n = takes-then (ascii (opt S) refl) (skip-takes n) k
 
-  pub space-then : Off isSpace b → Decides (S ⨾ b) (λ s. andThen (spaceOf s) g)
+  pub space-then : Off isSpace b → DecidesOn o (S ⨾ b) (λ s. andThen (spaceOf s) g)
   space-then n = takes-then (ascii S refl) (space-takes n) k
 
-  pub eq-then : Off isSpace b → Decides (Eq ⨾ b) (λ s. andThen (eqOf s) g)
+  pub eq-then : Off isSpace b → DecidesOn o (Eq ⨾ b) (λ s. andThen (eqOf s) g)
   eq-then n = takes-then (ascii Eq refl) (eq-takes n) k
 
-  pub opt-then : {a : Rule} {f : List ℕ → Option (List ℕ)} → Ascii a → Decides a f → ((s t : List ℕ) → Reads b s t → f s ≡ none)
-      → Decides (opt a ⨾ b) (λ s. g (orStay (f s) s))
+  pub opt-then : {a : Rule} {f : List ℕ → Option (List ℕ)} → Ascii a → DecidesOn o a f → ((s t : List ℕ) → Reads b s t → f s ≡ none)
+      → DecidesOn o (opt a ⨾ b) (λ s. g (orStay (f s) s))
   opt-then l i n = takes-then (refl, l) (takes-opt (decides-takes i) n) k

@@ -19,7 +19,7 @@ use Rattle.xml.proofs.Language.{reads-suffix}
 use Rattle.chars.specs.Name.{nameOf}
 use Rattle.readers.specs.Read.{expect, seek}
 use Rattle.readers.specs.Named.{before, isXml, targetOf, instructionEnd, instructionOf}
-use Rattle.readers.specs.Meaning.{Chars, Decides}
+use Rattle.readers.specs.Meaning.{Chars, characters, Decides}
 use Rattle.readers.proofs.Combine.{then-some, lit-decides, lit-then, lit-sound, alt-decides, same-decides, Apart}
 use Rattle.readers.proofs.Combine.{chars-char, chars-left}
 use Rattle.readers.proofs.Follow.{ascii, Off, off-lit, off-opt, off-then, off-space, space-none, space-low, space-name}
@@ -30,11 +30,11 @@ use Rattle.readers.proofs.Plain.{UpTo, uptoOf, upto-decides}
 -- ---- `xml` in any case
 
 -- one of two letters
-either-byte : (a b : ℕ) (s t : List ℕ) → Reads (lit (a ∷ []) ∣ lit (b ∷ [])) s t → (c : ℕ) × (s ≡ c ∷ t) × (among (a ∷ b ∷ []) c ≡ true)
+pub either-byte : (a b : ℕ) (s t : List ℕ) → Reads (lit (a ∷ []) ∣ lit (b ∷ [])) s t → (c : ℕ) × (s ≡ c ∷ t) × (among (a ∷ b ∷ []) c ≡ true)
 either-byte a b s t (inl e) = (a, e, or-left (eqb a a) _ (eq-eqb a a refl))
 either-byte a b s t (inr e) = (b, e, or-right (eqb b a) _ (or-left (eqb b b) _ (eq-eqb b b refl)))
 
-byte-either : (a b c : ℕ) (t : List ℕ) → among (a ∷ b ∷ []) c ≡ true → Reads (lit (a ∷ []) ∣ lit (b ∷ [])) (c ∷ t) t
+pub byte-either : (a b c : ℕ) (t : List ℕ) → among (a ∷ b ∷ []) c ≡ true → Reads (lit (a ∷ []) ∣ lit (b ∷ [])) (c ∷ t) t
 byte-either a b c t h = go (or-either (eqb c a) _ h)
   where
     last : (eqb c b ≡ true) ⊎ (false ≡ true) → Reads (lit (a ∷ []) ∣ lit (b ∷ [])) (c ∷ t) t
@@ -82,10 +82,10 @@ target-takes {b} n =
       sound = λ {s} {m} d e.
           let (i, p, q) = then-some (nameOf s) (λ t. cond (isXml (before s t)) none (some t)) m e in
           let (h, k) = kept i m (isXml (before s i)) q in
-          rw (← k) (name-takes n .sound d p, λ x. true-false (reads-xml s i x) h);
+          rw (← k) (name-takes {o = characters} n .sound d p, λ x. true-false (reads-xml s i x) h);
       complete = λ {s} {m} t d (x, y) z.
           let (w, e) = reads-suffix Name s m x in
-          rw (name-takes n .complete t d x z, before-is w m e, other w (isXml w) refl (λ h. y (rw e (xml-reads w m h))));
+          rw (name-takes {o = characters} n .complete t d x z, before-is w m e, other w (isXml w) refl (λ h. y (rw e (xml-reads w m h))));
     }
   where
     kept : (i m : List ℕ) (x : Bool) → cond x none (some i) ≡ some m → (x ≡ false) × (i ≡ m)

@@ -1,5 +1,5 @@
--- What a reader says in the grammar's words: it decides a production, both ways, wherever only characters are left. In order: a reader
--- that decides; text; what an end tag and a tag hold. proofs/ shows it for each reader.
+-- What a reader says in the grammar's words: it decides a production, both ways, wherever only characters are left; those of the
+-- declaration on any bytes. In order: a reader that decides; text; what an end tag and a tag hold. proofs/ shows it for each reader.
 use mathlib.Core.Path.{_≡_}
 use mathlib.Core.Bool.{Bool, true, false}
 use mathlib.Core.List.{List, [], _++_}
@@ -15,9 +15,20 @@ use Rattle.readers.specs.Named.{Piece, Tag}
 abbrev pub Chars : List ℕ → Type 0
 Chars s = Star (Reads Char) s []
 
-pub record Decides (r : Rule) (f : List ℕ → Option (List ℕ)) : Type 0 where
-  pub sound : {s t : List ℕ} → Chars s → f s ≡ some t → Reads r s t
-  pub complete : {s t : List ℕ} → Chars s → Reads r s t → f s ≡ some t
+-- where a reader is asked: where only characters are left, or anywhere, on bytes that nobody has looked at
+pub data Rest : Type 0 where
+  characters anything : Rest
+
+abbrev pub Holds : Rest → List ℕ → Type 0
+Holds characters s = Chars s
+Holds anything s = Unit {0}
+
+pub record DecidesOn (o : Rest) (r : Rule) (f : List ℕ → Option (List ℕ)) : Type 0 where
+  pub sound : {s t : List ℕ} → Holds o s → f s ≡ some t → Reads r s t
+  pub complete : {s t : List ℕ} → Holds o s → Reads r s t → f s ≡ some t
+
+abbrev pub Decides : Rule → (List ℕ → Option (List ℕ)) → Type 0
+Decides = DecidesOn characters
 
 -- text goes up to the next `<`, `&` or the end
 pub record TextIs (s t : List ℕ) : Type 0 where

@@ -1,17 +1,18 @@
--- Items with names: [16] PI, [23] XMLDecl, [42] ETag, [40] STag and [44] EmptyElemTag, and what a tag holds.
+-- Items with names: [16] PI, [23] XMLDecl, and whether it names another encoding than UTF-8, [42] ETag, [40] STag and [44] EmptyElemTag,
+-- and what a tag holds.
 -- Attributes are gathered with their names.
 use mathlib.Core.Bool.{Bool, true, false, cond, _&&_, _||_}
 use mathlib.Core.List.{List, [], _∷_}
 use mathlib.Core.Option.{Option, none, some}
 use Prim.Native.Nat.{ℕ, zero, suc, _-_}
-use lib.Dec.{leb}
+use lib.Dec.{eqb, leb}
 use lib.ListN.{length, take}
 use Rattle.xml.specs.Range.{_to_, sign, within}
 use Rattle.xml.specs.Notation.{bytes, among}
 use Rattle.xml.specs.Character.{starts, run}
 use Rattle.xml.specs.Productions.{isSpace, same}
 use Rattle.chars.specs.Name.{nameOf}
-use Rattle.readers.specs.Read.{andThen, orElse, orStay, expect, seek, skip, spaceOf}
+use Rattle.readers.specs.Read.{andThen, orElse, orStay, expect, seek, skip, spaceOf, given}
 use Rattle.readers.specs.Value.{isDecimal, valueOf}
 
 -- what stands in s before t
@@ -75,11 +76,35 @@ encodingOf s = cond (starts isLetter s) (some (run isEncoding 0 s)) none
 unfoldable pub yesOrNo : List ℕ → Option (List ℕ)
 yesOrNo s = orElse (expect (bytes "yes") s) (expect (bytes "no") s)
 
+-- [23] with f for what stands as the encoding
+abbrev pub declarationBy : (List ℕ → Option (List ℕ)) → List ℕ → Option (List ℕ)
+declarationBy f s =
+    andThen (expect (bytes "<?xml") s) (λ t. andThen (settingOf (bytes "version") versionOf t) (λ u. andThen (f u) (λ v.
+    expect (bytes "?>") (skip (orStay (settingOf (bytes "standalone") yesOrNo v) v)))))
+
 unfoldable pub declarationOf : List ℕ → Option (List ℕ)
-declarationOf s =
-    andThen (expect (bytes "<?xml") s) (λ t. andThen (settingOf (bytes "version") versionOf t) (λ u.
-    let v = orStay (settingOf (bytes "encoding") encodingOf u) u in
-    expect (bytes "?>") (skip (orStay (settingOf (bytes "standalone") yesOrNo v) v))))
+declarationOf = declarationBy (λ u. some (orStay (settingOf (bytes "encoding") encodingOf u) u))
+
+-- ---- another encoding
+
+-- `UTF-8` in any case
+abbrev pub isUtf8 : List ℕ → Bool
+isUtf8 [] = false
+isUtf8 (u ∷ []) = false
+isUtf8 (u ∷ t ∷ []) = false
+isUtf8 (u ∷ t ∷ f ∷ []) = false
+isUtf8 (u ∷ t ∷ f ∷ h ∷ []) = false
+isUtf8 (u ∷ t ∷ f ∷ h ∷ e ∷ []) =
+    among (bytes "Uu") u && (among (bytes "Tt") t && (among (bytes "Ff") f && (eqb h 0x2D && eqb e 0x38)))
+isUtf8 (u ∷ t ∷ f ∷ h ∷ e ∷ b ∷ w) = false
+
+-- an EncName that is not `UTF-8`
+unfoldable pub otherOf : List ℕ → Option (List ℕ)
+otherOf s = andThen (encodingOf s) (λ t. cond (isUtf8 (before s t)) none (some t))
+
+-- a declaration stands at the front, and names another encoding
+unfoldable pub otherEncoding : List ℕ → Bool
+otherEncoding s = given (declarationBy (settingOf (bytes "encoding") otherOf) s)
 
 -- ---- tags
 
