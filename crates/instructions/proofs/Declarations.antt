@@ -1,37 +1,39 @@
 -- [23] XMLDecl. In order: the classes of characters and the loop over a run of one; what stands in the quotes of each part; quotes; a part;
--- the declaration. Each law about a function is one way through its code: what the code answers there is what the reader leaves.
-use mathlib.Core.Path.{_≡_, refl, sym, _∙_}
-use mathlib.Core.Bool.{Bool, true, false, not, _&&_, _||_, or-assoc, or-false, and-false, true≢false}
+-- what stands before the encoding and behind it; the declaration; another encoding. Each law about a function is one way through its code: what the code answers there is what the reader leaves.
+use mathlib.Core.Path.{_≡_, refl, sym, ap, _∙_}
+use mathlib.Core.Bool.{Bool, true, false, cond, not, _&&_, _||_, or-assoc, or-false, and-assoc, and-false, true≢false}
 use mathlib.Core.List.{List, [], _∷_}
 use mathlib.Core.Option.{Option, none, some}
-use Prim.Native.Nat.{ℕ, _+_, _≤_, _<_}
+use Prim.Native.Nat.{ℕ, _+_, _-_, _≤_, _<_}
 use native.Mathlib.Omega.{arith}
 use borrow.Author.Needs.{needs}
 use borrow.Author.Tests.{ltb-true, lt-leb, eqb-true, eqb-false, not-true, not-false}
 use lib.Dec.{eqb, leb, ltb}
-use lib.ListN.{length, getD, drop}
+use lib.ListN.{length, getD, take, drop, length-drop}
+use lib.Seq.{length-take-le}
 use Rattle.xml.specs.Range.{Range, _to_, sign, within}
-use Rattle.xml.specs.Notation.{bytes}
+use Rattle.xml.specs.Notation.{bytes, among}
 use Rattle.xml.specs.Character.{begins, starts, run}
 use Rattle.xml.proofs.Bools.{and-left, and-right, only-equal}
 use Rattle.xml.proofs.Run.{starts-nil}
 use Rattle.utf8.specs.Place.{Stands}
-use Rattle.utf8.proofs.Place.{drop-end}
+use Rattle.utf8.proofs.Place.{drop-step, drop-end}
 use Rattle.chars.specs.Space.{spaceEnd}
 use Rattle.chars.specs.Name.{readingAt}
 use Rattle.chars.specs.declared.name.Reading.{Reading}
 use Rattle.chars.specs.declared.name.Reading.the-variants.{Ends, Fault}
 use Rattle.chars.proofs.Runs.{Running, run-start, run-stands, run-whole, run-on, Ascii, starts-byte, byte-wide}
-use Rattle.readers.specs.Read.{andThen, orElse, orStay, expect, skip, spaceOf}
+use Rattle.readers.specs.Read.{andThen, orElse, orStay, expect, skip, spaceOf, given}
 use Rattle.readers.specs.Value.{isDecimal}
-use Rattle.readers.specs.Named.{eqOf, inQuotes, someRun, versionOf, isLetter, isEncoding, encodingOf, yesOrNo, declarationOf}
+use Rattle.readers.specs.Named.{before, eqOf, inQuotes, someRun, versionOf, isLetter, isEncoding, encodingOf, yesOrNo}
+use Rattle.readers.specs.Named.{isUtf8, otherOf, declarationBy, declarationOf, otherEncoding}
 use Rattle.readers.specs.Answer.{Answers, ends, faults}
 use Rattle.readers.proofs.Answers.{answers-reading, ends-some, ends-inside, ends-ahead, fault-none, then-fault, then-ends, or-ends}
 use Rattle.readers.proofs.Answers.{or-fault, on-from, text-inside, text-yes, text-no, byte-yes, byte-no, byte-end}
 use Rattle.scans.proofs.Ends.{byte-answers}
-use Rattle.instructions.specs.Part.{Goes, wordOf, bodyOf, classOf, partOf}
+use Rattle.instructions.specs.Part.{Goes, wordOf, bodyOf, classOf, partOf, openingOf, closingOf}
 use Rattle.instructions.specs.declared.declaration.Part.{Part}
-use Rattle.instructions.specs.declared.declaration.Part.the-variants.{Version, Encoding, Standalone}
+use Rattle.instructions.specs.declared.declaration.Part.the-variants.{Version, Encoding, Other, Standalone}
 use Rattle.instructions.proofs.Callees.{space-ahead, space-stands}
 use Rattle.instructions.proofs.Over.{run-ahead, run-none, run-some}
 
@@ -52,10 +54,13 @@ module _ (p : Part) (b : ℕ) where
   encoding-class e q =
       rw (e, q, only-equal b 0x2E, only-equal b 0x5F, only-equal b 0x2D) (simp (or-assoc, or-false))
 
+  pub other-class : p ≡ Other → false ≡ classOf p b
+  other-class e = rw e
+
   pub standalone-class : p ≡ Standalone → false ≡ classOf p b
   standalone-class e = rw e
 
-pub ruleset classing = (letter-ranges, version-class, encoding-class, standalone-class, needs)
+pub ruleset classing = (letter-ranges, version-class, encoding-class, other-class, standalone-class, needs)
 
 -- ---- they are ASCII
 
@@ -81,6 +86,7 @@ class-ascii : (p : Part) → Ascii (classOf p)
 unfolding isDecimal isEncoding
 class-ascii Version = low-ascii ("0" to "9" ∷ []) refl
 class-ascii Encoding = low-ascii ("A" to "Z" ∷ "a" to "z" ∷ "0" to "9" ∷ sign "." ∷ sign "_" ∷ sign "-" ∷ []) refl
+class-ascii Other = record { none-high = λ c l. refl }
 class-ascii Standalone = record { none-high = λ c l. refl }
 
 -- ---- the loop: from at to i there are characters of the part's class
@@ -159,6 +165,76 @@ module _ (d : List ℕ) (at : ℕ) where
 
 pub ruleset encodings = (encoding-past, encoding-none, encoding-ends, needs)
 
+-- ---- `UTF-8` in any case
+
+not-five : (w : List ℕ) → (length w ≡ 5 → ⊥) → isUtf8 w ≡ false
+not-five [] n = refl
+not-five (u ∷ []) n = refl
+not-five (u ∷ t ∷ []) n = refl
+not-five (u ∷ t ∷ f ∷ []) n = refl
+not-five (u ∷ t ∷ f ∷ h ∷ []) n = refl
+not-five (u ∷ t ∷ f ∷ h ∷ e ∷ []) n = absurd (n refl)
+not-five (u ∷ t ∷ f ∷ h ∷ e ∷ b ∷ w) n = refl
+
+module _ (d : List ℕ) (from past : ℕ) (l : from ≤ past) (h : past ≤ length d) where
+  pub utf8-other : (past - from ≡ 5 → ⊥) → false ≡ isUtf8 (take (past - from) (drop from d))
+  utf8-other n =
+      let z = length-take-le (past - from) (drop from d) (omega (arith, length-drop from d)) in
+      sym (not-five (take (past - from) (drop from d)) (λ e. n (sym z ∙ e)))
+
+  pub utf8-bytes : past - from ≡ 5 → {u t f : Bool} → u ≡ among (bytes "Uu") (getD d from 0) → t ≡ among (bytes "Tt") (getD d (from + 1) 0)
+      → f ≡ among (bytes "Ff") (getD d (from + 2) 0)
+      → (((u && t) && f) && eqb (getD d (from + 3) 0) 0x2D) && eqb (getD d (from + 4) 0) 0x38
+      ≡ isUtf8 (take (past - from) (drop from d))
+  utf8-bytes n {u} {t} {f} p q r =
+      let x : from + 1 + 1 ≡ from + 2 = omega arith in
+      let y : from + 2 + 1 ≡ from + 3 = omega arith in
+      let z : from + 3 + 1 ≡ from + 4 = omega arith in
+      regroup u t f (eqb (getD d (from + 3) 0) 0x2D) (eqb (getD d (from + 4) 0) 0x38)
+      ∙ rw (
+        n,
+        drop-step d from (omega arith),
+        drop-step d (from + 1) (omega arith),
+        x,
+        drop-step d (from + 2) (omega arith),
+        y,
+        drop-step d
+            (from + 3) (omega arith),
+        z,
+        drop-step d (from + 4) (omega arith),
+        p,
+        q,
+        r,
+      )
+    where
+      regroup : (a b c e g : Bool) → (((a && b) && c) && e) && g ≡ a && (b && (c && (e && g)))
+      regroup a b c e g = simp and-assoc
+
+pub ruleset utf8ing = (utf8-other, utf8-bytes, needs)
+
+-- ---- an EncName that is not `UTF-8`
+
+module _ {d : List ℕ} {at : ℕ} {r : Reading} (a : Answers d at r (encodingOf (drop at d))) where
+  pub other-fault : r ≡ Fault → Answers d at Fault (otherOf (drop at d))
+  unfolding otherOf
+  other-fault e = then-fault a _ e
+
+  module _ {i : ℕ} (e : r ≡ Ends i) {x : Bool} (q : x ≡ isUtf8 (take (i - at) (drop at d))) where
+    told : {y : Bool} → x ≡ y → otherOf (drop at d) ≡ cond y none (some (drop i d))
+    unfolding otherOf before
+    told g = rw (ends-some a e, long, sym q ∙ g)
+      where
+        long : length (drop at d) - length (drop i d) ≡ i - at
+        long = omega (arith, ends-ahead a e, ends-inside a e, length-drop at d, length-drop i d)
+
+    pub other-utf8 : x ≡ true → Answers d at Fault (otherOf (drop at d))
+    other-utf8 g = rw (told g) faults
+
+    pub other-ends : x ≡ false → Answers d at (Ends i) (otherOf (drop at d))
+    other-ends g = rw (told g) (ends (record { rest = refl; inside = ends-inside a e }) (ends-ahead a e))
+
+pub ruleset othering = (other-fault, other-utf8, other-ends, ends-ahead, ends-inside, needs)
+
 -- ---- yes or no
 
 module _ (d : List ℕ) (at : ℕ) {x : Bool} (e : x ≡ begins (bytes "yes") (drop at d)) where
@@ -186,10 +262,13 @@ module _ (p : Part) (d : List ℕ) (at : ℕ) {r : Reading} where
   pub body-encoding : p ≡ Encoding → Answers d at r (encodingOf (drop at d)) → Answers d at r (bodyOf p (drop at d))
   body-encoding e a = rw e a
 
+  pub body-other : p ≡ Other → Answers d at r (otherOf (drop at d)) → Answers d at r (bodyOf p (drop at d))
+  body-other e a = rw e a
+
   pub body-standalone : p ≡ Standalone → Answers d at r (yesOrNo (drop at d)) → Answers d at r (bodyOf p (drop at d))
   body-standalone e a = rw e a
 
-pub ruleset bodies = (body-version, body-encoding, body-standalone, needs)
+pub ruleset bodies = (body-version, body-encoding, body-other, body-standalone, needs)
 
 module _ (p : Part) (d : List ℕ) (at : ℕ) {x : Bool} where
   pub word-version : p ≡ Version → x ≡ begins (bytes "version") (drop at d) → x ≡ true
@@ -200,6 +279,10 @@ module _ (p : Part) (d : List ℕ) (at : ℕ) {x : Bool} where
       → Answers d at (Ends (at + 8)) (expect (wordOf p) (drop at d))
   word-encoding q e t = rw q (text-yes d at (bytes "encoding") e t (omega arith))
 
+  pub word-named : p ≡ Other → x ≡ begins (bytes "encoding") (drop at d) → x ≡ true
+      → Answers d at (Ends (at + 8)) (expect (wordOf p) (drop at d))
+  word-named q e t = rw q (text-yes d at (bytes "encoding") e t (omega arith))
+
   pub word-standalone : p ≡ Standalone → x ≡ begins (bytes "standalone") (drop at d) → x ≡ true
       → Answers d at (Ends (at + 10)) (expect (wordOf p) (drop at d))
   word-standalone q e t = rw q (text-yes d at (bytes "standalone") e t (omega arith))
@@ -207,7 +290,7 @@ module _ (p : Part) (d : List ℕ) (at : ℕ) {x : Bool} where
   pub word-other : (w : Part) → p ≡ w → x ≡ begins (wordOf w) (drop at d) → x ≡ false → Answers d at Fault (expect (wordOf p) (drop at d))
   word-other w q e t = rw q (text-no d at (wordOf w) e t)
 
-pub ruleset wording = (word-version, word-encoding, word-standalone, word-other, needs)
+pub ruleset wording = (word-version, word-encoding, word-named, word-standalone, word-other, needs)
 
 -- ---- quotes
 
@@ -296,43 +379,90 @@ module _ {d : List ℕ} {at : ℕ} {r : Reading} {o : Option (List ℕ)} (a : An
 
 pub ruleset staying = (goes-ends, goes-stays, needs)
 
--- ---- the declaration
+-- ---- what stands before the encoding, and behind it
 
 module _ (d : List ℕ) (at : ℕ) {x : Bool} (e : x ≡ begins (bytes "<?xml") (drop at d)) where
-  pub not-declared : not x ≡ true → Fault ≡ readingAt d at (declarationOf (drop at d))
-  unfolding declarationOf
-  not-declared t = answers-reading (then-fault (text-no d at (bytes "<?xml") e (not-true x t)) _ refl)
+  pub opening-none : not x ≡ true → Answers d at Fault (openingOf (drop at d))
+  opening-none t = then-fault (text-no d at (bytes "<?xml") e (not-true x t)) _ refl
 
   module _ (t : not x ≡ false) where
-    pub declared-inside : at + 5 ≤ length d
-    declared-inside = text-inside d at (bytes "<?xml") e (not-false x t) (omega arith)
+    pub opening-inside : at + 5 ≤ length d
+    opening-inside = text-inside d at (bytes "<?xml") e (not-false x t) (omega arith)
 
-    begin : Answers d at (Ends (at + 5)) (expect (bytes "<?xml") (drop at d))
-    begin = text-yes d at (bytes "<?xml") e (not-false x t) (omega arith)
+    pub opening-on : {r : Reading} → Answers d (at + 5) r (partOf Version (drop (at + 5) d)) → Answers d at r (openingOf (drop at d))
+    opening-on a = then-ends (text-yes d at (bytes "<?xml") e (not-false x t) (omega arith)) _ refl a
 
-    module _ {r : Reading} (a : Answers d (at + 5) r (partOf Version (drop (at + 5) d))) where
-      pub no-version : r ≡ Fault → Fault ≡ readingAt d at (declarationOf (drop at d))
-      unfolding declarationOf
-      no-version n = answers-reading (then-ends begin _ refl (then-fault a _ n))
+pub ruleset opening = (opening-none, opening-inside, opening-on, needs)
 
-      module _ {v : ℕ} (n : r ≡ Ends v) {i : ℕ} (g : Goes d v i (orStay (partOf Encoding (drop v d)) (drop v d))) {s : ℕ}
-          (h : Goes d i s (orStay (partOf Standalone (drop i d)) (drop i d))) {k : ℕ} (q : k ≡ spaceEnd d s) {y : Bool}
-          (z : y ≡ begins (bytes "?>") (drop k d)) where
-        closes : {r′ : Reading} → Answers d k r′ (expect (bytes "?>") (drop k d)) → r′ ≡ readingAt d at (declarationOf (drop at d))
-        unfolding declarationOf
-        closes b =
-            let spaced = on-from (expect (bytes "?>")) (space-stands d s q (h .stands .inside)) (space-ahead d s q) b in
-            let alone = on-from (λ u. expect (bytes "?>") (skip u)) (h .stands) (h .ahead) spaced in
-            let coded = on-from (λ u. expect (bytes "?>") (skip (orStay (partOf Standalone u) u))) (g .stands) (g .ahead) alone in
-            answers-reading (then-ends begin _ refl (then-ends a _ n coded))
+module _ {d : List ℕ} {at s : ℕ} (h : Goes d at s (orStay (partOf Standalone (drop at d)) (drop at d))) {k : ℕ} (q : k ≡ spaceEnd d s)
+    {y : Bool} (z : y ≡ begins (bytes "?>") (drop k d)) where
+  closes : {r : Reading} → Answers d k r (expect (bytes "?>") (drop k d)) → Answers d at r (closingOf (drop at d))
+  closes b =
+      on-from (λ u. expect (bytes "?>") (skip u)) (h .stands) (h .ahead)
+      (on-from (expect (bytes "?>")) (space-stands d s q (h .stands .inside)) (space-ahead d s q) b)
 
-        pub declared-ends : y ≡ true → Ends (k + 2) ≡ readingAt d at (declarationOf (drop at d))
-        declared-ends c = closes (text-yes d k (bytes "?>") z c (omega arith))
+  pub closing-ends : y ≡ true → Answers d at (Ends (k + 2)) (closingOf (drop at d))
+  closing-ends c = closes (text-yes d k (bytes "?>") z c (omega arith))
 
-        pub declared-open : y ≡ false → Fault ≡ readingAt d at (declarationOf (drop at d))
-        declared-open c = closes (text-no d k (bytes "?>") z c)
+  pub closing-open : y ≡ false → Answers d at Fault (closingOf (drop at d))
+  closing-open c = closes (text-no d k (bytes "?>") z c)
+
+pub ruleset closing = (closing-ends, closing-open, needs)
+
+-- ---- the declaration
+
+then-then : {A B C : Type 0} (o : Option A) (f : A → Option B) (g : B → Option C) → andThen (andThen o f) g ≡ andThen o (λ t. andThen (f t) g)
+then-then none f g = refl
+then-then (some x) f g = refl
+
+-- what is read behind `<?xml` and a version
+by-opening : (f : List ℕ → Option (List ℕ)) (s : List ℕ) → andThen (openingOf s) (λ u. andThen (f u) closingOf) ≡ declarationBy f s
+by-opening f s = then-then (expect (bytes "<?xml") s) (partOf Version) (λ u. andThen (f u) closingOf)
+
+module _ {d : List ℕ} {at : ℕ} {r : Reading} (a : Answers d at r (openingOf (drop at d))) where
+  by-none : (f : List ℕ → Option (List ℕ)) → r ≡ Fault → Answers d at Fault (declarationBy f (drop at d))
+  by-none f e = rw (← by-opening f (drop at d)) (then-fault a _ e)
+
+  by-ends : (f : List ℕ → Option (List ℕ)) {v : ℕ} {r′ : Reading} → r ≡ Ends v → Answers d v r′ (andThen (f (drop v d)) closingOf)
+      → Answers d at r′ (declarationBy f (drop at d))
+  by-ends f e b = rw (← by-opening f (drop at d)) (then-ends a (λ u. andThen (f u) closingOf) e b)
+
+  pub not-declared : r ≡ Fault → Fault ≡ readingAt d at (declarationOf (drop at d))
+  unfolding declarationOf
+  not-declared e = answers-reading (by-none (λ u. some (orStay (partOf Encoding u) u)) e)
+
+  pub declared-ends : {v : ℕ} → r ≡ Ends v → {i : ℕ} → Goes d v i (orStay (partOf Encoding (drop v d)) (drop v d)) → {r′ : Reading}
+      → Answers d i r′ (closingOf (drop i d)) → r′ ≡ readingAt d at (declarationOf (drop at d))
+  unfolding declarationOf
+  declared-ends e g b = answers-reading (by-ends (λ u. some (orStay (partOf Encoding u) u)) e (on-from closingOf (g .stands) (g .ahead) b))
+
+  -- ---- another encoding
+
+  tells : {r′ : Reading} → Answers d at r′ (declarationBy (partOf Other) (drop at d)) → {b : Bool}
+      → given (declarationBy (partOf Other) (drop at d)) ≡ b → b ≡ otherEncoding (drop at d)
+  unfolding otherEncoding
+  tells x e = sym e
+
+  pub other-unopened : r ≡ Fault → false ≡ otherEncoding (drop at d)
+  other-unopened e = let x = by-none (partOf Other) e in tells x (ap given (fault-none x refl))
+
+  module _ {v : ℕ} (e : r ≡ Ends v) {r′ : Reading} (b : Answers d v r′ (partOf Other (drop v d))) where
+    pub other-unset : r′ ≡ Fault → false ≡ otherEncoding (drop at d)
+    other-unset f = let x = by-ends (partOf Other) e (then-fault b closingOf f) in tells x (ap given (fault-none x refl))
+
+    module _ {i : ℕ} (f : r′ ≡ Ends i) {r″ : Reading} (c : Answers d i r″ (closingOf (drop i d))) where
+      whole : Answers d at r″ (declarationBy (partOf Other) (drop at d))
+      whole = by-ends (partOf Other) e (then-ends b closingOf f c)
+
+      pub other-unclosed : r″ ≡ Fault → false ≡ otherEncoding (drop at d)
+      other-unclosed g = tells whole (ap given (fault-none whole g))
+
+      pub other-named : {k : ℕ} → r″ ≡ Ends k → true ≡ otherEncoding (drop at d)
+      other-named g = tells whole (ap given (ends-some whole g))
 
 pub goes-inside : {d : List ℕ} {at i : ℕ} {t : List ℕ} → Goes d at i t → i ≤ length d
 goes-inside g = g .stands .inside
 
-pub ruleset declaring = (not-declared, declared-inside, no-version, declared-ends, declared-open, goes-inside, ends-inside, needs)
+pub ruleset declaring = (not-declared, declared-ends, goes-inside, ends-inside, needs)
+
+pub ruleset telling = (other-unopened, other-unset, other-unclosed, other-named, ends-inside, needs)

@@ -1,14 +1,13 @@
--- [16] PI. In order: a byte of two; `xml` in any case; what follows the target; the instruction. Each law of the last two is one way
+-- [16] PI. In order: `xml` in any case; what follows the target; the instruction. Each law of the last two is one way
 -- through the code: what the code answers there is what the reader leaves.
 use mathlib.Core.Path.{_≡_, refl, sym, _∙_}
-use mathlib.Core.Bool.{Bool, true, false, cond, not, _&&_, _||_, or-false, and-assoc}
+use mathlib.Core.Bool.{Bool, true, false, cond, not, _&&_, and-assoc}
 use mathlib.Core.List.{List, [], _∷_}
 use mathlib.Core.Option.{none, some}
 use Prim.Native.Nat.{ℕ, _+_, _-_, _≤_, _<_}
 use native.Mathlib.Omega.{arith}
 use borrow.Author.Needs.{needs}
 use borrow.Author.Tests.{not-true, not-false}
-use lib.Dec.{eqb}
 use lib.ListN.{length, getD, take, drop, length-drop}
 use lib.Seq.{length-take-le}
 use Rattle.xml.specs.Notation.{bytes, among}
@@ -29,11 +28,6 @@ use Rattle.readers.proofs.Answers.{answers-reading, ends-some, ends-inside, end
 use Rattle.readers.proofs.Answers.{on-from, text-inside, text-yes, text-no}
 use Rattle.scans.proofs.Seeks.{sought-ahead}
 use Rattle.instructions.proofs.Callees.{name-answers, seek-stands}
-
--- ---- a byte of two
-
-pub one-of : (b x y : ℕ) → eqb b x || eqb b y ≡ among (x ∷ y ∷ []) b
-one-of b x y = simp or-false
 
 -- ---- `xml` in any case
 
@@ -57,7 +51,7 @@ module _ (d : List ℕ) (from to : ℕ) (l : from ≤ to) (h : to ≤ length d) 
       and-assoc x m k
       ∙ rw (n, drop-step d from (omega arith), drop-step d (from + 1) (omega arith), y, drop-step d (from + 2) (omega arith), p, q, r)
 
-pub ruleset xmling = (one-of, xml-other, xml-bytes, needs)
+pub ruleset xmling = (xml-other, xml-bytes, needs)
 
 -- ---- after the target
 

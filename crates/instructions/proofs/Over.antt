@@ -1,12 +1,14 @@
--- What several readers step over: characters of a class, one or more, white space among them; [25] Eq; a text of two bytes.
--- A byte is in the crate scans.
+-- What several readers ask for, a byte of two; and what they step over: characters of a class, one or more, white space among them; [25]
+-- Eq; a text of two bytes. A byte is in the crate scans.
 use mathlib.Core.Path.{_≡_, refl, sym, ap, _∙_}
-use mathlib.Core.Bool.{Bool, true, false}
+use mathlib.Core.Bool.{Bool, true, false, _||_, or-false}
 use mathlib.Core.List.{List, [], _∷_}
 use Prim.Native.Nat.{ℕ, _+_, _≤_}
 use native.Mathlib.Omega.{arith}
 use borrow.Author.Needs.{needs}
+use lib.Dec.{eqb}
 use lib.ListN.{length, drop, length-drop}
+use Rattle.xml.specs.Notation.{among}
 use Rattle.xml.specs.Character.{begins, starts, run}
 use Rattle.xml.specs.Productions.{isSpace}
 use Rattle.xml.proofs.Run.{run-stop, run-stops, run-length}
@@ -21,6 +23,13 @@ use Rattle.readers.specs.Answer.{Answers, ends, faults}
 use Rattle.readers.proofs.Answers.{ends-some, ends-inside, ends-ahead, fault-none, text-inside}
 use Rattle.scans.proofs.Ends.{byte-answers}
 use Rattle.instructions.proofs.Callees.{space-ahead, space-stands}
+
+-- ---- a byte of two
+
+pub one-of : (b x y : ℕ) → eqb b x || eqb b y ≡ among (x ∷ y ∷ []) b
+one-of b x y = simp or-false
+
+pub ruleset choosing = (one-of, needs)
 
 -- ---- one character or more of a class
 

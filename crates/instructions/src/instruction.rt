@@ -1,27 +1,19 @@
 // [16] PI: `<?`, a target that is not `xml` in any case, and then `?>`, or white space and all up to the first `?>`.
 // The class table is lent, since names are read by it.
 ghost use mathlib.Core.Path.{_≡_};
-ghost use mathlib.Core.List.{[], _∷_};
 ghost use Prim.Native.Nat.{_-_, _≤_};
 ghost use lib.ListN.{length, take, drop};
-ghost use Rattle.xml.specs.Notation.{among};
 ghost use Rattle.points.specs.Class.{classTable};
 ghost use Rattle.chars.specs.Name.{readingAt};
 ghost use Rattle.readers.specs.Named.{isXml, instructionEnd, instructionOf};
 ghost use Rattle.readers.specs.Answer.{Answers};
+use crate::steps::is_one_of;
 use chars::name::Reading;
 use chars::name::name_by;
 use chars::space::is_space;
 use chars::text::stands;
 use points::table::Classes;
 use scans::seek::seek;
-
-// Whether b is one of two bytes.
-fn is_one_of(b: u8, x: u8, y: u8) -> bool
-    ensures { λ r. ⌜ r ≡ among (x ∷ y ∷ []) b ⌝ }
-{
-    (b == x) | (b == y)
-}
 
 // Whether the bytes from a place to another are `xml`, in any case.
 fn is_xml(doc: &[u8], from: usize, to: usize) -> bool

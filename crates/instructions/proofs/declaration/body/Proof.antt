@@ -19,6 +19,12 @@ encoding-requires c κs = search bodies
 enum-told-3 : tie.Need-enum-told-3
 enum-told-3 c = search bodies
 
+other-requires : tie.Need-other-requires
+other-requires c κs = search bodies
+
+enum-told-4 : tie.Need-enum-told-4
+enum-told-4 c = search bodies
+
 yes-or-no-requires : tie.Need-yes-or-no-requires
 yes-or-no-requires c κs = search bodies
 
@@ -31,6 +37,9 @@ returns-2 c = search bodies
 returns-3 : tie.Need-returns-3
 returns-3 c = search bodies
 
+returns-4 : tie.Need-returns-4
+returns-4 c = search bodies
+
 pub body-spec : {M : Type 1} → statement M
 body-spec =
     tie.close
@@ -40,7 +49,10 @@ body-spec =
     enum-told-2
     encoding-requires
     enum-told-3
+    other-requires
+    enum-told-4
     yes-or-no-requires
     returns
     returns-2
-    returns-3)
+    returns-3
+    returns-4)

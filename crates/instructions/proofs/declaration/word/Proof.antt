@@ -13,8 +13,8 @@ slice-aggregate-stands c = search wording
 stands-requires : tie.Need-stands-requires
 stands-requires c κs = search wording
 
-add-t10 : tie.Need-add-t10
-add-t10 c = search wording
+add-t11 : tie.Need-add-t11
+add-t11 c = search wording
 
 returns : tie.Need-returns
 returns c = search wording
@@ -28,8 +28,8 @@ slice-aggregate-stands-2 c = search wording
 stands-requires-2 : tie.Need-stands-requires-2
 stands-requires-2 c κs = search wording
 
-add-t14 : tie.Need-add-t14
-add-t14 c = search wording
+add-t15 : tie.Need-add-t15
+add-t15 c = search wording
 
 returns-2 : tie.Need-returns-2
 returns-2 c = search wording
@@ -43,11 +43,23 @@ slice-aggregate-stands-3 c = search wording
 stands-requires-3 : tie.Need-stands-requires-3
 stands-requires-3 c κs = search wording
 
-add-t18 : tie.Need-add-t18
-add-t18 c = search wording
+add-t19 : tie.Need-add-t19
+add-t19 c = search wording
 
 returns-3 : tie.Need-returns-3
 returns-3 c = search wording
+
+enum-told-4 : tie.Need-enum-told-4
+enum-told-4 c = search wording
+
+slice-aggregate-stands-4 : tie.Need-slice-aggregate-stands-4
+slice-aggregate-stands-4 c = search wording
+
+stands-requires-4 : tie.Need-stands-requires-4
+stands-requires-4 c κs = search wording
+
+add-t23 : tie.Need-add-t23
+add-t23 c = search wording
 
 returns-4 : tie.Need-returns-4
 returns-4 c = search wording
@@ -58,6 +70,12 @@ returns-5 c = search wording
 returns-6 : tie.Need-returns-6
 returns-6 c = search wording
 
+returns-7 : tie.Need-returns-7
+returns-7 c = search wording
+
+returns-8 : tie.Need-returns-8
+returns-8 c = search wording
+
 pub word-spec : {M : Type 1} → statement M
 word-spec =
     tie.close
@@ -65,18 +83,24 @@ word-spec =
     enum-told
     slice-aggregate-stands
     stands-requires
-    add-t10
+    add-t11
     returns
     enum-told-2
     slice-aggregate-stands-2
     stands-requires-2
-    add-t14
+    add-t15
     returns-2
     enum-told-3
     slice-aggregate-stands-3
     stands-requires-3
-    add-t18
+    add-t19
     returns-3
+    enum-told-4
+    slice-aggregate-stands-4
+    stands-requires-4
+    add-t23
     returns-4
     returns-5
-    returns-6)
+    returns-6
+    returns-7
+    returns-8)
