@@ -12,6 +12,7 @@ use Rattle.xml.specs.Character.{begins}
 use Rattle.chars.specs.Check.{checkOf}
 use Rattle.chars.specs.declared.whole.Checked.{Checked}
 use Rattle.chars.specs.declared.whole.Checked.the-variants.{All, BadAt}
+use Rattle.readers.specs.Named.{otherEncoding}
 use Rattle.readers.proofs.Answers.{text-inside}
 use Rattle.tags.specs.declared.Item.{Item}
 use Rattle.tags.specs.declared.Item.the-variants.{Declaration, Instruction, Comment, Section, Reference, Text, Start, Finish}
@@ -27,7 +28,7 @@ use Rattle.document.specs.declared.Why.{Why}
 use Rattle.document.specs.declared.Placement.{Placement}
 use Rattle.document.specs.declared.Placement.the-variants.{Fine, Fault, Over}
 use Rattle.document.specs.declared.judge.Judged.{Judged}
-use Rattle.document.specs.declared.judge.Judged.the-variants.{Sound, TooLong, NotChar, AtFault}
+use Rattle.document.specs.declared.judge.Judged.the-variants.{Sound, TooLong, OtherEncoding, NotChar, AtFault}
 use Rattle.document.proofs.After.{opened-after, names-after}
 
 -- ---- the place of the first item
@@ -179,16 +180,26 @@ module _ (d : List ℕ) where
   unfolding judgeOf
   judged-long l = sym (rw (lt-ltb 16777216 (length d) l))
 
-  module _ (l : length d ≤ 16777216) {c : Checked} (e : c ≡ checkOf d) where
-    pub judged-items : c ≡ All → {r : Judged} → r ≡ scanned d → r ≡ judgeOf d
-    unfolding judgeOf
-    judged-items q h = h ∙ sym (rw (le-ltb 16777216 (length d) l, sym e ∙ q))
+  -- what the code asks of the declaration at the place of the first item
+  pub judged-named : {o : ℕ} → o ≡ startOf d → {b : Bool} → b ≡ otherEncoding (drop o d) → {x : Bool} → b ≡ x
+      → otherEncoding (drop (startOf d) d) ≡ x
+  judged-named e q h = rw (← e) (sym q ∙ h)
 
-    pub judged-char : {k : ℕ} → c ≡ BadAt k → NotChar k ≡ judgeOf d
+  module _ (l : length d ≤ 16777216) where
+    pub judged-other : {o : ℕ} → o ≡ startOf d → {b : Bool} → b ≡ otherEncoding (drop o d) → b ≡ true → OtherEncoding o ≡ judgeOf d
     unfolding judgeOf
-    judged-char q = sym (rw (le-ltb 16777216 (length d) l, sym e ∙ q))
+    judged-other e q h = ap OtherEncoding e ∙ sym (rw (le-ltb 16777216 (length d) l, judged-named e q h))
 
-pub ruleset judging = (judged-long, judged-items, judged-char, needs)
+    module _ (n : otherEncoding (drop (startOf d) d) ≡ false) {c : Checked} (e : c ≡ checkOf d) where
+      pub judged-items : c ≡ All → {r : Judged} → r ≡ scanned d → r ≡ judgeOf d
+      unfolding judgeOf
+      judged-items q h = h ∙ sym (rw (le-ltb 16777216 (length d) l, n, sym e ∙ q))
+
+      pub judged-char : {k : ℕ} → c ≡ BadAt k → NotChar k ≡ judgeOf d
+      unfolding judgeOf
+      judged-char q = sym (rw (le-ltb 16777216 (length d) l, n, sym e ∙ q))
+
+pub ruleset judging = (judged-long, judged-named, judged-other, judged-items, judged-char, needs)
 
 -- ---- the loop of `scan`
 

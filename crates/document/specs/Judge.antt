@@ -1,13 +1,15 @@
--- The answer on a document: its length, its characters, and then item by item, the first item at fault decides. And document 01's numbers.
+-- The answer on a document: its length, the encoding that it declares, its characters, and then item by item, the first item at fault
+-- decides. And the numbers.
 use mathlib.Core.Bool.{Bool, true, false, cond}
 use mathlib.Core.List.{List, [], _∷_}
 use Prim.Native.Nat.{ℕ, zero, suc}
 use lib.Dec.{ltb}
-use lib.ListN.{length}
+use lib.ListN.{length, drop}
 use Rattle.xml.specs.Character.{begins}
 use Rattle.chars.specs.Check.{checkOf}
 use Rattle.chars.specs.declared.whole.Checked.{Checked}
 use Rattle.chars.specs.declared.whole.Checked.the-variants.{All, BadAt}
+use Rattle.readers.specs.Named.{otherEncoding}
 use Rattle.items.specs.Item.{itemAt}
 use Rattle.document.specs.Place.{Opened, placement, afterItem, endOf}
 use Rattle.document.specs.declared.Placement.{Placement}
@@ -15,7 +17,7 @@ use Rattle.document.specs.declared.Placement.the-variants.{Fine, Fault, 
 use Rattle.document.specs.declared.Why.{Why}
 use Rattle.document.specs.declared.Why.the-variants.{Doctype, Malformed, TooLarge}
 use Rattle.document.specs.declared.judge.Judged.{Judged}
-use Rattle.document.specs.declared.judge.Judged.the-variants.{Sound, TooLong, NotChar, AtFault}
+use Rattle.document.specs.declared.judge.Judged.the-variants.{Sound, TooLong, OtherEncoding, NotChar, AtFault}
 
 -- "Three bytes EF BB BF at the front are skipped"
 abbrev pub front : List ℕ
@@ -48,10 +50,15 @@ abbrev pub byChars : Checked → Judged → Judged
 byChars All r = r
 byChars (BadAt o) r = NotChar o
 
-unfoldable pub judgeOf : List ℕ → Judged
-judgeOf d = cond (ltb 16777216 (length d)) TooLong (byChars (checkOf d) (scanned d))
+-- "10, with the declaration's offset, stands between 4 and 5 and is given exactly when the first item has the right shape of a declaration
+-- and names another encoding"
+abbrev pub byEncoding : List ℕ → Judged → Judged
+byEncoding d r = cond (otherEncoding (drop (startOf d) d)) (OtherEncoding (startOf d)) r
 
--- ---- document 01's numbers
+unfoldable pub judgeOf : List ℕ → Judged
+judgeOf d = cond (ltb 16777216 (length d)) TooLong (byEncoding d (byChars (checkOf d) (scanned d)))
+
+-- ---- the numbers: document 01's, and 10 for another encoding
 
 abbrev pub whyNumber : Why → ℕ
 whyNumber Doctype = 6
@@ -61,11 +68,13 @@ whyNumber TooLarge = 8
 abbrev pub numberOf : Judged → ℕ
 numberOf Sound = 0
 numberOf TooLong = 4
+numberOf (OtherEncoding o) = 10
 numberOf (NotChar o) = 5
 numberOf (AtFault why o) = whyNumber why
 
 abbrev pub secondOf : Judged → ℕ
 secondOf Sound = 0
 secondOf TooLong = 0
+secondOf (OtherEncoding o) = o
 secondOf (NotChar o) = o
 secondOf (AtFault why o) = o
