@@ -1,14 +1,15 @@
 -- `cut`, and the functions under it: one law for each way out, about the answer and about the buffer.
--- `fault_of`; a document that is measured, and written where there is room; its length and its characters; the list.
+-- `fault_of`; a document's length, the encoding that it declares and its characters; one that is measured, and written where there is
+-- room; the list.
 use mathlib.Core.Path.{_≡_, refl, sym, ap, _∙_}
-use mathlib.Core.Bool.{Bool, cond}
+use mathlib.Core.Bool.{Bool, true, false, cond}
 use mathlib.Core.List.{List}
 use Prim.Native.Nat.{ℕ, _≤_, _<_}
 use native.Mathlib.Omega.{arith}
 use borrow.Author.Needs.{needs}
 use borrow.Author.Tests.{lt-ltb, le-ltb}
 use lib.Dec.{ltb}
-use lib.ListN.{length}
+use lib.ListN.{length, drop}
 use lib.Seq.{sets}
 use Rattle.paths.specs.Judge.{listAnswer}
 use Rattle.paths.specs.declared.ListAnswer.{ListAnswer}
@@ -16,19 +17,20 @@ use Rattle.paths.specs.declared.ListAnswer.the-variants as lists
 use Rattle.chars.specs.Check.{checkOf}
 use Rattle.chars.specs.declared.whole.Checked.{Checked}
 use Rattle.chars.specs.declared.whole.Checked.the-variants.{All, BadAt}
-use Rattle.document.specs.Judge.{scanned, judgeOf}
+use Rattle.readers.specs.Named.{otherEncoding}
+use Rattle.document.specs.Judge.{startOf, scanned, judgeOf}
 use Rattle.document.specs.declared.Why.{Why}
 use Rattle.document.specs.declared.Why.the-variants as why
 use Rattle.document.specs.declared.judge.Judged.{Judged}
 use Rattle.document.specs.declared.judge.Judged.the-variants as judged
-use Rattle.document.proofs.Judging.{judged-long, judged-items, judged-char}
+use Rattle.document.proofs.Judging.{judged-long, judged-other, judged-items, judged-char}
 use Rattle.writer.proofs.Laying.{laid-whole}
 use Rattle.trees.specs.Written.{cutOf, countOf}
 use Rattle.cutter.specs.Answer.{byList, faultOf, byDocument, byRoom, answerBy, answerOf, after, bytesBy, bytesAfter}
 use Rattle.passes.specs.Passed.{judgedBy, Told, Passed}
 use Rattle.cutter.specs.declared.Answer.{Answer}
-use Rattle.cutter.specs.declared.Answer.the-variants.{Written, ListTooLong, ListMalformed, ListTooLarge, TooLong, NotChar}
-use Rattle.cutter.specs.declared.Answer.the-variants.{Doctype, Malformed, TooLarge, Short}
+use Rattle.cutter.specs.declared.Answer.the-variants.{Written, ListTooLong, ListMalformed, ListTooLarge, TooLong}
+use Rattle.cutter.specs.declared.Answer.the-variants.{OtherEncoding, NotChar, Doctype, Malformed, TooLarge, Short}
 use Rattle.passes.specs.declared.Outcome.{Outcome}
 use Rattle.passes.specs.declared.Outcome.the-variants.{Fine, Fault}
 
@@ -92,15 +94,20 @@ module _ (list d o : List ℕ) where
   pub by-long : 16777216 < length d → AnswersBy list d o TooLong o
   by-long l = stays (cutOf list d) o (λ w o. refl) (by-document (judged-long d l))
 
-  pub by-char : length d ≤ 16777216 → {c : Checked} → c ≡ checkOf d → {k : ℕ} → c ≡ BadAt k → AnswersBy list d o (NotChar k) o
-  by-char l e q = stays (cutOf list d) o (λ w o. refl) (by-document (judged-char d l e q))
+  pub by-other : length d ≤ 16777216 → {k : ℕ} → k ≡ startOf d → {b : Bool} → b ≡ otherEncoding (drop k d) → b ≡ true
+      → AnswersBy list d o (OtherEncoding k) o
+  by-other l e q h = stays (cutOf list d) o (λ w o. refl) (by-document (judged-other d l e q h))
+
+  pub by-char : length d ≤ 16777216 → otherEncoding (drop (startOf d) d) ≡ false → {c : Checked} → c ≡ checkOf d → {k : ℕ} → c ≡ BadAt k
+      → AnswersBy list d o (NotChar k) o
+  by-char l n e q = stays (cutOf list d) o (λ w o. refl) (by-document (judged-char d l n e q))
 
 -- ---- and a document of characters
 
-module _ (list d o : List ℕ) (small : length d ≤ 16777216) (chars : checkOf d ≡ All) {s s′ : List ℕ} {m : Outcome} (p : Passed list
-    d s m s′) where
+module _ (list d o : List ℕ) (small : length d ≤ 16777216) (utf8 : otherEncoding (drop (startOf d) d) ≡ false) (chars : checkOf d
+    ≡ All) {s s′ : List ℕ} {m : Outcome} (p : Passed list d s m s′) where
   judged-is : judgedBy m ≡ judgeOf d
-  judged-is = judged-items d small (sym chars) refl (p .judged)
+  judged-is = judged-items d small utf8 (sym chars) refl (p .judged)
 
   pub written-fault : {w : Why} {at : ℕ} → m ≡ Fault w at → {r : Answer} → r ≡ faultOf w at → AnswersBy list d o r o
   written-fault {w} {at} q e =

@@ -3,15 +3,19 @@
 // what stands in the buffer afterwards is in specs/Answer.antt.
 //
 //     list      judged and compiled                         refused: 1 2 3
-//     document  its length, then its characters             refused: 4 5
+//     document  its length, the encoding that it declares,
+//               then its characters                         refused: 4 10 5
 //               a pass over its items, which measures       refused: 6 7 8
 //     buffer    is there room for the cut                   refused: 9
 //               the same pass, which writes                 0
 ghost use mathlib.Core.Path.{_≡_};
-ghost use lib.ListN.{length};
+ghost use mathlib.Core.Bool.{false};
+ghost use lib.ListN.{length, drop};
 ghost use Rattle.chars.specs.Check.{checkOf};
 ghost use Rattle.chars.specs.declared.whole.Checked.the-variants.{All};
 ghost use Prim.Native.Nat.{_≤_};
+ghost use Rattle.readers.specs.Named.{otherEncoding};
+ghost use Rattle.document.specs.Judge.{startOf};
 ghost use Rattle.matcher.specs.Fit.{Serves};
 ghost use Rattle.cutter.specs.Answer.{faultOf, answerBy, bytesBy, answerOf, bytesAfter};
 use chars::whole::Checked;
@@ -21,20 +25,24 @@ use compiled::compile::read;
 use compiled::layout;
 use document::Open;
 use document::Why;
+use document::judge::start_of;
+use instructions::declaration::names_other;
 use passes::Outcome;
 use passes::pass;
 use paths::ListAnswer;
 use points::table::classes;
 
 // What is answered: the cut is written, with its length and the number of elements selected; the list is too long; a line of it is
-// malformed, or too large; the document is too long; a sequence that is no character begins at a place; a document type, an item that is
-// not well-formed, an item over a size begins at a place; the buffer is too short for the cut, which has this length.
+// malformed, or too large; the document is too long; its declaration, at a place, names another encoding than UTF-8; a sequence that is no
+// character begins at a place; a document type, an item that is not well-formed, an item over a size begins at a place; the buffer is too
+// short for the cut, which has this length.
 pub enum Answer {
     Written { length: usize, selected: usize },
     ListTooLong,
     ListMalformed(usize),
     ListTooLarge(usize),
     TooLong,
+    OtherEncoding(usize),
     NotChar(usize),
     Doctype(usize),
     Malformed(usize),
@@ -53,9 +61,10 @@ fn fault_of(why: Why, at: usize) -> Answer
     }
 }
 
-// By the tables of a sound list, a document of characters: measured, and written where there is room.
+// By the tables of a sound list, a document of characters that names no other encoding: measured, and written where there is room.
 fn written(list: &[u8], t: &Compiled, doc: &[u8], out: &mut [u8]) -> Answer
-    requires { ⌜ Serves (now list) (now t) × (length (now doc) ≤ 16777216) × (checkOf (now doc) ≡ All) ⌝ }
+    requires { ⌜ Serves (now list) (now t) × (length (now doc) ≤ 16777216)
+        × (otherEncoding (drop (startOf (now doc)) (now doc)) ≡ false) × (checkOf (now doc) ≡ All) ⌝ }
     ensures { λ r. ⌜ r ≡ answerBy (now (list .entry)) (now (doc .entry)) (length (now (out .entry))) ⌝ }
     ensures { λ r. ⌜ now (out .exit) ≡ bytesBy (now (list .entry)) (now (doc .entry)) (now (out .entry)) ⌝ }
 {
@@ -81,6 +90,10 @@ pub fn cut_by(list: &[u8], t: &Compiled, doc: &[u8], out: &mut [u8]) -> Answer
 {
     if doc.len() > Open::BYTES {
         return Answer::TooLong;
+    }
+    let start = start_of(doc);
+    if names_other(doc, start) {
+        return Answer::OtherEncoding(start);
     }
     match check(doc) {
         Checked::All => written(list, t, doc, out),

@@ -26,7 +26,7 @@ enum-known-length c = search needs
 returns : tie.Need-returns
 returns c =
     let p = c .before .before .before .before .before .before .before .before .before .before .before .before .pre in
-    both-by _ _ _ (written-short _ _ _ (p .1) (p .2) (c .before .before .before .before .before .pass .ensures) (c .before .before
+    both-by _ _ _ (written-short _ _ _ (p .1) (p .2) (p .3) (c .before .before .before .before .before .pass .ensures) (c .before .before
     .length .given .1) (c .if1 .taken))
 
 pass-requires-2 : tie.Need-pass-requires-2
@@ -35,7 +35,7 @@ pass-requires-2 c κs = search needs
 returns-2 : tie.Need-returns-2
 returns-2 c =
     let p = c .before .before .before .before .before .before .before .before .before .before .before .before .pre in
-    both-by _ _ _ (written-fault _ _ _ (p .1) (p .2) (c .before .before .before .before .before .pass .ensures) (c .before .before
+    both-by _ _ _ (written-fault _ _ _ (p .1) (p .2) (p .3) (c .before .before .before .before .before .pass .ensures) (c .before .before
     .why .given .1) (c .fault-of .ensures))
 
 same-length : tie.Need-same-length
@@ -46,7 +46,7 @@ returns-3 c =
     let p = c .before .before .before .before .before .before .before .before .before .before .before .before .before .before
     .before .before .before .pre in
     both-by _ _ _
-    (written-whole _ _ _ (p .1) (p .2) (c .before .before .before .before .before .before .before .before .before .before .pass
+    (written-whole _ _ _ (p .1) (p .2) (p .3) (c .before .before .before .before .before .before .before .before .before .before .pass
     .ensures) (c .before .before .before .before .before .before .before .length .given .1) (c .before .before .before .before
     .before .if1 .left) (c .before .before .pass2 .ensures))
 
