@@ -24,7 +24,7 @@ charactersEnd d = soundOf (length d) (checkOf d)
 abbrev pub refusalOf : ℕ → ℕ → Numbers
 refusalOf n s = record { number = n; second = s; third = 0 }
 
--- "Numbers handed back" that a document alone decides: 0 and 0 where it is sound, else 4 to 8
+-- "Numbers handed back" that a document alone decides: 0 and 0 where it is sound, else 4 to 8 or 10
 abbrev pub judgedOf : Judged → Numbers
 judgedOf j = refusalOf (judgedNumber j) (judgedSecond j)
 

@@ -1,5 +1,5 @@
 // What callers in Rust and C can call: numbers pass as themselves, a slice as a pointer and then a length. An answer that is an enum in the
-// library is a number here, or three: document 01's "Numbers handed back".
+// library is a number here, or three: document 01's "Numbers handed back", and 10 for another encoding.
 ghost use mathlib.Core.Path.{_≡_};
 ghost use lib.ListN.{length};
 ghost use Rattle.document.specs.Judge.{whyNumber, judgeOf};
@@ -44,6 +44,7 @@ pub fn numbers_of(a: Answer) -> Numbers
         Answer::ListMalformed(line) => refusal(2, line),
         Answer::ListTooLarge(line) => refusal(3, line),
         Answer::TooLong => refusal(4, 0),
+        Answer::OtherEncoding(o) => refusal(10, o),
         Answer::NotChar(o) => refusal(5, o),
         Answer::Doctype(o) => refusal(6, o),
         Answer::Malformed(o) => refusal(7, o),
@@ -74,7 +75,8 @@ pub extern "C" fn choughbell_characters(s: &[u8]) -> usize
     }
 }
 
-// The numbers of a document alone, by any list that is sound and in any room that suffices: 4 to 8, or 0 and no length.
+// The numbers of a document alone, by any list that is sound and in any room that suffices: 4 to 8 or 10, or 0 and no
+// length.
 #[no_mangle]
 pub extern "C" fn choughbell_judge(doc: &[u8]) -> Numbers
     ensures { λ r. ⌜ r ≡ judgedOf (judgeOf (now (doc .entry))) ⌝ }
@@ -82,6 +84,7 @@ pub extern "C" fn choughbell_judge(doc: &[u8]) -> Numbers
     match judge(doc) {
         Judged::Sound => refusal(0, 0),
         Judged::TooLong => refusal(4, 0),
+        Judged::OtherEncoding(o) => refusal(10, o),
         Judged::NotChar(o) => refusal(5, o),
         Judged::AtFault(why, o) => refusal(why_number(why), o),
     }

@@ -25,14 +25,20 @@ enum-known-o c = search judging
 refusal-requires-3 : tie.Need-refusal-requires-3
 refusal-requires-3 c κs = search judging
 
+enum-known-o-2 : tie.Need-enum-known-o-2
+enum-known-o-2 c = search judging
+
+refusal-requires-4 : tie.Need-refusal-requires-4
+refusal-requires-4 c κs = search judging
+
 enum-known-why : tie.Need-enum-known-why
 enum-known-why c = search judging
 
 why-number-requires : tie.Need-why-number-requires
 why-number-requires c κs = search judging
 
-refusal-requires-4 : tie.Need-refusal-requires-4
-refusal-requires-4 c κs = search judging
+refusal-requires-5 : tie.Need-refusal-requires-5
+refusal-requires-5 c κs = search judging
 
 returns : tie.Need-returns
 returns c = search judging
@@ -46,6 +52,9 @@ returns-3 c = search judging
 returns-4 : tie.Need-returns-4
 returns-4 c = search judging
 
+returns-5 : tie.Need-returns-5
+returns-5 c = search judging
+
 pub choughbell-judge-spec : {M : Type 1} → statement M
 choughbell-judge-spec =
     tie.close
@@ -57,10 +66,13 @@ choughbell-judge-spec =
     refusal-requires-2
     enum-known-o
     refusal-requires-3
+    enum-known-o-2
+    refusal-requires-4
     enum-known-why
     why-number-requires
-    refusal-requires-4
+    refusal-requires-5
     returns
     returns-2
     returns-3
-    returns-4)
+    returns-4
+    returns-5)

@@ -61,6 +61,12 @@ enum-known-a-8 c = search numbering
 refusal-requires-9 : tie.Need-refusal-requires-9
 refusal-requires-9 c κs = search numbering
 
+enum-known-a-9 : tie.Need-enum-known-a-9
+enum-known-a-9 c = search numbering
+
+refusal-requires-10 : tie.Need-refusal-requires-10
+refusal-requires-10 c κs = search numbering
+
 returns : tie.Need-returns
 returns c = search numbering
 
@@ -91,6 +97,9 @@ returns-9 c = search numbering
 returns-10 : tie.Need-returns-10
 returns-10 c = search numbering
 
+returns-11 : tie.Need-returns-11
+returns-11 c = search numbering
+
 pub numbers-of-spec : {M : Type 1} → statement M
 numbers-of-spec =
     tie.close
@@ -114,6 +123,8 @@ numbers-of-spec =
     refusal-requires-8
     enum-known-a-8
     refusal-requires-9
+    enum-known-a-9
+    refusal-requires-10
     returns
     returns-2
     returns-3
@@ -123,4 +134,5 @@ numbers-of-spec =
     returns-7
     returns-8
     returns-9
-    returns-10)
+    returns-10
+    returns-11)
