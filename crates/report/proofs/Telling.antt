@@ -76,6 +76,7 @@ room-stands w o c = go (ltb (length o) (length w)) refl
 document-stands : (w o : List ℕ) (j : Judged) (a : Answer) → Stands w o a → Stands w o (byDocument j a)
 document-stands w o document.Sound a h = h
 document-stands w o document.TooLong a h = λ z. absurd (omega arith)
+document-stands w o (document.OtherEncoding k) a h = λ z. absurd (omega arith)
 document-stands w o (document.NotChar k) a h = λ z. absurd (omega arith)
 document-stands w o (document.AtFault why.Doctype k) a h = λ z. absurd (omega arith)
 document-stands w o (document.AtFault why.Malformed k) a h = λ z. absurd (omega arith)
