@@ -8,25 +8,26 @@ use native.Mathlib.Omega.{arith}
 use lib.ListN.{length, drop}
 use Rattle.cutter.specs.Answer.{answerOf, after, bytesAfter, numberOf, secondOf, thirdOf}
 use Rattle.cutter.specs.declared.Answer.{Answer}
-use Rattle.cutter.specs.declared.Answer.the-variants.{Written, ListTooLong, ListMalformed, ListTooLarge, TooLong, NotChar}
-use Rattle.cutter.specs.declared.Answer.the-variants.{Doctype, Malformed, TooLarge, Short}
+use Rattle.cutter.specs.declared.Answer.the-variants.{Written, ListTooLong, ListMalformed, ListTooLarge, TooLong}
+use Rattle.cutter.specs.declared.Answer.the-variants.{OtherEncoding, NotChar, Doctype, Malformed, TooLarge, Short}
 use Rattle.trees.specs.Written.{cutOf}
 
--- every call has an answer, and one of document 01's ten numbers; `cut` is a total function, so it has one in the code too
-pub numbered : (list d : List ℕ) (room : ℕ) → numberOf (answerOf list d room) ≤ 9
-numbered list d room = ten (answerOf list d room)
+-- every call has an answer, and one of eleven numbers, document 01's ten and 10; `cut` is a total function, so it has one in the code too
+pub numbered : (list d : List ℕ) (room : ℕ) → numberOf (answerOf list d room) ≤ 10
+numbered list d room = eleven (answerOf list d room)
   where
-    ten : (a : Answer) → numberOf a ≤ 9
-    ten (Written n c) = omega arith
-    ten ListTooLong = omega arith
-    ten (ListMalformed n) = omega arith
-    ten (ListTooLarge n) = omega arith
-    ten TooLong = omega arith
-    ten (NotChar n) = omega arith
-    ten (Doctype n) = omega arith
-    ten (Malformed n) = omega arith
-    ten (TooLarge n) = omega arith
-    ten (Short n) = omega arith
+    eleven : (a : Answer) → numberOf a ≤ 10
+    eleven (Written n c) = omega arith
+    eleven ListTooLong = omega arith
+    eleven (ListMalformed n) = omega arith
+    eleven (ListTooLarge n) = omega arith
+    eleven TooLong = omega arith
+    eleven (OtherEncoding n) = omega arith
+    eleven (NotChar n) = omega arith
+    eleven (Doctype n) = omega arith
+    eleven (Malformed n) = omega arith
+    eleven (TooLarge n) = omega arith
+    eleven (Short n) = omega arith
 
 -- "a refused call changes no byte of the output"
 refused-keeps : (a : Answer) (w o : List ℕ) → (numberOf a ≡ 0 → ⊥) → after a w o ≡ o
@@ -35,6 +36,7 @@ refused-keeps ListTooLong w o h = refl
 refused-keeps (ListMalformed n) w o h = refl
 refused-keeps (ListTooLarge n) w o h = refl
 refused-keeps TooLong w o h = refl
+refused-keeps (OtherEncoding n) w o h = refl
 refused-keeps (NotChar n) w o h = refl
 refused-keeps (Doctype n) w o h = refl
 refused-keeps (Malformed n) w o h = refl
@@ -52,6 +54,7 @@ written-front ListTooLong w o h = absurd (omega arith)
 written-front (ListMalformed n) w o h = absurd (omega arith)
 written-front (ListTooLarge n) w o h = absurd (omega arith)
 written-front TooLong w o h = absurd (omega arith)
+written-front (OtherEncoding n) w o h = absurd (omega arith)
 written-front (NotChar n) w o h = absurd (omega arith)
 written-front (Doctype n) w o h = absurd (omega arith)
 written-front (Malformed n) w o h = absurd (omega arith)
@@ -70,6 +73,7 @@ third ListTooLong h = refl
 third (ListMalformed n) h = refl
 third (ListTooLarge n) h = refl
 third TooLong h = refl
+third (OtherEncoding n) h = refl
 third (NotChar n) h = refl
 third (Doctype n) h = refl
 third (Malformed n) h = refl

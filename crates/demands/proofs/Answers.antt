@@ -9,8 +9,9 @@ use native.Mathlib.Nat.{zero-add}
 use native.Mathlib.Omega.{arith}
 use borrow.Author.Tests.{ltb-true, ltb-false, lt-ltb, le-ltb}
 use lib.Dec.{ltb}
-use lib.ListN.{length, drop}
+use lib.ListN.{length, drop, length-drop}
 use Rattle.xml.specs.Forest.{Name, Forest}
+use Rattle.xml.proofs.Encoding.{other-rule}
 use Rattle.paths.specs.Path.{Path, printList}
 use Rattle.paths.specs.Answer.{Before, Says}
 use Rattle.paths.specs.Answer as list-says
@@ -18,7 +19,7 @@ use Rattle.paths.specs.Judge.{listAnswer, listPaths}
 use Rattle.paths.specs.declared.ListAnswer.{ListAnswer}
 use Rattle.paths.specs.declared.ListAnswer.the-variants as lists
 use Rattle.paths.proofs.Meaning.{says, says-only, paths-print, print-once}
-use Rattle.document.specs.Judge.{judgeOf}
+use Rattle.document.specs.Judge.{startOf, judgeOf}
 use Rattle.document.specs.declared.Why.{Why}
 use Rattle.document.specs.declared.Why.the-variants as why
 use Rattle.document.specs.declared.judge.Judged.{Judged}
@@ -29,14 +30,15 @@ use Rattle.trees.specs.Grown.{forestOf}
 use Rattle.trees.specs.Written.{cutOf, countOf}
 use Rattle.cutter.specs.Answer.{byList, byDocument, byRoom, answerOf, bytesAfter, numberOf, secondOf}
 use Rattle.cutter.specs.declared.Answer.{Answer}
-use Rattle.cutter.specs.declared.Answer.the-variants.{Written, ListTooLong, ListMalformed, ListTooLarge, TooLong, NotChar}
-use Rattle.cutter.specs.declared.Answer.the-variants.{Doctype, Malformed, TooLarge, Short}
+use Rattle.cutter.specs.declared.Answer.the-variants.{Written, ListTooLong, ListMalformed, ListTooLarge, TooLong}
+use Rattle.cutter.specs.declared.Answer.the-variants.{OtherEncoding, NotChar, Doctype, Malformed, TooLarge, Short}
 use Rattle.demands.specs.Elements.{elements, howMany}
 use Rattle.demands.specs.Judged.{Accepted, DocumentSays}
 use Rattle.demands.specs.Judged as document-says
 use Rattle.demands.specs.Rule.{Writes}
 use Rattle.demands.specs.Answers.{Counted, none, this, other, Cuts, AnswerSays, list-long, list-malformed, list-large, too-long}
-use Rattle.demands.specs.Answers.{not-char, doctype, malformed, too-large, short, written, BufferSays, on-written, on-refused, Placed}
+use Rattle.demands.specs.Answers.{other-encoding, not-char, doctype, malformed, too-large, short, written, BufferSays, on-written}
+use Rattle.demands.specs.Answers.{on-refused, Placed}
 use Rattle.demands.proofs.Answered.{refused, written as cut-stands}
 use Rattle.demands.proofs.Selected.{selected-iff, count-selected}
 use Rattle.demands.proofs.Accepted.{derived-forest}
@@ -127,6 +129,7 @@ says-answer list d room = by-list (listAnswer list) refl (says list)
         → AnswerSays list d room (byDocument j (byRoom room (cutOf list d) (countOf list d)))
     by-document p l judged.Sound q h = by-room p q (ltb room (length (cutOf list d))) refl
     by-document p l judged.TooLong q h = too-long l h
+    by-document p l (judged.OtherEncoding o) q h = other-encoding l h
     by-document p l (judged.NotChar o) q h = not-char l h
     by-document p l (judged.AtFault why.Doctype o) q h = doctype l h
     by-document p l (judged.AtFault why.Malformed o) q h = malformed l h
@@ -146,6 +149,8 @@ only-answer list d room ListTooLong (list-long l) = rw (says-only list lists.Too
 only-answer list d room (ListMalformed n) (list-malformed l) = rw (says-only list (lists.Malformed n) l) refl
 only-answer list d room (ListTooLarge n) (list-large l) = rw (says-only list (lists.TooLarge n) l) refl
 only-answer list d room TooLong (too-long l h) = rw (says-only list lists.Sound l, judge-only d judged.TooLong h) refl
+only-answer list d room (OtherEncoding o) (other-encoding l h) =
+    rw (says-only list lists.Sound l, judge-only d (judged.OtherEncoding o) h) refl
 only-answer list d room (NotChar o) (not-char l h) = rw (says-only list lists.Sound l, judge-only d (judged.NotChar o) h) refl
 only-answer list d room (Doctype o) (doctype l h) =
     rw (says-only list lists.Sound l, judge-only d (judged.AtFault why.Doctype o) h) refl
@@ -185,6 +190,7 @@ module _ (list d o : List ℕ) where
       go (ListMalformed n) e h = kept (ListMalformed n) e h (λ z. omega arith)
       go (ListTooLarge n) e h = kept (ListTooLarge n) e h (λ z. omega arith)
       go TooLong e h = kept TooLong e h (λ z. omega arith)
+      go (OtherEncoding n) e h = kept (OtherEncoding n) e h (λ z. omega arith)
       go (NotChar n) e h = kept (NotChar n) e h (λ z. omega arith)
       go (Doctype n) e h = kept (Doctype n) e h (λ z. omega arith)
       go (Malformed n) e h = kept (Malformed n) e h (λ z. omega arith)
@@ -208,16 +214,22 @@ list-large-line (list-says.large l ps t b few large) = (omega arith, omega arith
 list-large-line (list-says.past l ps t b full some) = (omega arith, omega arith)
 
 char-inside : {d : List ℕ} {o : ℕ} → DocumentSays d (judged.NotChar o) → o < length d
-char-inside (document-says.not-char l h) = h .0
+char-inside (document-says.not-char l n h) = h .0
+
+-- a declaration is not empty
+other-inside : {d : List ℕ} {o : ℕ} → DocumentSays d (judged.OtherEncoding o) → o < length d
+other-inside {d} (document-says.other-encoding l n) =
+    let (t, (m, e, x)) = other-rule (drop (startOf d) d) .0 n in
+    omega (arith, length-drop (startOf d) d, ap length e)
 
 fault-inside : {d : List ℕ} {w : Why} {o : ℕ} → DocumentSays d (judged.AtFault w o) → o ≤ length d
-fault-inside (document-says.at-fault l c x) = inside c x
+fault-inside (document-says.at-fault l n c x) = inside c x
 
 -- only 7 is answered where the items run out
 fault-before : {d : List ℕ} {w : Why} {o : ℕ} → (w ≡ why.Malformed → ⊥) → DocumentSays d (judged.AtFault w o) → o < length d
-fault-before {d} {w} {o} n (document-says.at-fault l c x) =
+fault-before {d} {w} {o} n (document-says.at-fault l k c x) =
     let z = inside c x in
-    let k : o ≡ length d → ⊥ = λ e. n (runs-out-seven c x e .1) in
+    let r : o ≡ length d → ⊥ = λ e. n (runs-out-seven c x e .1) in
     omega arith
 
 -- "a number and a place": a line, an offset, or the length needed
@@ -229,6 +241,7 @@ placed list d room = go (answerOf list d room) (says-answer list d room)
     go (ListMalformed n) (list-malformed l) = list-malformed-line l
     go (ListTooLarge n) (list-large l) = list-large-line l
     go TooLong h = tt
+    go (OtherEncoding o) (other-encoding l h) = other-inside h
     go (NotChar o) (not-char l h) = char-inside h
     go (Doctype o) (doctype l h) = fault-before (λ e. false≢true cc) h
     go (Malformed o) (malformed l h) = fault-inside h

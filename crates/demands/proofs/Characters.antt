@@ -5,7 +5,8 @@ use mathlib.Core.Bool.{Bool}
 use mathlib.Core.List.{List}
 use Prim.Native.Nat.{ℕ}
 use Rattle.xml.specs.Notation.{Rule, Reads, Star, done, text, opt}
-use Rattle.xml.specs.Productions.{Char, S, Name as NameRule, Eq, AttValue, Reference, CharData, Comment, PI, CDSect, XMLDecl}
+use Rattle.xml.specs.Productions.{Char, S, Name as NameRule, Eq, AttValue, Reference, CharData, Comment, PI, CDSect}
+use Rattle.xml.specs.Encoding.{Utf8Decl}
 use Rattle.xml.specs.Forest.{Name, Tag, Forest}
 use Rattle.xml.specs.Document as doc
 use Rattle.xml.specs.Document.{Attributes, Opens, Closes, Item, Content, After, Rooted, Document}
@@ -75,5 +76,5 @@ module _ {Fits : ℕ → Name → List Name → Type 0} where
       star-then (opens-chars {end = text ">"} refl o) (star-then (content-chars i) (star-then (closes-chars x) (after-chars a)))
 
   pub document-chars : {s : List ℕ} {f : Forest} → Document Fits s f → Chars s
-  document-chars (doc.declared i r) = item-then {r = XMLDecl} declaration-allowed i (rooted-chars r)
+  document-chars (doc.declared i r) = item-then {r = Utf8Decl} declaration-allowed i (rooted-chars r)
   document-chars (doc.bare r) = rooted-chars r

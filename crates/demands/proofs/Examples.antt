@@ -22,7 +22,7 @@ use Rattle.readers.specs.Plain.{isMark, textOf, commentOf}
 use Rattle.readers.specs.Value.{isDecimal, isHexadecimal, endsNumber, digitsOf, charRefOf, entityRefOf, referenceOf}
 use Rattle.readers.specs.Value.{pieceOf, quotedOf, valueOf}
 use Rattle.readers.specs.Named.{before, targetOf, instructionEnd, instructionOf, eqOf, pieceNamed, attributeOf, gather, tagOf}
-use Rattle.readers.specs.Named.{endTagOf, smallTag}
+use Rattle.readers.specs.Named.{endTagOf, smallTag, otherEncoding}
 use Rattle.tags.specs.Tag.{tagAt, endTagAt}
 use Rattle.items.specs.Item.{declares, kindOf, itemAt}
 use Rattle.document.specs.Place.{blank}
@@ -124,7 +124,7 @@ abbrev Holds : List Row → Type 0
 Holds rs = map answered rs ≡ map (λ r. r .outcome) rs
 
 pub examples : Holds rows
-unfolding rows answerOf bytesAfter judgeOf scanned scanFrom startOf blank checkOf spaceEnd cutOf countOf verdicts verdictOf
+unfolding rows answerOf bytesAfter judgeOf otherEncoding scanned scanFrom startOf blank checkOf spaceEnd cutOf countOf verdicts verdictOf
     forestOf tokensOf tokensFrom itemAt kindOf declares endsAt tagAt endTagAt tagOf endTagOf pieceNamed before gather
     attributeOf smallTag textOf eqOf spaceOf skip valueOf quotedOf many pieceOf isMark referenceOf entityRefOf charRefOf
     isChar nameOf expect seek starts run character guess number utf8 isScalar isSpace isName isNameStart isNameMore listPaths
@@ -132,7 +132,7 @@ unfolding rows answerOf bytesAfter judgeOf scanned scanFrom startOf blank checkO
 examples = refl
 
 pub others : Holds more
-unfolding more answerOf bytesAfter judgeOf scanned scanFrom startOf blank checkOf spaceEnd cutOf countOf verdicts verdictOf
+unfolding more answerOf bytesAfter judgeOf otherEncoding scanned scanFrom startOf blank checkOf spaceEnd cutOf countOf verdicts verdictOf
     forestOf tokensOf tokensFrom itemAt kindOf declares endsAt tagAt endTagAt tagOf endTagOf pieceNamed before gather
     attributeOf smallTag textOf commentOf targetOf instructionEnd instructionOf eqOf spaceOf skip valueOf quotedOf many
     pieceOf isMark referenceOf entityRefOf charRefOf isChar nameOf expect seek starts run character guess number utf8

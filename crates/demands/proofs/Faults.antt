@@ -1,5 +1,5 @@
 -- "The first item at fault decides": 6 to 8 are answered exactly at the first item at fault, all before which stand in their places; 5
--- exactly where the first sequence begins that is no character. In order: what is left after an item; the scan, from its answer to the
+-- exactly where the first sequence begins that is no character; 10 exactly where another encoding is named. In order: what is left after an item; the scan, from its answer to the
 -- first fault and back; where a first fault lies; the answer on a document, both ways.
 use mathlib.Core.Path.{_≡_, refl, sym, ap, _∙_}
 use mathlib.Core.Bool.{Bool, true, false, cond, false≢true}
@@ -11,6 +11,7 @@ use borrow.Author.Tests.{ltb-true, ltb-false, lt-ltb, le-ltb}
 use lib.Dec.{ltb}
 use lib.ListN.{length, drop, length-drop}
 use Rattle.xml.specs.Productions.{XMLDecl, PI, Comment as CommentRule, CDSect, Reference as ReferenceRule, CharData}
+use Rattle.xml.specs.Encoding.{NamesOther}
 use Rattle.chars.specs.Check.{checkOf}
 use Rattle.chars.specs.Meaning.{CheckSays}
 use Rattle.chars.specs.declared.whole.Checked.{Checked}
@@ -19,6 +20,8 @@ use Rattle.chars.proofs.Meaning.{check-says, check-only}
 use Rattle.readers.specs.Meaning.{Chars}
 use Rattle.readers.proofs.Combine.{chars-left}
 use Rattle.readers.proofs.Follow.{ascii}
+use Rattle.readers.specs.Named.{otherEncoding}
+use Rattle.readers.proofs.Encoding.{other-iff}
 use Rattle.tags.specs.declared.Item.{Item}
 use Rattle.tags.specs.declared.Item.the-variants.{Declaration, Instruction, Comment, Section, Reference, Text, Start, Finish}
 use Rattle.tags.specs.declared.Item.the-variants.{Doctype, Malformed, TooLarge, Nothing}
@@ -29,20 +32,20 @@ use Rattle.items.proofs.Insides.{item-inside}
 use Rattle.items.proofs.Meaning.{item-says, item-only}
 use Rattle.items.proofs.Telling.{item-none}
 use Rattle.document.specs.Place.{Opened, placement, afterItem, endOf}
-use Rattle.document.specs.Judge.{startOf, nothing, onward, scanFrom, scanned, byChars, judgeOf}
+use Rattle.document.specs.Judge.{startOf, nothing, onward, scanFrom, scanned, byChars, byEncoding, judgeOf}
 use Rattle.document.specs.declared.Placement.{Placement}
 use Rattle.document.specs.declared.Placement.the-variants.{Fine, Fault, Over}
 use Rattle.document.specs.declared.Why.{Why}
 use Rattle.document.specs.declared.Why.the-variants.{Malformed as Ill}
 use Rattle.document.specs.declared.judge.Judged.{Judged}
-use Rattle.document.specs.declared.judge.Judged.the-variants.{Sound, TooLong, NotChar, AtFault}
+use Rattle.document.specs.declared.judge.Judged.the-variants.{Sound, TooLong, OtherEncoding, NotChar, AtFault}
 use Rattle.document.proofs.Judging.{fine-ahead}
 use Rattle.trees.proofs.Passes.{over-fine}
 use Rattle.trees.proofs.Over.{nothing-left}
 use Rattle.demands.specs.Position.{Within, PlaceSays}
 use Rattle.demands.specs.Reached.{Reaches, here, next, FirstFault}
-use Rattle.demands.specs.Judged.{DocumentSays, too-long, not-char, at-fault, sound}
-use Rattle.demands.proofs.First.{start-inside, start-chars, scanned-document}
+use Rattle.demands.specs.Judged.{DocumentSays, too-long, other-encoding, not-char, at-fault, sound}
+use Rattle.demands.proofs.First.{start-inside, start-chars, named-none, none-named, scanned-document}
 use Rattle.demands.proofs.Accepted.{derived-sound}
 use Rattle.demands.proofs.Position.{place-says, place-only}
 use Rattle.demands.proofs.Tagged.{start-chars as tag-chars, finish-chars}
@@ -223,36 +226,58 @@ pub judge-says : (d : List ℕ) → DocumentSays d (judgeOf d)
 unfolding judgeOf
 judge-says d = size (ltb 16777216 (length d)) refl
   where
-    items : length d ≤ 16777216 → Chars d → (scanned d ≡ Sound) ⊎ ((why : Why) × (o : ℕ) × (scanned d ≡ AtFault why o))
+    items : length d ≤ 16777216 → (NamesOther (drop (startOf d) d) → ⊥) → Chars d
+        → (scanned d ≡ Sound) ⊎ ((why : Why) × (o : ℕ) × (scanned d ≡ AtFault why o))
         → DocumentSays d (scanned d)
-    items l c (inl e) = rw e (sound (record { size = l; chars = c; derived = scanned-document d c e }))
-    items l c (inr (why, o, e)) = rw e (at-fault l c (scanned-fault d c why o e))
+    items l n c (inl e) = rw e (sound (record { size = l; chars = c; derived = scanned-document d n c e }))
+    items l n c (inr (why, o, e)) = rw e (at-fault l n c (scanned-fault d c why o e))
 
-    chars : length d ≤ 16777216 → (r : Checked) → CheckSays d r → DocumentSays d (byChars r (scanned d))
-    chars l All c = items l c (some-scanned d)
-    chars l (BadAt o) h = not-char l h
+    chars : length d ≤ 16777216 → (NamesOther (drop (startOf d) d) → ⊥) → (r : Checked) → CheckSays d r
+        → DocumentSays d (byChars r (scanned d))
+    chars l n All c = items l n c (some-scanned d)
+    chars l n (BadAt o) h = not-char l n h
 
-    size : (b : Bool) → ltb 16777216 (length d) ≡ b → DocumentSays d (cond b TooLong (byChars (checkOf d) (scanned d)))
+    encoding : length d ≤ 16777216 → (b : Bool) → otherEncoding (drop (startOf d) d) ≡ b
+        → DocumentSays d (cond b (OtherEncoding (startOf d)) (byChars (checkOf d) (scanned d)))
+    encoding l true e = other-encoding l (other-iff (drop (startOf d) d) .0 e)
+    encoding l false e = chars l (named-none (drop (startOf d) d) e) (checkOf d) (check-says d)
+
+    size : (b : Bool) → ltb 16777216 (length d) ≡ b → DocumentSays d (cond b TooLong (byEncoding d (byChars (checkOf d) (scanned d))))
     size true q = too-long (ltb-true 16777216 (length d) q)
-    size false q = chars (ltb-false 16777216 (length d) q) (checkOf d) (check-says d)
+    size false q = encoding (ltb-false 16777216 (length d) q) (otherEncoding (drop (startOf d) d)) refl
 
 -- and no other answer does
 pub judge-only : (d : List ℕ) (j : Judged) → DocumentSays d j → judgeOf d ≡ j
 unfolding judgeOf
 judge-only d TooLong (too-long l) = rw (lt-ltb 16777216 (length d) l) refl
-judge-only d (NotChar o) (not-char l h) = rw (le-ltb 16777216 (length d) l, ← check-only d (BadAt o) h) refl
-judge-only d (AtFault why o) (at-fault l c x) = rw (le-ltb 16777216 (length d) l, ← check-only d All c) (fault-scanned d c x)
+judge-only d (OtherEncoding o) (other-encoding l n) = rw (le-ltb 16777216 (length d) l, other-iff (drop (startOf d) d) .1 n) refl
+judge-only d (NotChar o) (not-char l n h) =
+    rw (le-ltb 16777216 (length d) l, none-named (drop (startOf d) d) n, ← check-only d (BadAt o) h) refl
+judge-only d (AtFault why o) (at-fault l n c x) =
+    rw (le-ltb 16777216 (length d) l, none-named (drop (startOf d) d) n, ← check-only d All c) (fault-scanned d c x)
 judge-only d Sound (sound {f} x) = derived-sound d (x .size) (x .chars) (x .derived)
+
+-- "given exactly when the first item has the right shape of a declaration and names another encoding", in a document that is not too long
+other-said : {d : List ℕ} {o : ℕ} → DocumentSays d (OtherEncoding o)
+    → (length d ≤ 16777216) × (o ≡ startOf d) × NamesOther (drop (startOf d) d)
+other-said (other-encoding l n) = (l, refl, n)
+
+pub other-exactly : (d : List ℕ) (o : ℕ)
+    → judgeOf d ≡ OtherEncoding o ↔ ((length d ≤ 16777216) × (o ≡ startOf d) × NamesOther (drop (startOf d) d))
+other-exactly d o = (
+  (λ e. other-said (rw e at (judge-says d))),
+  (λ (l, e, n). rw e (judge-only d (OtherEncoding (startOf d)) (other-encoding l n))),
+)
 
 -- 6, 7 and 8; and 5
 pub fault-first : (d : List ℕ) (why : Why) (o : ℕ) → judgeOf d ≡ AtFault why o → FirstFault d why o
 fault-first d why o e = go (rw e at (judge-says d))
   where
     go : DocumentSays d (AtFault why o) → FirstFault d why o
-    go (at-fault l c x) = x
+    go (at-fault l n c x) = x
 
 pub char-first : (d : List ℕ) (o : ℕ) → judgeOf d ≡ NotChar o → CheckSays d (BadAt o)
 char-first d o e = go (rw e at (judge-says d))
   where
     go : DocumentSays d (NotChar o) → CheckSays d (BadAt o)
-    go (not-char l h) = h
+    go (not-char l n h) = h

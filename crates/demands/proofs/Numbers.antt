@@ -1,11 +1,11 @@
 -- The numbers that the crates below give their answers are those of the cut: for a list at fault those of paths, for a document at fault
--- those of document, for a bad sequence those of chars. So no table of numbers stands beside document 01's.
+-- those of document, for a bad sequence, where no other encoding is named, those of chars. So no table of numbers stands beside document 01's.
 use mathlib.Core.Path.{_≡_, refl}
 use mathlib.Core.Bool.{Bool, true, false}
 use mathlib.Core.List.{List}
 use Prim.Native.Nat.{ℕ, _≤_}
 use borrow.Author.Tests.{le-ltb}
-use lib.ListN.{length}
+use lib.ListN.{length, drop}
 use Rattle.chars.specs.Check.{checkOf}
 use Rattle.chars.specs.Meaning as check
 use Rattle.chars.specs.declared.whole.Checked.{Checked}
@@ -15,7 +15,8 @@ use Rattle.paths.specs.Judge.{listAnswer}
 use Rattle.paths.specs.declared.ListAnswer.{ListAnswer}
 use Rattle.paths.specs.declared.ListAnswer.the-variants as lists
 use Rattle.document.specs.Judge as document
-use Rattle.document.specs.Judge.{byChars, scanned, judgeOf}
+use Rattle.readers.specs.Named.{otherEncoding}
+use Rattle.document.specs.Judge.{startOf, byChars, scanned, judgeOf}
 use Rattle.document.specs.declared.Why.the-variants as why
 use Rattle.document.specs.declared.judge.Judged.{Judged}
 use Rattle.document.specs.declared.judge.Judged.the-variants as judged
@@ -36,6 +37,7 @@ document-numbered : (j : Judged) (a : Answer) → (j ≡ judged.Sound → ⊥)
     → Numbered (byDocument j a) (document.numberOf j) (document.secondOf j)
 document-numbered judged.Sound a n = absurd (n refl)
 document-numbered judged.TooLong a n = (refl, refl)
+document-numbered (judged.OtherEncoding o) a n = (refl, refl)
 document-numbered (judged.NotChar o) a n = (refl, refl)
 document-numbered (judged.AtFault why.Doctype o) a n = (refl, refl)
 document-numbered (judged.AtFault why.Malformed o) a n = (refl, refl)
@@ -57,7 +59,8 @@ module _ (l d : List ℕ) (room : ℕ) where
   unfolding answerOf
   document-numbers e n = rw e (document-numbered (judgeOf d) _ n)
 
-  pub char-numbers : listAnswer l ≡ lists.Sound → length d ≤ 16777216 → (checkOf d ≡ checked.All → ⊥)
+  pub char-numbers : listAnswer l ≡ lists.Sound → length d ≤ 16777216 → otherEncoding (drop (startOf d) d) ≡ false
+      → (checkOf d ≡ checked.All → ⊥)
       → Numbered (answerOf l d room) (check.numberOf (checkOf d)) (check.secondOf (checkOf d))
   unfolding answerOf judgeOf
-  char-numbers e s n = rw (e, le-ltb 16777216 (length d) s) (char-numbered (checkOf d) (scanned d) _ n)
+  char-numbers e s o n = rw (e, le-ltb 16777216 (length d) s, o) (char-numbered (checkOf d) (scanned d) _ n)

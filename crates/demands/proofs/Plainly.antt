@@ -28,13 +28,13 @@ use Rattle.readers.specs.Plain.{isMark, textOf, commentOf, sectionOf}
 use Rattle.readers.specs.Value.{isDecimal, isHexadecimal, endsNumber, digitsOf, charRefOf, entityRefOf, referenceOf}
 use Rattle.readers.specs.Value.{pieceOf, quotedOf, valueOf}
 use Rattle.readers.specs.Named.{before, targetOf, instructionEnd, instructionOf, eqOf, versionOf, isLetter, isEncoding, encodingOf}
-use Rattle.readers.specs.Named.{yesOrNo, declarationOf, pieceNamed, attributeOf, gather, tagOf, endTagOf, smallTag}
+use Rattle.readers.specs.Named.{yesOrNo, declarationOf, otherOf, otherEncoding, pieceNamed, attributeOf, gather, tagOf, endTagOf, smallTag}
 use Rattle.tags.specs.Tag.{tagAt, endTagAt}
 use Rattle.items.specs.Item.{declares, kindOf, itemAt}
 use Rattle.document.specs.Place.{blank}
 use Rattle.document.specs.Judge.{startOf, scanFrom, scanned, judgeOf}
 use Rattle.document.specs.declared.judge.Judged.{Judged}
-use Rattle.document.specs.declared.judge.Judged.the-variants.{Sound, TooLong, NotChar, AtFault}
+use Rattle.document.specs.declared.judge.Judged.the-variants.{Sound, TooLong, OtherEncoding, NotChar, AtFault}
 use Rattle.demands.proofs.Accepted.{accepted}
 use Rattle.demands.proofs.Characters.{document-chars}
 
@@ -66,11 +66,13 @@ derived =
     ∷ bytes "<g>]]&gt; ]] ></g>"
     ∷ bytes " \n<g/>\t \n"
     ∷ bytes "<?xml version='1.0'?>\n<!-- a -->\n\n<?p?> <g/><!-- b --><?q r?> "
+    ∷ bytes "<?xml version='1.0' encoding='utf-8'?><g/>"
+    ∷ bytes "<?xml version=\"1.1\" encoding=\"UTF-8\" standalone='yes' ?><g/>"
     ∷ nested 64
     ∷ []
 
--- no root, two roots, text outside it; tags that do not match, or are not closed; a declaration that is not first; an attribute name
--- twice; `]]>` and `<` in CharData; a document type; depth 65
+-- no root, two roots, text outside it; tags that do not match, or are not closed; a declaration that is not first, or names
+-- another encoding; an attribute name twice; `]]>` and `<` in CharData; a document type; depth 65
 pub underived : List (List ℕ)
 underived =
     bytes ""
@@ -84,6 +86,8 @@ underived =
     ∷ bytes "<g></h>"
     ∷ bytes "<g><v></g></v>"
     ∷ bytes " <?xml version='1.0'?><g/>"
+    ∷ bytes "<?xml version='1.0' encoding='ISO-8859-1'?><g/>"
+    ∷ bytes "<?xml version='1.0' encoding='UTF8'?><g/>"
     ∷ bytes "<g a='1' a='2'/>"
     ∷ bytes "<g>]]></g>"
     ∷ bytes "<g>a<</g>"
@@ -96,6 +100,7 @@ underived =
 abbrev isSound : Judged → Bool
 isSound Sound = true
 isSound TooLong = false
+isSound (OtherEncoding o) = false
 isSound (NotChar o) = false
 isSound (AtFault w o) = false
 
@@ -110,7 +115,7 @@ sorted false d = not (isSound (judgeOf d)) && (eqb (startOf d) 0 && leb (length 
 
 tables-computed : every (sorted true) derived && every (sorted false) underived ≡ true
 unfolding derived underived judgeOf scanned scanFrom startOf blank checkOf spaceEnd itemAt kindOf declares endsAt tagAt endTagAt tagOf
-    endTagOf pieceNamed before gather attributeOf smallTag instructionOf instructionEnd targetOf declarationOf versionOf encodingOf yesOrNo
+    endTagOf pieceNamed before gather attributeOf smallTag instructionOf instructionEnd targetOf declarationOf versionOf encodingOf otherOf otherEncoding yesOrNo
     textOf commentOf sectionOf eqOf spaceOf skip valueOf quotedOf many pieceOf isMark referenceOf entityRefOf charRefOf digitsOf endsNumber
     digitOf isDecimal isHexadecimal isLetter isEncoding isChar nameOf expect seek starts run character guess number utf8 isScalar isSpace
     isName isNameStart isNameMore
@@ -121,6 +126,7 @@ tables-computed = refl
 sound-is : (j : Judged) → isSound j ≡ true → j ≡ Sound
 sound-is Sound e = refl
 sound-is TooLong e = absurd (false≢true e)
+sound-is (OtherEncoding o) e = absurd (false≢true e)
 sound-is (NotChar o) e = absurd (false≢true e)
 sound-is (AtFault w o) e = absurd (false≢true e)
 

@@ -8,7 +8,8 @@ use Prim.Native.String.{String}
 use Rattle.xml.specs.Range.{Range, _–_, _to_, only, sign, within}
 use Rattle.xml.specs.Notation.{_∣_, text}
 use Rattle.xml.specs.Productions.{isChar, isSpace, isNameStart, isNameMore, isName, except, S, Name, Eq, AttValue, Reference, CharData}
-use Rattle.xml.specs.Productions.{Comment, PI, CDSect, VersionNum, VersionInfo, EncName, EncodingDecl, SDDecl, XMLDecl}
+use Rattle.xml.specs.Productions.{Comment, PI, CDSect, VersionNum, VersionInfo, SDDecl}
+use Rattle.xml.specs.Encoding.{EncodingBy, Utf8Name, Utf8Decl}
 use Rattle.xml.proofs.Bools.{and-left, or-either}
 use Rattle.demands.proofs.Allowed.{allCovered, within-covered, OfChars, Allowed}
 
@@ -56,12 +57,6 @@ digit-chars = within-chars ("0" to "9" ∷ []) refl
 hex-chars : OfChars (within ("0" to "9" ∷ "a" to "f" ∷ "A" to "F" ∷ []))
 hex-chars = within-chars ("0" to "9" ∷ "a" to "f" ∷ "A" to "F" ∷ []) refl
 
-letter-chars : OfChars (within ("A" to "Z" ∷ "a" to "z" ∷ []))
-letter-chars = within-chars ("A" to "Z" ∷ "a" to "z" ∷ []) refl
-
-encoding-chars : OfChars (within ("A" to "Z" ∷ "a" to "z" ∷ "0" to "9" ∷ sign "." ∷ sign "_" ∷ []))
-encoding-chars = within-chars ("A" to "Z" ∷ "a" to "z" ∷ "0" to "9" ∷ sign "." ∷ sign "_" ∷ []) refl
-
 any-chars : OfChars isChar
 any-chars c h = h
 
@@ -101,9 +96,9 @@ version-allowed =
     let number : Allowed VersionNum = (refl, (digit-chars, digit-chars)) in
     (space-allowed, (refl, (eq-allowed, ((refl, (number, refl)), (refl, (number, refl))))))
 
-encoding-allowed : Allowed EncodingDecl
+encoding-allowed : Allowed (EncodingBy Utf8Name)
 encoding-allowed =
-    let name : Allowed EncName = (letter-chars, (encoding-chars, refl)) in
+    let name : Allowed Utf8Name = ((refl, refl), ((refl, refl), ((refl, refl), refl))) in
     (space-allowed, (refl, (eq-allowed, ((refl, (name, refl)), (refl, (name, refl))))))
 
 standalone-allowed : Allowed SDDecl
@@ -111,6 +106,6 @@ standalone-allowed =
     let answer : Allowed (text "yes" ∣ text "no") = (refl, refl) in
     (space-allowed, (refl, (eq-allowed, ((refl, (answer, refl)), (refl, (answer, refl))))))
 
-pub declaration-allowed : Allowed XMLDecl
+pub declaration-allowed : Allowed Utf8Decl
 declaration-allowed =
     (refl, (version-allowed, ((refl, encoding-allowed), ((refl, standalone-allowed), ((refl, space-allowed), refl)))))

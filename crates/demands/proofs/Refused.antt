@@ -1,5 +1,6 @@
--- Demand 2, of the answer: by a list that is accepted, the answer is not one of 4 to 8, and so is 0 or 9, exactly when the document has at
--- most 16,777,216 bytes, is UTF-8 of Chars, and is derived by production [1] within the sizes.
+-- Demand 2, of the answer: by a list that is accepted, the answer is not one of 4 to 8 and not 10, and so is 0 or 9, exactly when the
+-- document has at most 16,777,216 bytes, is UTF-8 of Chars, and is derived by production [1] within the sizes; a declaration that [1] has
+-- names no encoding but UTF-8.
 use mathlib.Core.Path.{_≡_, refl, sym, ap, _∙_}
 use mathlib.Core.Bool.{Bool, true, false, cond}
 use mathlib.Core.Logic.{_↔_, _⊎_, inl, inr}
@@ -16,7 +17,7 @@ use Rattle.readers.specs.Meaning.{Chars}
 use Rattle.document.specs.Judge.{startOf, judgeOf}
 use Rattle.document.specs.declared.Why.the-variants as why
 use Rattle.document.specs.declared.judge.Judged.{Judged}
-use Rattle.document.specs.declared.judge.Judged.the-variants.{Sound, TooLong, NotChar, AtFault}
+use Rattle.document.specs.declared.judge.Judged.the-variants.{Sound, TooLong, OtherEncoding, NotChar, AtFault}
 use Rattle.trees.specs.Written.{cutOf, countOf}
 use Rattle.cutter.specs.Answer.{byDocument, byRoom, answerOf, numberOf}
 use Rattle.cutter.specs.declared.Answer.{Answer}
@@ -38,6 +39,8 @@ judged-taken : (j : Judged) (a : Answer) → Taken (byDocument j a) → j ≡ So
 judged-taken Sound a t = refl
 judged-taken TooLong a (inl e) = absurd (omega arith)
 judged-taken TooLong a (inr e) = absurd (omega arith)
+judged-taken (OtherEncoding o) a (inl e) = absurd (omega arith)
+judged-taken (OtherEncoding o) a (inr e) = absurd (omega arith)
 judged-taken (NotChar o) a (inl e) = absurd (omega arith)
 judged-taken (NotChar o) a (inr e) = absurd (omega arith)
 judged-taken (AtFault why.Doctype o) a (inl e) = absurd (omega arith)

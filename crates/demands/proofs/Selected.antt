@@ -101,6 +101,7 @@ written-says list d room n k = go (listAnswer list) (judgeOf d) refl refl
         let z = by-room room (cutOf list d) (countOf list d) n k e in
         (p, q, z .0, z .1 ∙ count-selected list d, z .2)
     go lists.Sound judged.TooLong p q e = absurd (false≢true cc)
+    go lists.Sound (judged.OtherEncoding o) p q e = absurd (false≢true cc)
     go lists.Sound (judged.NotChar o) p q e = absurd (false≢true cc)
     go lists.Sound (judged.AtFault why.Doctype o) p q e = absurd (false≢true cc)
     go lists.Sound (judged.AtFault why.Malformed o) p q e = absurd (false≢true cc)

@@ -22,7 +22,7 @@ use Rattle.readers.specs.Plain.{isMark, textOf, commentOf}
 use Rattle.readers.specs.Value.{isDecimal, isHexadecimal, endsNumber, digitsOf, charRefOf, entityRefOf, referenceOf}
 use Rattle.readers.specs.Value.{pieceOf, quotedOf, valueOf}
 use Rattle.readers.specs.Named.{before, targetOf, instructionEnd, instructionOf, eqOf, pieceNamed, attributeOf, gather, tagOf}
-use Rattle.readers.specs.Named.{endTagOf, smallTag}
+use Rattle.readers.specs.Named.{endTagOf, smallTag, otherEncoding}
 use Rattle.tags.specs.Tag.{tagAt, endTagAt}
 use Rattle.items.specs.Item.{declares, kindOf, itemAt}
 use Rattle.document.specs.Place.{blank}
@@ -59,7 +59,7 @@ abbrev docB : List ℕ
 docB = bytes "<g><p><v/></p></g>"
 
 row-a : answerOf none docA 21 ≡ Written 7 0
-unfolding answerOf bytesAfter judgeOf scanned scanFrom startOf blank checkOf spaceEnd cutOf countOf verdicts verdictOf
+unfolding answerOf bytesAfter judgeOf otherEncoding scanned scanFrom startOf blank checkOf spaceEnd cutOf countOf verdicts verdictOf
     forestOf tokensOf tokensFrom itemAt kindOf declares endsAt tagAt endTagAt tagOf endTagOf pieceNamed before gather
     attributeOf smallTag textOf eqOf spaceOf skip valueOf quotedOf many pieceOf isMark referenceOf entityRefOf charRefOf
     isChar nameOf expect seek starts run character guess number utf8 isScalar isSpace isName isNameStart isNameMore listPaths
@@ -67,7 +67,7 @@ unfolding answerOf bytesAfter judgeOf scanned scanFrom startOf blank checkOf spa
 row-a = refl
 
 row-b : answerOf listB docB 21 ≡ Written 21 1
-unfolding answerOf bytesAfter judgeOf scanned scanFrom startOf blank checkOf spaceEnd cutOf countOf verdicts verdictOf
+unfolding answerOf bytesAfter judgeOf otherEncoding scanned scanFrom startOf blank checkOf spaceEnd cutOf countOf verdicts verdictOf
     forestOf tokensOf tokensFrom itemAt kindOf declares endsAt tagAt endTagAt tagOf endTagOf pieceNamed before gather
     attributeOf smallTag textOf eqOf spaceOf skip valueOf quotedOf many pieceOf isMark referenceOf entityRefOf charRefOf
     isChar nameOf expect seek starts run character guess number utf8 isScalar isSpace isName isNameStart isNameMore listPaths
@@ -75,7 +75,7 @@ unfolding answerOf bytesAfter judgeOf scanned scanFrom startOf blank checkOf spa
 row-b = refl
 
 bytes-a : bytesAfter none docA dots ≡ bytes "<g></g>" ++ replicate 14 46
-unfolding answerOf bytesAfter judgeOf scanned scanFrom startOf blank checkOf spaceEnd cutOf countOf verdicts verdictOf
+unfolding answerOf bytesAfter judgeOf otherEncoding scanned scanFrom startOf blank checkOf spaceEnd cutOf countOf verdicts verdictOf
     forestOf tokensOf tokensFrom itemAt kindOf declares endsAt tagAt endTagAt tagOf endTagOf pieceNamed before gather
     attributeOf smallTag textOf eqOf spaceOf skip valueOf quotedOf many pieceOf isMark referenceOf entityRefOf charRefOf
     isChar nameOf expect seek starts run character guess number utf8 isScalar isSpace isName isNameStart isNameMore listPaths
@@ -83,7 +83,7 @@ unfolding answerOf bytesAfter judgeOf scanned scanFrom startOf blank checkOf spa
 bytes-a = refl
 
 bytes-b : bytesAfter listB docB dots ≡ bytes "<g><p><v></v></p></g>"
-unfolding answerOf bytesAfter judgeOf scanned scanFrom startOf blank checkOf spaceEnd cutOf countOf verdicts verdictOf
+unfolding answerOf bytesAfter judgeOf otherEncoding scanned scanFrom startOf blank checkOf spaceEnd cutOf countOf verdicts verdictOf
     forestOf tokensOf tokensFrom itemAt kindOf declares endsAt tagAt endTagAt tagOf endTagOf pieceNamed before gather
     attributeOf smallTag textOf eqOf spaceOf skip valueOf quotedOf many pieceOf isMark referenceOf entityRefOf charRefOf
     isChar nameOf expect seek starts run character guess number utf8 isScalar isSpace isName isNameStart isNameMore listPaths

@@ -1,6 +1,6 @@
--- What each answer of a cut says, in document 01's words and order: "1; 2 and 3 by line; 4; 5; 6 to 8 by item; 9". In order: how many of
--- some things something holds of; what is cut; the answers; the buffer; the place of a refusal. proofs/Answers.antt shows that each call
--- has the one answer that is said.
+-- What each answer of a cut says, in the request's words and order: "1; 2 and 3 by line; 4; 5; 6 to 8 by item; 9", and 10 "stands between 4
+-- and 5". In order: how many of some things something holds of; what is cut; the answers; the buffer; the place of a refusal.
+-- proofs/Answers.antt shows that each call has the one answer that is said.
 use mathlib.Core.Path.{_≡_}
 use mathlib.Core.List.{List, [], _∷_, _++_}
 use Prim.Native.Nat.{ℕ, _+_, _≤_, _<_}
@@ -14,8 +14,8 @@ use Rattle.document.specs.declared.judge.Judged.the-variants as judged
 use Rattle.matcher.specs.Says.{BySome}
 use Rattle.cutter.specs.Answer.{numberOf}
 use Rattle.cutter.specs.declared.Answer.{Answer}
-use Rattle.cutter.specs.declared.Answer.the-variants.{Written, ListTooLong, ListMalformed, ListTooLarge, TooLong, NotChar}
-use Rattle.cutter.specs.declared.Answer.the-variants.{Doctype, Malformed, TooLarge, Short}
+use Rattle.cutter.specs.declared.Answer.the-variants.{Written, ListTooLong, ListMalformed, ListTooLarge, TooLong}
+use Rattle.cutter.specs.declared.Answer.the-variants.{OtherEncoding, NotChar, Doctype, Malformed, TooLarge, Short}
 use Rattle.demands.specs.Elements.{elements}
 use Rattle.demands.specs.Judged.{Accepted, DocumentSays}
 use Rattle.demands.specs.Rule.{Writes}
@@ -43,8 +43,9 @@ pub data AnswerSays (list d : List ℕ) (room : ℕ) : Answer → Type 0 where
   list-long : Says list lists.TooLong → AnswerSays list d room ListTooLong
   list-malformed : {line : ℕ} → Says list (lists.Malformed line) → AnswerSays list d room (ListMalformed line)
   list-large : {line : ℕ} → Says list (lists.TooLarge line) → AnswerSays list d room (ListTooLarge line)
-  -- "document too long"; "not UTF-8, or not a Char, anywhere"; "doctype; not well-formed; over a size"
+  -- "document too long"; "names another encoding"; "not UTF-8, or not a Char, anywhere"; "doctype; not well-formed; over a size"
   too-long : Says list lists.Sound → DocumentSays d judged.TooLong → AnswerSays list d room TooLong
+  other-encoding : {o : ℕ} → Says list lists.Sound → DocumentSays d (judged.OtherEncoding o) → AnswerSays list d room (OtherEncoding o)
   not-char : {o : ℕ} → Says list lists.Sound → DocumentSays d (judged.NotChar o) → AnswerSays list d room (NotChar o)
   doctype : {o : ℕ} → Says list lists.Sound → DocumentSays d (judged.AtFault why.Doctype o) → AnswerSays list d room (Doctype o)
   malformed : {o : ℕ} → Says list lists.Sound → DocumentSays d (judged.AtFault why.Malformed o) → AnswerSays list d room (Malformed o)
@@ -65,6 +66,7 @@ Placed d room ListTooLong = Unit {0}
 Placed d room (ListMalformed line) = (1 ≤ line) × (line ≤ 32)
 Placed d room (ListTooLarge line) = (1 ≤ line) × (line ≤ 33)
 Placed d room TooLong = Unit {0}
+Placed d room (OtherEncoding o) = o < length d
 Placed d room (NotChar o) = o < length d
 Placed d room (Doctype o) = o < length d
 Placed d room (Malformed o) = o ≤ length d
