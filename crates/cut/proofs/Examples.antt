@@ -22,6 +22,7 @@ use Rattle.readers.specs.Read.{expect, seek, skip, spaceOf, many}
 use Rattle.readers.specs.Plain.{isMark, textOf}
 use Rattle.readers.specs.Value.{charRefOf, entityRefOf, referenceOf, pieceOf, quotedOf, valueOf}
 use Rattle.readers.specs.Named.{before, eqOf, pieceNamed, attributeOf, gather, tagOf, endTagOf, smallTag}
+use Rattle.readers.specs.Named.{otherEncoding}
 use Rattle.tags.specs.Tag.{tagAt, endTagAt}
 use Rattle.items.specs.Item.{declares, kindOf, itemAt}
 use Rattle.document.specs.Place.{blank}
@@ -54,7 +55,7 @@ rows =
     ∷ []
 
 pub examples : map (λ r. printed (bytes (r .list)) (bytes (r .input))) rows ≡ map (λ r. bytes (r .prints)) rows
-unfolding rows printed decimal decimalBy answerOf judgeOf scanned scanFrom startOf blank checkOf spaceEnd cutOf countOf verdicts verdictOf
+unfolding rows printed decimal decimalBy answerOf judgeOf otherEncoding scanned scanFrom startOf blank checkOf spaceEnd cutOf countOf verdicts verdictOf
     forestOf tokensOf tokensFrom itemAt kindOf declares endsAt tagAt endTagAt tagOf endTagOf pieceNamed before gather
     attributeOf smallTag textOf eqOf spaceOf skip valueOf quotedOf many pieceOf isMark referenceOf entityRefOf charRefOf
     isChar nameOf expect seek starts run character guess number utf8 isScalar isSpace isName isNameStart isNameMore listPaths

@@ -1,5 +1,6 @@
 -- Document 01's examples a to l, one table under one statement: a list, a document and the room, and beside them the three numbers and what
--- is written, by document 01. antt computes the numbers, and the whole buffer after, from a buffer of dots. Then more of the same kind.
+-- is written, by document 01. antt computes the numbers, and the whole buffer after, from a buffer of dots. Then more of the same kind, and
+-- documents that name an encoding.
 use mathlib.Core.Path.{_≡_, refl}
 use mathlib.Core.List.{List, [], _∷_, _++_, map}
 use Prim.Native.Nat.{ℕ}
@@ -22,7 +23,7 @@ use Rattle.readers.specs.Plain.{isMark, textOf, commentOf}
 use Rattle.readers.specs.Value.{isDecimal, isHexadecimal, endsNumber, digitsOf, charRefOf, entityRefOf, referenceOf}
 use Rattle.readers.specs.Value.{pieceOf, quotedOf, valueOf}
 use Rattle.readers.specs.Named.{before, targetOf, instructionEnd, instructionOf, eqOf, pieceNamed, attributeOf, gather, tagOf}
-use Rattle.readers.specs.Named.{endTagOf, smallTag, otherEncoding}
+use Rattle.readers.specs.Named.{endTagOf, smallTag, versionOf, isLetter, isEncoding, encodingOf, yesOrNo, declarationOf, otherOf, otherEncoding}
 use Rattle.tags.specs.Tag.{tagAt, endTagAt}
 use Rattle.items.specs.Item.{declares, kindOf, itemAt}
 use Rattle.document.specs.Place.{blank}
@@ -115,6 +116,16 @@ more =
     ∷ ("//v #\n" of "<g>a<v >b<?p?></v >c</g >" gives "<g><v >b<?p?></v ></g>" and 1)
     ∷ []
 
+-- a declaration that says UTF-8 is not in the cut; 10 stands behind the list's numbers, and before 5 to 9
+pub encoded : List Row
+encoded =
+    ("//v\n" of "<?xml version='1.0' encoding='utf-8'?><g><v/></g>" gives "<g><v></v></g>" and 1)
+    ∷ ("//v\n" of "<?xml version='1.0'?><g><v/></g>" gives "<g><v></v></g>" and 1)
+    ∷ ("//v\n" of "<?xml version='1.0' encoding='ISO-8859-1'?><g><v/></g>" within 40 refused 10 at 0)
+    ∷ ("//v\n" of "<?xml version=\"1.0\" encoding=\"UTF-16\"?><!DOCTYPE g><g>" within 0 refused 10 at 0)
+    ∷ ("v\n" of "<?xml version='1.0' encoding='ISO-8859-1'?><g/>" within 40 refused 2 at 1)
+    ∷ []
+
 abbrev answered : Row → Outcome
 answered r =
     let a = answerOf (r .list) (r .doc) (r .room) in
@@ -139,3 +150,12 @@ unfolding more answerOf bytesAfter judgeOf otherEncoding scanned scanFrom startO
     isScalar isSpace isName isNameStart isNameMore listPaths listAnswer judge lines soundAt within lineAt steps readAll endAt
     stepAt testAt kindAt printStep printLine
 others = refl
+
+pub encodings : Holds encoded
+unfolding encoded answerOf bytesAfter judgeOf otherEncoding scanned scanFrom startOf blank checkOf spaceEnd cutOf countOf verdicts verdictOf
+    forestOf tokensOf tokensFrom itemAt kindOf declares endsAt tagAt endTagAt tagOf endTagOf pieceNamed before gather
+    attributeOf smallTag textOf declarationOf versionOf encodingOf otherOf yesOrNo isDecimal isLetter isEncoding targetOf instructionEnd instructionOf eqOf spaceOf skip valueOf quotedOf many
+    pieceOf isMark referenceOf entityRefOf charRefOf isChar nameOf expect seek starts run character guess number utf8
+    isScalar isSpace isName isNameStart isNameMore listPaths listAnswer judge lines soundAt within lineAt steps readAll endAt
+    stepAt testAt kindAt printStep printLine
+encodings = refl

@@ -1,5 +1,6 @@
 -- Worked examples of `judgeOf`, a table under one statement that antt computes: documents, and beside them the answers by document 01. In
--- order: sound ones; what stands outside the root; tags that do not match; document types; depth; characters; examples i and j.
+-- order: sound ones; what stands outside the root; tags that do not match; document types; depth; characters; examples i and j; encodings
+-- that are named.
 use mathlib.Core.Path.{_≡_, refl}
 use mathlib.Core.List.{List, [], _∷_, _++_}
 use Prim.Native.Nat.{ℕ, zero, suc}
@@ -18,14 +19,14 @@ use Rattle.readers.specs.Plain.{isMark, textOf, commentOf, sectionOf}
 use Rattle.readers.specs.Value.{isDecimal, isHexadecimal, endsNumber, digitsOf, charRefOf, entityRefOf, referenceOf}
 use Rattle.readers.specs.Value.{pieceOf, quotedOf, valueOf}
 use Rattle.readers.specs.Named.{before, targetOf, instructionEnd, instructionOf, eqOf, versionOf, isLetter, isEncoding, encodingOf}
-use Rattle.readers.specs.Named.{yesOrNo, declarationOf, pieceNamed, attributeOf, gather, tagOf, endTagOf, smallTag}
+use Rattle.readers.specs.Named.{yesOrNo, declarationOf, otherOf, otherEncoding, pieceNamed, attributeOf, gather, tagOf, endTagOf, smallTag}
 use Rattle.tags.specs.Tag.{tagAt, endTagAt}
 use Rattle.items.specs.Item.{declares, kindOf, itemAt}
 use Rattle.document.specs.Place.{blank}
 use Rattle.document.specs.Judge.{front, startOf, scanFrom, scanned, judgeOf}
 use Rattle.document.specs.declared.Why.the-variants.{Doctype, Malformed, TooLarge}
 use Rattle.document.specs.declared.judge.Judged.{Judged}
-use Rattle.document.specs.declared.judge.Judged.the-variants.{Sound, NotChar, AtFault}
+use Rattle.document.specs.declared.judge.Judged.the-variants.{Sound, OtherEncoding, NotChar, AtFault}
 
 infix 10 _gives_
 abbrev _gives_ : List ℕ → Judged → Row Judged
@@ -83,11 +84,37 @@ documents =
     ∷ (bytes "</g>" ++ 0x0 ∷ [] gives NotChar 4)
     -- examples i and j
     ∷ ("<g><v></g>" is AtFault Malformed 6)
+    -- "a declaration without an encoding, or one that says UTF-8 with ASCII letter case ignored"
+    ∷ ("<?xml version='1.0' standalone='yes'?><g/>" is Sound)
+    ∷ ("<?xml version='1.0' encoding='UTF-8'?><g/>" is Sound)
+    ∷ ("<?xml version=\"1.0\" encoding=\"utf-8\" standalone='no' ?><g/>" is Sound)
+    ∷ ("<?xml version='1.1' encoding='Utf-8'?><g/>" is Sound)
+    ∷ (front ++ bytes "<?xml version='1.0' encoding='uTF-8'?><g/>" gives Sound)
+    -- "names another encoding", behind either quote, with `standalone` and behind the three bytes, whose offset counts
+    ∷ ("<?xml version='1.0' encoding='ISO-8859-1'?><g/>" is OtherEncoding 0)
+    ∷ ("<?xml version=\"1.0\" encoding=\"ISO-8859-1\" standalone='yes'?><g/>" is OtherEncoding 0)
+    ∷ (front ++ bytes "<?xml version='1.0' encoding='ISO-8859-1'?><g/>" gives OtherEncoding 3)
+    ∷ ("<?xml version='1.0' encoding='UTF8'?><g/>" is OtherEncoding 0)
+    ∷ ("<?xml version='1.0' encoding='UTF'?><g/>" is OtherEncoding 0)
+    ∷ ("<?xml version='1.0' encoding='UTF-8x'?><g/>" is OtherEncoding 0)
+    -- 10 whatever stands behind it: bytes that read as UTF-8, bytes that do not, a document type, nothing
+    ∷ (bytes "<?xml version='1.0' encoding='ISO-8859-1'?><g>" ++ 0xC3 ∷ 0xA9 ∷ bytes "</g>" gives OtherEncoding 0)
+    ∷ (bytes "<?xml version='1.0' encoding='ISO-8859-1'?><g>" ++ 0xE9 ∷ bytes "</g>" gives OtherEncoding 0)
+    ∷ ("<?xml version='1.0' encoding='ISO-8859-1'?><!DOCTYPE g>" is OtherEncoding 0)
+    ∷ ("<?xml version='1.0' encoding='ISO-8859-1'?>" is OtherEncoding 0)
+    -- a bad byte inside breaks the shape; so does less than [23]; a declaration that is not first is none
+    ∷ (bytes "<?xml version='1.0' encoding='ISO-8859" ++ 0xE9 ∷ bytes "'?><g/>" gives NotChar 38)
+    ∷ ("<?xml encoding='ISO-8859-1'?><g/>" is AtFault Malformed 0)
+    ∷ ("<?xml version='1.0' encoding='ISO-8859-1'>" is AtFault Malformed 0)
+    ∷ ("<?xml version='1.0' encoding=''?><g/>" is AtFault Malformed 0)
+    ∷ ("<?xml version='1.0' standalone='yes' encoding='ISO-8859-1'?><g/>" is AtFault Malformed 0)
+    ∷ (" <?xml version='1.0' encoding='ISO-8859-1'?><g/>" is AtFault Malformed 1)
+    ∷ ("<g/><?xml version='1.0' encoding='ISO-8859-1'?>" is AtFault Malformed 4)
     ∷ []
 
 pub documents-computed : answers (λ d k. judgeOf d) documents ≡ expected documents
 unfolding documents judgeOf scanned scanFrom startOf blank checkOf spaceEnd itemAt kindOf declares endsAt tagAt endTagAt tagOf endTagOf
-    pieceNamed before gather attributeOf smallTag instructionOf instructionEnd targetOf declarationOf versionOf encodingOf yesOrNo textOf
+    pieceNamed before gather attributeOf smallTag instructionOf instructionEnd targetOf declarationOf versionOf encodingOf otherOf otherEncoding yesOrNo textOf
     commentOf sectionOf eqOf spaceOf skip valueOf quotedOf many pieceOf isMark referenceOf entityRefOf charRefOf digitsOf endsNumber digitOf
     isDecimal isHexadecimal isLetter isEncoding isChar nameOf expect seek starts run character guess number utf8 isScalar isSpace isName
     isNameStart isNameMore
