@@ -55,11 +55,11 @@ rows =
     ∷ []
 
 pub examples : map (λ r. printed (bytes (r .list)) (bytes (r .input))) rows ≡ map (λ r. bytes (r .prints)) rows
-unfolding rows printed decimal decimalBy answerOf judgeOf otherEncoding scanned scanFrom startOf blank checkOf spaceEnd cutOf countOf verdicts verdictOf
-    forestOf tokensOf tokensFrom itemAt kindOf declares endsAt tagAt endTagAt tagOf endTagOf pieceNamed before gather
-    attributeOf smallTag textOf eqOf spaceOf skip valueOf quotedOf many pieceOf isMark referenceOf entityRefOf charRefOf
-    isChar nameOf expect seek starts run character guess number utf8 isScalar isSpace isName isNameStart isNameMore listPaths
-    listAnswer judge lines soundAt within lineAt steps readAll endAt stepAt testAt kindAt printStep printLine
+unfolding rows printed decimal decimalBy answerOf judgeOf otherEncoding scanned scanFrom startOf blank checkOf spaceEnd cutOf countOf
+    verdicts verdictOf forestOf tokensOf tokensFrom itemAt kindOf declares endsAt tagAt endTagAt tagOf endTagOf pieceNamed before gather
+    attributeOf smallTag textOf eqOf spaceOf skip valueOf quotedOf many pieceOf isMark referenceOf entityRefOf charRefOf isChar nameOf
+    expect seek starts run character guess number utf8 isScalar isSpace isName isNameStart isNameMore listPaths listAnswer judge lines
+    soundAt within lineAt steps readAll endAt stepAt testAt kindAt printStep printLine
 examples = refl
 
 -- "else it prints `too long` and LF and nothing more, for every list"

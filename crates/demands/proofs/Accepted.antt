@@ -1,6 +1,7 @@
 -- Demand 2, of documents: one is accepted exactly when it is derived by production [1], with the constraints Element Type Match and Unique
 -- Att Spec and within the sizes of document 01; and the forest that is cut is the one derived. In order: the first item of a document that
--- is derived, and that it names no other encoding; such a document is scanned without a fault; both ways in one. That a sound document is derived is in First.antt.
+-- is derived, and that it names no other encoding; such a document is scanned without a fault; both ways in one. That a sound document is
+-- derived is in First.antt.
 use mathlib.Core.Path.{_≡_, refl, sym, ap, _∙_}
 use mathlib.Core.Bool.{Bool, true, false, cond}
 use mathlib.Core.List.{List, [], _∷_}

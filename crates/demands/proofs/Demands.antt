@@ -49,8 +49,8 @@ demand-1 list d o =
 -- child and descendant steps. The bytes written are those that the rule gives, and the number handed back with them is that of the elements
 -- selected." `Cuts` says all that of the forest that production [1] derives: by `Selects`, the rule `Writes`, and how many are selected.
 pub record Cut (list d o : List ℕ) (a : Answer) (o′ : List ℕ) : Type 0 where
-  -- by a list that is accepted, the answer is 0 or 9 and none of 4 to 8 and 10. "The encoding name must count. Accept a declaration without
-  -- an encoding, or one that says UTF-8 with ASCII letter case ignored": a document that is accepted has no other declaration.
+  -- by a list that is accepted, the answer is 0 or 9 and none of 4 to 8 and 10. "Accept a declaration without an encoding, or one that says
+  -- UTF-8 with ASCII letter case ignored": a document that is accepted has no other declaration
   pub accepted : listAnswer list ≡ lists.Sound → Taken a ↔ ((f : Forest) × Accepted d f)
   -- what is written is the cut, and the numbers are its own
   pub written-is : (n c : ℕ) → a ≡ Written n c → (w : List ℕ) × Cuts list d w c × (n ≡ length w) × (o′ ≡ w ++ drop n o)

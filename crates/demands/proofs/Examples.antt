@@ -23,7 +23,8 @@ use Rattle.readers.specs.Plain.{isMark, textOf, commentOf}
 use Rattle.readers.specs.Value.{isDecimal, isHexadecimal, endsNumber, digitsOf, charRefOf, entityRefOf, referenceOf}
 use Rattle.readers.specs.Value.{pieceOf, quotedOf, valueOf}
 use Rattle.readers.specs.Named.{before, targetOf, instructionEnd, instructionOf, eqOf, pieceNamed, attributeOf, gather, tagOf}
-use Rattle.readers.specs.Named.{endTagOf, smallTag, versionOf, isLetter, isEncoding, encodingOf, yesOrNo, declarationOf, otherOf, otherEncoding}
+use Rattle.readers.specs.Named.{endTagOf, smallTag, versionOf, isLetter, isEncoding, encodingOf, yesOrNo, declarationOf, otherOf}
+use Rattle.readers.specs.Named.{otherEncoding}
 use Rattle.tags.specs.Tag.{tagAt, endTagAt}
 use Rattle.items.specs.Item.{declares, kindOf, itemAt}
 use Rattle.document.specs.Place.{blank}
@@ -152,10 +153,10 @@ unfolding more answerOf bytesAfter judgeOf otherEncoding scanned scanFrom startO
 others = refl
 
 pub encodings : Holds encoded
-unfolding encoded answerOf bytesAfter judgeOf otherEncoding scanned scanFrom startOf blank checkOf spaceEnd cutOf countOf verdicts verdictOf
-    forestOf tokensOf tokensFrom itemAt kindOf declares endsAt tagAt endTagAt tagOf endTagOf pieceNamed before gather
-    attributeOf smallTag textOf declarationOf versionOf encodingOf otherOf yesOrNo isDecimal isLetter isEncoding targetOf instructionEnd instructionOf eqOf spaceOf skip valueOf quotedOf many
-    pieceOf isMark referenceOf entityRefOf charRefOf isChar nameOf expect seek starts run character guess number utf8
-    isScalar isSpace isName isNameStart isNameMore listPaths listAnswer judge lines soundAt within lineAt steps readAll endAt
-    stepAt testAt kindAt printStep printLine
+unfolding encoded answerOf bytesAfter judgeOf otherEncoding scanned scanFrom startOf blank checkOf spaceEnd cutOf countOf verdicts
+    verdictOf forestOf tokensOf tokensFrom itemAt kindOf declares endsAt tagAt endTagAt tagOf endTagOf pieceNamed before gather attributeOf
+    smallTag textOf declarationOf versionOf encodingOf otherOf yesOrNo isDecimal isLetter isEncoding targetOf instructionEnd instructionOf
+    eqOf spaceOf skip valueOf quotedOf many pieceOf isMark referenceOf entityRefOf charRefOf isChar nameOf expect seek starts run character
+    guess number utf8 isScalar isSpace isName isNameStart isNameMore listPaths listAnswer judge lines soundAt within lineAt steps readAll
+    endAt stepAt testAt kindAt printStep printLine
 encodings = refl

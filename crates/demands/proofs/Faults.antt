@@ -1,6 +1,6 @@
 -- "The first item at fault decides": 6 to 8 are answered exactly at the first item at fault, all before which stand in their places; 5
--- exactly where the first sequence begins that is no character; 10 exactly where another encoding is named. In order: what is left after an item; the scan, from its answer to the
--- first fault and back; where a first fault lies; the answer on a document, both ways.
+-- exactly where the first sequence begins that is no character; 10 exactly where another encoding is named. In order: what is left after
+-- an item; the scan, from its answer to the first fault and back; where a first fault lies; the answer on a document, both ways.
 use mathlib.Core.Path.{_≡_, refl, sym, ap, _∙_}
 use mathlib.Core.Bool.{Bool, true, false, cond, false≢true}
 use mathlib.Core.List.{List, []}

@@ -1,5 +1,6 @@
 -- The numbers that the crates below give their answers are those of the cut: for a list at fault those of paths, for a document at fault
--- those of document, for a bad sequence, where no other encoding is named, those of chars. So no table of numbers stands beside document 01's.
+-- those of document, for a bad sequence, where no other encoding is named, those of chars. So no table of numbers stands beside document
+-- 01's.
 use mathlib.Core.Path.{_≡_, refl}
 use mathlib.Core.Bool.{Bool, true, false}
 use mathlib.Core.List.{List}

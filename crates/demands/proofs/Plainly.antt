@@ -115,10 +115,10 @@ sorted false d = not (isSound (judgeOf d)) && (eqb (startOf d) 0 && leb (length 
 
 tables-computed : every (sorted true) derived && every (sorted false) underived ≡ true
 unfolding derived underived judgeOf scanned scanFrom startOf blank checkOf spaceEnd itemAt kindOf declares endsAt tagAt endTagAt tagOf
-    endTagOf pieceNamed before gather attributeOf smallTag instructionOf instructionEnd targetOf declarationOf versionOf encodingOf otherOf otherEncoding yesOrNo
-    textOf commentOf sectionOf eqOf spaceOf skip valueOf quotedOf many pieceOf isMark referenceOf entityRefOf charRefOf digitsOf endsNumber
-    digitOf isDecimal isHexadecimal isLetter isEncoding isChar nameOf expect seek starts run character guess number utf8 isScalar isSpace
-    isName isNameStart isNameMore
+    endTagOf pieceNamed before gather attributeOf smallTag instructionOf instructionEnd targetOf declarationOf versionOf encodingOf otherOf
+    otherEncoding yesOrNo textOf commentOf sectionOf eqOf spaceOf skip valueOf quotedOf many pieceOf isMark referenceOf entityRefOf
+    charRefOf digitsOf endsNumber digitOf isDecimal isHexadecimal isLetter isEncoding isChar nameOf expect seek starts run character guess
+    number utf8 isScalar isSpace isName isNameStart isNameMore
 tables-computed = refl
 
 -- ---- so they are derived, or not

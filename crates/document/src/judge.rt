@@ -1,6 +1,6 @@
-// The answer on a document alone: too long; declared in another encoding; not all characters; else item by item, the first at fault decides.
-// The declaration is read before the characters are checked, on any bytes. The three bytes EF BB BF are skipped at the front, and counted in
-// every place.
+// The answer on a document alone: too long; declared in another encoding; not all characters; else item by item, the first at fault
+// decides. The declaration is read before the characters are checked, on any bytes. The three bytes EF BB BF are skipped at the front, and
+// counted in every place.
 ghost use mathlib.Core.Path.{_≡_};
 ghost use Rattle.points.specs.Class.{classTable};
 ghost use Rattle.document.specs.Judge.{startOf, scanned, judgeOf};
@@ -18,8 +18,8 @@ use items::told::item;
 use points::table::Classes;
 use points::table::classes;
 
-// What is said of a document: sound; over 16,777,216 bytes; the declaration at a place names another encoding than UTF-8; the first sequence
-// that is no character begins at a place; an item at a place is at fault, and why.
+// What is said of a document: sound; over 16,777,216 bytes; the declaration at a place names another encoding than UTF-8; the first
+// sequence that is no character begins at a place; an item at a place is at fault, and why.
 pub enum Judged {
     Sound,
     TooLong,

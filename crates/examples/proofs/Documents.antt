@@ -114,8 +114,8 @@ documents =
 
 pub documents-computed : answers (λ d k. judgeOf d) documents ≡ expected documents
 unfolding documents judgeOf scanned scanFrom startOf blank checkOf spaceEnd itemAt kindOf declares endsAt tagAt endTagAt tagOf endTagOf
-    pieceNamed before gather attributeOf smallTag instructionOf instructionEnd targetOf declarationOf versionOf encodingOf otherOf otherEncoding yesOrNo textOf
-    commentOf sectionOf eqOf spaceOf skip valueOf quotedOf many pieceOf isMark referenceOf entityRefOf charRefOf digitsOf endsNumber digitOf
-    isDecimal isHexadecimal isLetter isEncoding isChar nameOf expect seek starts run character guess number utf8 isScalar isSpace isName
-    isNameStart isNameMore
+    pieceNamed before gather attributeOf smallTag instructionOf instructionEnd targetOf declarationOf versionOf encodingOf otherOf
+    otherEncoding yesOrNo textOf commentOf sectionOf eqOf spaceOf skip valueOf quotedOf many pieceOf isMark referenceOf entityRefOf
+    charRefOf digitsOf endsNumber digitOf isDecimal isHexadecimal isLetter isEncoding isChar nameOf expect seek starts run character guess
+    number utf8 isScalar isSpace isName isNameStart isNameMore
 documents-computed = refl

@@ -75,8 +75,7 @@ pub extern "C" fn choughbell_characters(s: &[u8]) -> usize
     }
 }
 
-// The numbers of a document alone, by any list that is sound and in any room that suffices: 4 to 8 or 10, or 0 and no
-// length.
+// The numbers of a document alone, by any list that is sound and in any room that suffices: 4 to 8 or 10, or 0 and no length.
 #[no_mangle]
 pub extern "C" fn choughbell_judge(doc: &[u8]) -> Numbers
     ensures { λ r. ⌜ r ≡ judgedOf (judgeOf (now (doc .entry))) ⌝ }

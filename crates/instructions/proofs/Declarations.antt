@@ -1,5 +1,6 @@
--- [23] XMLDecl. In order: the classes of characters and the loop over a run of one; what stands in the quotes of each part; quotes; a part;
--- what stands before the encoding and behind it; the declaration; another encoding. Each law about a function is one way through its code: what the code answers there is what the reader leaves.
+-- [23] XMLDecl. In order: the classes of characters and the loop over a run of one; what stands in the quotes of each part; quotes; a
+-- part; what stands before the encoding and behind it; the declaration; another encoding. Each law about a function is one way through its
+-- code: what the code answers there is what the reader leaves.
 use mathlib.Core.Path.{_≡_, refl, sym, ap, _∙_}
 use mathlib.Core.Bool.{Bool, true, false, cond, not, _&&_, _||_, or-assoc, or-false, and-assoc, and-false, true≢false}
 use mathlib.Core.List.{List, [], _∷_}
@@ -411,7 +412,8 @@ pub ruleset closing = (closing-ends, closing-open, needs)
 
 -- ---- the declaration
 
-then-then : {A B C : Type 0} (o : Option A) (f : A → Option B) (g : B → Option C) → andThen (andThen o f) g ≡ andThen o (λ t. andThen (f t) g)
+then-then : {A B C : Type 0} (o : Option A) (f : A → Option B) (g : B → Option C)
+    → andThen (andThen o f) g ≡ andThen o (λ t. andThen (f t) g)
 then-then none f g = refl
 then-then (some x) f g = refl
 

@@ -96,14 +96,14 @@ fn is_utf8(doc: &[u8], from: usize, to: usize) -> bool
     requires { ⌜ (from ≤ to) × (to ≤ length (now doc)) ⌝ }
     ensures { λ r. ⌜ r ≡ isUtf8 (take (to - from) (drop from (now (doc .entry)))) ⌝ }
 {
-    if to - from != 5 {
-        return false;
+    if to - from == 5 {
+        return is_one_of(doc[from], b'U', b'u')
+            & is_one_of(doc[from + 1], b'T', b't')
+            & is_one_of(doc[from + 2], b'F', b'f')
+            & (doc[from + 3] == b'-')
+            & (doc[from + 4] == b'8');
     }
-    is_one_of(doc[from], b'U', b'u')
-        & is_one_of(doc[from + 1], b'T', b't')
-        & is_one_of(doc[from + 2], b'F', b'f')
-        & (doc[from + 3] == b'-')
-        & (doc[from + 4] == b'8')
+    false
 }
 
 // [81] EncName, but not `UTF-8`.

@@ -23,8 +23,8 @@ use Rattle.readers.specs.Named.{declarationOf}
 use Rattle.readers.specs.Meaning.{Rest, DecidesOn}
 use Rattle.readers.proofs.Combine.{then-some, lit-sound, lit-decides, lit-then, seq-decides, alt-decides, same-decides}
 use Rattle.readers.proofs.Combine.{allLow, Ascii, Apart}
-use Rattle.readers.proofs.Follow.{ascii, Off, off-lit, off-then, off-either, TakesOn, decides-takes, takes-then, takes-both, takes-opt}
-use Rattle.readers.proofs.Follow.{some-takes, led-takes, skip-then, space-then, eq-then, opt-then, space-is}
+use Rattle.readers.proofs.Follow.{ascii, Off, off-lit, off-then, off-either, TakesOn, decides-takes, takes-then, takes-both}
+use Rattle.readers.proofs.Follow.{takes-opt, some-takes, led-takes, skip-then, space-then, eq-then, opt-then, space-is}
 
 -- ---- in quotes
 

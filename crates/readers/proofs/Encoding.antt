@@ -1,5 +1,5 @@
--- Another encoding, on any bytes. In order: `UTF-8` in any case; an EncName that is not `UTF-8`; `other-iff`, the reader tells exactly where
--- another encoding is named; and where it is, no declaration stands that a document may have.
+-- Another encoding, on any bytes. In order: `UTF-8` in any case; an EncName that is not `UTF-8`; `other-iff`, the reader tells exactly
+-- where another encoding is named; and where it is, no declaration stands that a document may have.
 use mathlib.Core.Path.{_≡_, refl, sym, ap, _∙_}
 use mathlib.Core.Bool.{Bool, true, false, cond, false≢true}
 use mathlib.Core.List.{List, [], _∷_, _++_}
@@ -145,7 +145,8 @@ encoding-apart s t t′ (a, x, (b, y, (c, z, q))) (a′, x′, (b′, y′, (c�
 pub utf8-names-none : (s t : List ℕ) → Reads Utf8Decl s t → NamesOther s → ⊥
 utf8-names-none s t x y = let (t′, z) = other-rule s .0 y in declared t′ x z
   where
-    ended : (j k : List ℕ) → Reads (opt (EncodingBy Utf8Name)) j k → Reads Ending k t → (k′ : List ℕ) → Reads (EncodingBy OtherName) j k′ → ⊥
+    ended : (j k : List ℕ) → Reads (opt (EncodingBy Utf8Name)) j k → Reads Ending k t → (k′ : List ℕ) → Reads (EncodingBy OtherName) j k′
+        → ⊥
     ended j k (inl e) l k′ z = Option·none-ne-some k′ (sym (encoding-none otherOf j t (rw e l)) ∙ setting-decides .complete tt z)
     ended j k (inr u) l k′ z = encoding-apart j k k′ u z
 

@@ -19,8 +19,8 @@ use Rattle.readers.specs.Plain.{isMark}
 use Rattle.readers.specs.Value.{isDecimal, isHexadecimal, endsNumber, digitsOf, charRefOf, entityRefOf, referenceOf}
 use Rattle.readers.specs.Value.{pieceOf, quotedOf, valueOf}
 use Rattle.readers.specs.Named.{before, targetOf, instructionEnd, instructionOf, eqOf, versionOf, isLetter, isEncoding, encodingOf}
-use Rattle.readers.specs.Named.{yesOrNo, declarationOf, otherOf, otherEncoding, Piece, pieceNamed, attributeOf, gather, Tag, tagOf, endTagOf}
-use Rattle.readers.specs.Named.{smallTag, repeated}
+use Rattle.readers.specs.Named.{yesOrNo, declarationOf, otherOf, otherEncoding, Piece, pieceNamed, attributeOf, gather, Tag, tagOf}
+use Rattle.readers.specs.Named.{endTagOf, smallTag, repeated}
 
 -- ---- how the tables are written
 

@@ -11,7 +11,7 @@ use Rattle.xml.specs.Notation.{Rule, lit, char, _∖_, _∣_, Reads, don
 use Rattle.xml.specs.Productions.{EncName, EncodingDecl, XMLDecl}
 use Rattle.xml.specs.Computes.{member, rests}
 use Rattle.xml.specs.Language.{Language}
-use Rattle.xml.specs.Encoding.{EncodingBy, DeclBy, Utf8Name, Utf8Decl, Names, NamesOther}
+use Rattle.xml.specs.Encoding.{EncodingBy, DeclBy, Utf8Name, Utf8Decl, NamesOther}
 use Rattle.xml.proofs.Bools.{true-false}
 use Rattle.xml.proofs.Utf8.{utf8-low, scalar-ascii}
 use Rattle.xml.proofs.Language.{reads-language, language-reads}

@@ -1,5 +1,6 @@
 -- What follows from the definitions: UTF-8 by the table and by its rule, characters and runs of them, [2] by its borders, the notation's
--- ordinary meaning, what a declaration says of the encoding, the document's productions as they are printed, the notation computed, and worked examples of every production.
+-- ordinary meaning, what a declaration says of the encoding, the document's productions as they are printed, the notation computed, and
+-- worked examples of every production.
 pub mod Bools
 pub mod Same
 pub mod Utf8

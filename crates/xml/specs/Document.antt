@@ -1,7 +1,7 @@
 -- The productions of the document as a whole, [1] [22] [27] [39] [43], with its forest; the constraints Element Type Match and Unique Att
--- Spec; and sizes. A document has no document type, and its declaration says UTF-8 or names no encoding: Encoding.antt. In order: what a tag
--- holds; content, with the elements in it; what stands outside the root; the document; sizes. The flags give a text one forest and take no
--- text away: `plainly`, proofs/Plainly.antt.
+-- Spec; and sizes. A document has no document type, and its declaration says UTF-8 or names no encoding: Encoding.antt. In order: what a
+-- tag holds; content, with the elements in it; what stands outside the root; the document; sizes. The flags give a text one forest and
+-- take no text away: `plainly`, proofs/Plainly.antt.
 use mathlib.Core.Path.{_≡_}
 use mathlib.Core.Bool.{Bool, true, false}
 use mathlib.Core.List.{List, [], _∷_, _++_}

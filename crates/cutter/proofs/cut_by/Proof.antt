@@ -18,7 +18,8 @@ names-other-requires c κs = search needs
 
 returns-2 : tie.Need-returns-2
 returns-2 c =
-    both-by _ _ _ (by-other _ _ _ (c .before .before .before .if1 .left) (c .before .before .start-of .ensures) (c .before .names-other .ensures) (c .if2 .taken))
+    let s = c .before .before .start-of .ensures in
+    both-by _ _ _ (by-other _ _ _ (c .before .before .before .if1 .left) s (c .before .names-other .ensures) (c .if2 .taken))
 
 check-requires : tie.Need-check-requires
 check-requires c κs = search needs
@@ -27,12 +28,14 @@ enum-told : tie.Need-enum-told
 enum-told c = search needs
 
 written-requires : tie.Need-written-requires
-written-requires c κs = (
-  c .before .before .before .before .before .before .before .before .before .before .before .pre,
-  c .before .before .before .before .before .before .before .if1 .left,
-  judged-named _ (c .before .before .before .before .before .before .start-of .ensures) (c .before .before .before .before .before .names-other .ensures) (c .before .before .before .before .if2 .left),
-  sym (c .before .before .before .check .ensures) ∙ c .before .enum-told .given .1,
-)
+written-requires c κs =
+    let p = c .before .before .before .before in
+    let q = p .before .before .before in (
+      q .before .before .before .before .pre,
+      q .if1 .left,
+      judged-named _ (p .before .before .start-of .ensures) (p .before .names-other .ensures) (p .if2 .left),
+      sym (c .before .before .before .check .ensures) ∙ c .before .enum-told .given .1,
+    )
 
 enum-known-o : tie.Need-enum-known-o
 enum-known-o c = search needs
@@ -45,8 +48,10 @@ returns-3 c = search needs
 
 returns-4 : tie.Need-returns-4
 returns-4 c =
-    let n = judged-named _ (c .before .before .before .before .before .before .start-of .ensures) (c .before .before .before .before .before .names-other .ensures) (c .before .before .before .before .if2 .left) in
-    both-by _ _ _ (by-char _ _ _ (c .before .before .before .before .before .before .before .if1 .left) n (c .before .before .before .check .ensures) (c .before .o .given .1))
+    let p = c .before .before .before .before in
+    let n = judged-named _ (p .before .before .start-of .ensures) (p .before .names-other .ensures) (p .if2 .left) in
+    let e = c .before .before .before .check .ensures in
+    both-by _ _ _ (by-char _ _ _ (p .before .before .before .if1 .left) n e (c .before .o .given .1))
 
 pub cut-by-spec : {M : Type 1} → statement M
 cut-by-spec =
