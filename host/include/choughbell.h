@@ -31,8 +31,9 @@ extern "C" {
  *   7  not well-formed                      offset of the item, or the document's length: an element is open, or there is no root
  *   8  over a size                          offset of the item
  *   9  output shorter than the cut          length needed
+ *   10 another encoding is declared         offset of the declaration: 0, or 3 behind EF BB BF
  *
- * The third number is 0 except under 0. */
+ * They apply in the order 1; 2 and 3 by line; 4; 10; 5; 6 to 8 by item; 9. The third number is 0 except under 0. */
 struct choughbell_numbers {
     uint64_t number;
     uint64_t second;
@@ -45,8 +46,8 @@ struct choughbell_numbers {
 struct choughbell_numbers choughbell_cut(const uint8_t *list, size_t list_len, const uint8_t *doc, size_t doc_len, uint8_t *out,
                                          size_t out_len);
 
-/* The numbers of a document alone, as above: 4 to 8 with the second number, or 0 where the document is sound, and then the second number
- * is 0 too. The third is 0. A sound document is cut by every sound list, in a room that suffices. */
+/* The numbers of a document alone, as above: 4 to 8 or 10 with the second number, or 0 where the document is sound, and then the second
+ * number is 0 too. The third is 0. A sound document is cut by every sound list, in a room that suffices. */
 struct choughbell_numbers choughbell_judge(const uint8_t *doc, size_t doc_len);
 
 /* How many bytes at the front are characters that XML allows, in UTF-8: `s_len`, or the offset of the first bad sequence. There is no limit

@@ -1,5 +1,5 @@
 //! The answers of the library as Rust has them: what was written, or why nothing was. Each refusal has its number, its meaning in words and
-//! its place. The words are those of document 01's table.
+//! its place. The words are those of document 01's table, and of document 02 for what it adds.
 use crate::Numbers;
 use std::error::Error;
 use std::fmt;
@@ -13,7 +13,7 @@ pub struct Written {
     pub selected: u64,
 }
 
-/// Answers 1 to 9. A line counts from 1, an offset from 0.
+/// Answers 1 to 10. A line counts from 1, an offset from 0.
 #[derive(Clone, Copy, PartialEq, Eq, Debug)]
 pub enum Refusal {
     /// 1: the list has over 8,192 bytes.
@@ -34,10 +34,12 @@ pub enum Refusal {
     OverSize { offset: u64 },
     /// 9: the buffer is shorter than the cut.
     Short { needed: u64 },
+    /// 10: the declaration names another encoding than UTF-8. It is looked at after 4 and before 5.
+    OtherEncoding { offset: u64 },
 }
 
 impl Numbers {
-    /// The answer that the numbers stand for. Panics on a number over 9, which the library never gives.
+    /// The answer that the numbers stand for. Panics on a number over 10, which the library never gives.
     pub fn answer(self) -> Result<Written, Refusal> {
         let second = self.second;
         Err(match self.number {
@@ -51,13 +53,14 @@ impl Numbers {
             7 => Refusal::NotWellFormed { offset: second },
             8 => Refusal::OverSize { offset: second },
             9 => Refusal::Short { needed: second },
+            10 => Refusal::OtherEncoding { offset: second },
             number => panic!("{number} is no answer of the library"),
         })
     }
 }
 
 impl Refusal {
-    /// The number, 1 to 9.
+    /// The number, 1 to 10.
     pub fn number(self) -> u64 {
         match self {
             Refusal::ListTooLong => 1,
@@ -69,6 +72,7 @@ impl Refusal {
             Refusal::NotWellFormed { .. } => 7,
             Refusal::OverSize { .. } => 8,
             Refusal::Short { .. } => 9,
+            Refusal::OtherEncoding { .. } => 10,
         }
     }
 
@@ -84,6 +88,7 @@ impl Refusal {
             Refusal::NotWellFormed { .. } => "not well-formed",
             Refusal::OverSize { .. } => "over a size",
             Refusal::Short { .. } => "output shorter than the cut",
+            Refusal::OtherEncoding { .. } => "another encoding",
         }
     }
 
@@ -95,11 +100,12 @@ impl Refusal {
         }
     }
 
-    /// The offset in the document at fault, under 5 to 8.
+    /// The offset in the document at fault, under 5 to 8 and 10.
     pub fn offset(self) -> Option<u64> {
         match self {
             Refusal::NotCharacter { offset } | Refusal::DocumentType { offset } => Some(offset),
             Refusal::NotWellFormed { offset } | Refusal::OverSize { offset } => Some(offset),
+            Refusal::OtherEncoding { offset } => Some(offset),
             _ => None,
         }
     }
@@ -132,7 +138,7 @@ mod tests {
 
     #[test]
     fn numbers_come_back_as_they_were() {
-        for number in 1..=9 {
+        for number in 1..=10 {
             let second = if number == 1 || number == 4 { 0 } else { 12 };
             let refusal = Numbers { number, second, third: 0 }.answer().unwrap_err();
             assert_eq!((refusal.number(), refusal.second()), (number, second));
@@ -145,5 +151,6 @@ mod tests {
         assert_eq!(Refusal::ListMalformed { line: 3 }.to_string(), "2: malformed line, line 3 of the list");
         assert_eq!(Refusal::OverSize { offset: 17 }.to_string(), "8: over a size, at offset 17");
         assert_eq!(Refusal::Short { needed: 21 }.to_string(), "9: output shorter than the cut, which has 21 bytes");
+        assert_eq!(Refusal::OtherEncoding { offset: 3 }.to_string(), "10: another encoding, at offset 3");
     }
 }

@@ -1,11 +1,11 @@
-//! What each number means and what to do about it: the answers 0 to 9, and the exit statuses from 64 on.
+//! What each number means and what to do about it: the answers 0 to 10, and the exit statuses from 64 on.
 
 /// The text on a number, as it is written on the command line.
 pub fn text(number: &[u8]) -> Option<&'static str> {
     TEXTS.iter().find(|(name, _)| name.as_bytes() == number).map(|&(_, text)| text)
 }
 
-const TEXTS: [(&str, &str); 14] = [
+const TEXTS: [(&str, &str); 15] = [
     ("0", ZERO),
     ("1", ONE),
     ("2", TWO),
@@ -16,6 +16,7 @@ const TEXTS: [(&str, &str); 14] = [
     ("7", SEVEN),
     ("8", EIGHT),
     ("9", NINE),
+    ("10", TEN),
     ("64", USAGE),
     ("66", NO_INPUT),
     ("73", CANT_CREATE),
@@ -82,6 +83,15 @@ const NINE: &str = "\
 9: the output is shorter than the cut; the second number is the length needed.
 This answer is for programs that call the library with a buffer of their own: call again
 with one that long. The command always has room enough.
+";
+
+const TEN: &str = "\
+10: the declaration of the document names another encoding than UTF-8; the second
+number is its offset: 0, or 3 behind a byte order mark of UTF-8.
+Convert it so that its declaration says UTF-8 too: xmllint --encode UTF-8 does both.
+iconv leaves the declaration as it is: then write UTF-8 there, or take the encoding out.
+Do only that where the bytes are UTF-8 already and the declaration alone is wrong, as
+they seem to be behind a byte order mark.
 ";
 
 const USAGE: &str = "\

@@ -22,7 +22,7 @@ A file that is not named, or named -, is the standard input or output.
       --version        the version
       --               what follows is no option
 
-Exit status: 0 written, or sound; 1 to 3 the list is refused, 4 to 8 the document;
+Exit status: 0 written, or sound; 1 to 3 the list is refused, 4 to 8 and 10 the document;
 64 wrong usage; 66 no input; 73 no output; 74 reading or writing failed.
 
 For example, with `//commune/hamlet #` as a line of atlas.lst:

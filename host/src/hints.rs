@@ -17,6 +17,7 @@ pub fn hint(refusal: Refusal, document: &[u8], offset: usize) -> String {
         Refusal::NotCharacter { .. } => not_character(document, offset),
         Refusal::DocumentType { .. } => "documents with a type are not taken".to_string(),
         Refusal::OverSize { .. } => over_size(document, offset),
+        Refusal::OtherEncoding { .. } => other_encoding(document, offset),
         _ => not_well_formed(document, offset),
     }
 }
@@ -52,6 +53,24 @@ fn over_size(document: &[u8], offset: usize) -> String {
     } else {
         SIZES.to_string()
     }
+}
+
+/// What the declaration says, and how to mend it. Behind the mark of UTF-8 the bytes are hardly what it says: to convert them as it says
+/// would spoil them.
+fn other_encoding(document: &[u8], offset: usize) -> String {
+    let name = places::quoted(encoding(&document[offset..]));
+    if offset == 0 {
+        format!("the declaration says \"{name}\"; xmllint --encode UTF-8 converts the file and its declaration")
+    } else {
+        format!("the declaration says \"{name}\", but a byte order mark of UTF-8 stands before it: write UTF-8 there")
+    }
+}
+
+/// The encoding that a declaration names. The library found its shape right, so the word is there, and the name in quotes behind it.
+fn encoding(declaration: &[u8]) -> &[u8] {
+    let word = b"encoding";
+    let at = declaration.windows(word.len()).position(|w| w == word).unwrap_or(declaration.len());
+    declaration[at..].splitn(3, |b| b"\"'".contains(b)).nth(1).unwrap_or(b"")
 }
 
 /// By the first bytes of the item, what it should be or why it may not stand there.
@@ -118,7 +137,7 @@ fn instruction(document: &[u8], offset: usize) -> &'static str {
     if !rest.starts_with(b"<?xml") || !rest.get(5).map_or(false, |b| b" \t\r\n".contains(b)) {
         "an instruction is <?, a name other than xml, a blank and its text, and ?>"
     } else if front {
-        "a declaration is <?xml version=\"1.0\"?>, after the version perhaps encoding=\"...\" and standalone=\"yes\""
+        "a declaration is <?xml version=\"1.0\"?>, after the version perhaps encoding=\"UTF-8\" and standalone=\"yes\""
     } else {
         "the declaration stands at the very front"
     }

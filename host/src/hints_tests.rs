@@ -23,6 +23,17 @@ fn characters() {
 }
 
 #[test]
+fn encodings() {
+    let converts = "xmllint --encode UTF-8 converts the file and its declaration";
+    says(b"<?xml version='1.0' encoding='ISO-8859-1'?><g>\xE9</g>", 10, &format!("the declaration says \"ISO-8859-1\"; {converts}"));
+    says(b"<?xml version=\"1.0\"\n encoding = \"UTF8\"\tstandalone='no'?>", 10, &format!("the declaration says \"UTF8\"; {converts}"));
+    let long = format!("<?xml version='1.0' encoding='{}'?><g/>", "x".repeat(41));
+    says(long.as_bytes(), 10, &format!("the declaration says \"{}...\"; {converts}", "x".repeat(40)));
+    let marked = "the declaration says \"UTF-16\", but a byte order mark of UTF-8 stands before it: write UTF-8 there";
+    says(b"\xEF\xBB\xBF<?xml version='1.0' encoding='UTF-16'?><g/>", 10, marked);
+}
+
+#[test]
 fn ends_and_roots() {
     says(b"", 7, "there is no root");
     says(b"<!-- <g> -->", 7, "there is no root");
@@ -50,7 +61,7 @@ fn items() {
     says(b"<g>&nbsp;</g>", 7, "a reference is &lt; &gt; &amp; &apos; &quot; or a character's number, as &#233;");
     says(b"\n<?xml version='1.0'?><g/>", 7, "the declaration stands at the very front");
     says(b"<g><?XML a?></g>", 7, "an instruction is <?, a name other than xml, a blank and its text, and ?>");
-    let declaration = "a declaration is <?xml version=\"1.0\"?>, after the version perhaps encoding=\"...\" and standalone=\"yes\"";
+    let declaration = "a declaration is <?xml version=\"1.0\"?>, after the version perhaps encoding=\"UTF-8\" and standalone=\"yes\"";
     says(b"\xEF\xBB\xBF<?xml encoding='UTF-8'?><g/>", 7, declaration);
 }
 

@@ -123,5 +123,8 @@ mod tests {
         assert_eq!(check(b"<g>\xFF</g>"), Err(Refusal::NotCharacter { offset: 3 }));
         assert_eq!(check(b"<!DOCTYPE g><g/>"), Err(Refusal::DocumentType { offset: 0 }));
         assert_eq!(check("<g>".repeat(65).as_bytes()), Err(Refusal::OverSize { offset: 192 }));
+        assert_eq!(check(b"<?xml version='1.0' encoding='UTF-16'?>\xFF"), Err(Refusal::OtherEncoding { offset: 0 }));
+        assert_eq!(check(b"\xEF\xBB\xBF<?xml version='1.0' encoding='x'?><g/>"), Err(Refusal::OtherEncoding { offset: 3 }));
+        assert_eq!(check(b"<?xml version='1.0' encoding='Utf-8'?><g/>"), Ok(()));
     }
 }

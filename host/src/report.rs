@@ -148,6 +148,14 @@ mod tests {
     }
 
     #[test]
+    fn an_encoding_is_quoted() {
+        let report = said(b"", b"\xEF\xBB\xBF<?xml version='1.0' encoding='x'?>\xFF");
+        let hint = "the declaration says \"x\", but a byte order mark of UTF-8 stands before it: write UTF-8 there";
+        let there = "<?xml version='1.0' encoding='x'?>";
+        assert_eq!(report.message(), format!("m.xml:1:1: 10: another encoding: \"{there}\": {hint} (offset 3)"));
+    }
+
+    #[test]
     fn a_whole_file_has_none() {
         assert_eq!(said(&[b'/'; 8193], b"").message(), "a.lst: 1: list over 8,192 bytes");
     }

@@ -156,7 +156,7 @@ fn explain(given: Given) -> Result<Request, String> {
     match given.names.as_slice() {
         [number] => match explain::text(number.as_bytes()) {
             Some(text) => Ok(Request::Explain(text)),
-            None => Err(format!("{} is no number that is explained: 0 to 9, 64, 66, 73 or 74", word(number))),
+            None => Err(format!("{} is no number that is explained: 0 to 10, 64, 66, 73 or 74", word(number))),
         },
         _ => Err("explain wants one number".to_string()),
     }

@@ -26,6 +26,12 @@ judge 'a document type' 6 later.xml
 repeat 65 '<g>' > deep.xml
 lines 'refused 8 192' 'characters: 195 of 195 bytes'
 judge 'level 65' 8 deep.xml
+printf '<?xml version="1.0" encoding="ISO-8859-1"?><g>\351</g>' > latin.xml
+lines 'refused 10 0' 'characters: 46 of 51 bytes'
+judge 'another encoding' 10 latin.xml
+printf '\357\273\277<?xml version="1.0" encoding="UTF-16"?><g/>' > marked.xml
+lines 'refused 10 3' 'characters: 46 of 46 bytes'
+judge 'another encoding behind three bytes' 10 marked.xml
 : > nothing.xml
 lines 'refused 7 0' 'characters: 0 of 0 bytes'
 judge 'no bytes' 7 nothing.xml
@@ -50,6 +56,8 @@ says 'refused 2 3'
 example 'a malformed line' 2 atlas.lst b.xml
 says 'refused 7 3'
 example 'not well-formed' 7 v.lst bad.xml
+says 'refused 10 0'
+example 'another encoding' 10 v.lst latin.xml
 
 # put WHERE WORDS..: `make install` or `make uninstall`, quietly.
 put() { MAKEFLAGS='' make -s -C "$root" "$@" > "$notes/printed" 2>&1 || fault "make $*" "$(tr '\n' '~' < "$notes/printed")"; }

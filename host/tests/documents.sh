@@ -1,5 +1,5 @@
-# Answers 5 to 8, with the place and what is said of it. Answer 9 can't be reached by the command, whose buffer always suffices: it is tried
-# by the C example in around.sh and by the tests of the crate.
+# Answers 5 to 8 and 10, with the place and what is said of it. Answer 9 can't be reached by the command, whose buffer always suffices: it
+# is tried by the C example in around.sh and by the tests of the crate.
 
 # refused NAME NUMBER DOCUMENT LINE: a document, its bytes as printf has them, and what follows its name in the message.
 refused() {
@@ -60,8 +60,51 @@ refused 'a name of 256 bytes' 8 "<g>\n<$(repeat 256 n)/></g>" "2:1: 8: over a si
 attributes=$(awk 'BEGIN { for (i = 1; i < 34; i++) printf " a%d=\"\"", i }')
 refused '33 attributes' 8 "<g$attributes/>" "1:1: 8: over a size: \"$(echo "<g$attributes" | cut -c 1-40)...\": $sizes (offset 0)"
 
+# 10
+# encoded NAME DOCUMENT THERE SAID: a declaration at the front that names another encoding.
+encoded() {
+    refused "$1" 10 "$2" "1:1: 10: another encoding: \"$3\": the declaration says \"$4\"; \
+xmllint --encode UTF-8 converts the file and its declaration (offset 0)"
+}
+latin='<?xml version="1.0" encoding="ISO-8859-1"?>'
+encoded 'ISO 8859-1, declared' "$latin\n<g>Pr\351s</g>" '<?xml version="1.0" encoding="ISO-8859-1...' ISO-8859-1
+encoded 'declared, but it reads as UTF-8' "$latin\n<g>Pr\303\251s</g>" '<?xml version="1.0" encoding="ISO-8859-1...' ISO-8859-1
+encoded 'UTF8, nothing behind it' "<?xml version='1.0' encoding='UTF8'?>" "<?xml version='1.0' encoding='UTF8'?>" UTF8
+encoded 'two lines, and a type' "<?xml version='1.1'\n encoding = 'x' standalone='no' ?><!DOCTYPE g>" \
+    "<?xml version='1.1'\n encoding = 'x' sta..." x
+encoded 'a long name' "<?xml version='1.0' encoding='$(repeat 50 x)'?><g/>" \
+    "<?xml version='1.0' encoding='$(repeat 10 x)..." "$(repeat 40 x)..."
+refused 'behind three bytes' 10 "\357\273\277<?xml version='1.0' encoding='UTF-16'?><g/>" \
+    "1:1: 10: another encoding: \"<?xml version='1.0' encoding='UTF-16'?>\": the declaration says \"UTF-16\", but \
+a byte order mark of UTF-8 stands before it: write UTF-8 there (offset 3)"
+try 'another encoding, quiet' 10 check --quiet master.xml
+refused 'a bad byte in the declaration' 5 '<?xml version="1.0" encoding="ISO\351"?><g/>' \
+    '1:34: 5: not a character: "\xE9"?>": E9 is not UTF-8 (offset 33)'
+declaration='a declaration is <?xml version="1.0"?>, after the version perhaps encoding="UTF-8" and standalone="yes"'
+refused 'a declaration without its version' 7 '<?xml encoding="ISO-8859-1"?><g/>' \
+    "1:1: 7: not well-formed: \"<?xml encoding=\"ISO-8859-1\"?>\": $declaration (offset 0)"
+refused 'another encoding below' 7 '\n<?xml version="1.0" encoding="x"?><g/>' \
+    '2:1: 7: not well-formed: "<?xml version="1.0" encoding="x"?>": the declaration stands at the very front (offset 1)'
+for name in UTF-8 utf-8 Utf-8; do
+    printf '<?xml version="1.0" encoding="%s"?><g/>' "$name" > utf.xml
+    try "$name" 0 check utf.xml
+done
+
+# What the hint says is so: xmllint converts both, iconv the bytes alone.
+printf '/g #\n' > whole.lst
+printf '%s\n<g>Pr\351s</g>\n' "$latin" > latin.xml
+iconv -f ISO-8859-1 -t UTF-8 latin.xml > half.xml
+try 'converted by iconv' 10 check --quiet half.xml
+if command -v xmllint > /dev/null; then
+    xmllint --encode UTF-8 latin.xml > utf.xml
+    prints '<g>Prés</g>'
+    try 'converted by xmllint' 0 cut -l whole.lst utf.xml
+fi
+
 # The list is judged first, then the document; a bad character comes before what is at fault above it.
 printf 'v\n' > in.lst
 says 'in.lst:1: 2: malformed line: "v": a line begins with / or //' '    v' '    ^'
 try 'both at fault' 2 cut -l in.lst master.xml
+says 'in.lst:1: 2: malformed line: "v": a line begins with / or //' '    v' '    ^'
+try 'both at fault, by its encoding' 2 cut -l in.lst latin.xml
 refused 'two faults' 5 '<g></v>\377' '1:8: 5: not a character: "\xFF": FF is not UTF-8 (offset 7)'

@@ -51,6 +51,10 @@ bytes=$(printf 'b\377d')
 cp bad.xml "$bytes"
 place='"offset":3,"line":1,"column":4'
 json 'a name that is not UTF-8' 7 "$(refusal 7 3 'not well-formed' 'b\\xFFd' "$place" '</v>' "$open")" check --json "$bytes"
+printf '<?xml version="1.0" encoding="UTF8"?><g/>' > utf8.xml
+front='"offset":0,"line":1,"column":1' there='<?xml version=\"1.0\" encoding=\"UTF8\"?>'
+hint='the declaration says \"UTF8\"; xmllint --encode UTF-8 converts the file and its declaration'
+json 'another encoding' 10 "$(refusal 10 0 'another encoding' utf8.xml "$front" "$there" "$hint")" check --json utf8.xml
 json 'the end' 7 "$(refusal 7 0 'not well-formed' 'standard input' '"offset":0,"line":1,"column":1' '' 'there is no root')" check --json
 
 # Where the cut goes to the standard output, or would go there, the numbers go to the standard error.

@@ -22,6 +22,13 @@ says 'standard input: 4: document over 16,777,216 bytes'
 try '16,777,217 bytes on standard input' 4 check
 says '/dev/zero: 4: document over 16,777,216 bytes'
 try 'a document without end' 4 check /dev/zero
+
+# The length comes before the encoding that is declared, and that before the characters.
+{ printf '<?xml version="1.0" encoding="x"?>' && head -c 16777182 /dev/zero; } > big.xml
+try '16,777,216 bytes, another encoding' 10 check --quiet big.xml
+printf x >> big.xml
+says 'big.xml: 4: document over 16,777,216 bytes'
+try '16,777,217 bytes, another encoding' 4 check big.xml
 rm -f big.xml cut.xml
 
 # Four bytes are written as seven: the most that a cut grows. 3 + 4 * 4,194,302 + 4 bytes.

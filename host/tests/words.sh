@@ -31,8 +31,8 @@ wrong 'check with a list' 'check takes no --list, --output or --count' check -l 
 wrong 'check and count' 'check takes no --list, --output or --count' check --count b.xml
 wrong 'explain nothing' 'explain wants one number' explain
 wrong 'explain two' 'explain wants one number' explain 1 2
-wrong 'explain 10' '10 is no number that is explained: 0 to 9, 64, 66, 73 or 74' explain 10
-wrong 'explain a word' 'two is no number that is explained: 0 to 9, 64, 66, 73 or 74' explain two
+wrong 'explain 11' '11 is no number that is explained: 0 to 10, 64, 66, 73 or 74' explain 11
+wrong 'explain a word' 'two is no number that is explained: 0 to 10, 64, 66, 73 or 74' explain two
 wrong 'explain with options' 'explain takes no options' explain --json 1
 [ ! -e x ] || fault 'wrong usage' 'a file is made'
 
@@ -61,6 +61,7 @@ explains 6 'the document has a type, <!DOCTYPE;' 3
 explains 7 'the document is not well-formed XML 1.0;' 4
 explains 8 'the document is over a size;' 3
 explains 9 'the output is shorter than the cut;' 3
+explains 10 'the declaration of the document names another encoding than UTF-8;' 6
 explains 64 'wrong usage.' 2
 explains 66 "the list or the document can't be opened, or is a directory." 2
 explains 73 "the output can't be created." 3
