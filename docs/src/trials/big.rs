@@ -1,5 +1,5 @@
-// Documents of 16,777,216 bytes, one less and one more, sound and at fault at their end; and the gazetteer by lists that are thin, wide
-// and long. A line says what each run answered.
+// Documents of 16,777,216 bytes, one less and one more, sound and at fault at their end or by their encoding; and the gazetteer by lists
+// that are thin, wide and long. A line says what each run answered.
 use crate::same::{both, cut};
 use crate::{gazetteer, lists, narrow};
 
@@ -47,6 +47,15 @@ fn ends() {
     }
 }
 
+/// What is declared comes after the length and before the characters, of which there are none behind it.
+fn declared() {
+    let mut doc = b"<?xml version='1.0' encoding='ISO-8859-1'?>".to_vec();
+    doc.resize(MOST, 0xFF);
+    say(&format!("{MOST} bytes in another encoding"), "//n\n", &doc, MOST);
+    doc.push(0xFF);
+    say(&format!("{} bytes in another encoding", MOST + 1), "//n\n", &doc, MOST);
+}
+
 fn gazetteer() {
     let doc = gazetteer::document().into_bytes();
     let long = lists::long();
@@ -65,5 +74,6 @@ fn gazetteer() {
 pub fn run() {
     sizes();
     ends();
+    declared();
     gazetteer();
 }
