@@ -7,8 +7,8 @@
 ghost use Rattle.io.specs.Counts.{Counts};
 use libc::STDIN_FILENO;
 use libc::STDOUT_FILENO;
-use paths::ListAnswer;
-use report::DOCUMENT;
+use report::INPUT;
+use report::LIST;
 use report::PRINTED;
 use report::told;
 
@@ -26,10 +26,10 @@ fn read_list(buf: &mut [u8]) -> usize
 }
 
 fn main() {
-    let mut doc = [0u8; DOCUMENT + 1];
+    let mut doc = [0u8; INPUT];
     let n = io::read_full(STDIN_FILENO, &mut doc);
-    let mut list = [0u8; ListAnswer::BYTES + 1];
+    let mut list = [0u8; LIST];
     let m = read_list(&mut list);
     let mut out = [0u8; PRINTED];
-    io::write_all(STDOUT_FILENO, told(&list[..m], &doc[..n], &mut out));
+    io::write_all(STDOUT_FILENO, told(&list, m, &doc, n, &mut out));
 }

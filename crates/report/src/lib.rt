@@ -6,16 +6,22 @@
 //     told      all that is printed for a list and a standard input
 ghost use mathlib.Core.Path.{_≡_};
 ghost use Prim.Native.Nat.{_+_, _≤_};
-ghost use lib.ListN.{length};
+ghost use lib.ListN.{length, take};
 ghost use Rattle.writer.specs.Wrote.{Wrote};
 ghost use Rattle.report.specs.Decimal.{decimal as decimalOf};
 ghost use Rattle.report.specs.Printed.{spaced as spacedOf, lineOf, keptOf, printed};
 use exported::choughbell_cut;
+use paths::ListAnswer;
 use writer::copy;
 use writer::put;
 
 // The most bytes of a document.
-pub const DOCUMENT: usize = 32768;
+const DOCUMENT: usize = 32768;
+
+// What is read of a list and of the standard input: one byte more than they may have.
+pub const LIST: usize = ListAnswer::BYTES + 1;
+
+pub const INPUT: usize = DOCUMENT + 1;
 
 // The output room, in bytes.
 const ROOM: usize = 65536;
@@ -88,13 +94,21 @@ fn tell(list: &[u8], input: &[u8], out: &mut [u8]) -> usize
     line(out, b"refused", number, second)
 }
 
-// All that is printed for a list and a standard input, made in a buffer of at least PRINTED bytes. Of a standard input that is too long one
-// byte more than a document may have is enough.
-pub fn told<'a>(list: &[u8], input: &[u8], out: &'a mut [u8]) -> &'a [u8]
-    requires { ⌜ 65600 ≤ length (now out) ⌝ }
-    ensures { λ r. ⌜ now r ≡ printed (now (list .entry)) (now (input .entry)) ⌝ }
+// All that is printed for the first m bytes of a list and the first n of a standard input, made in a buffer of at least PRINTED bytes. Both
+// are lent with one byte more than they may have, so that what is longer is told; a program that reads less does not fit the types.
+pub fn told<'a>(
+    list: &[u8; LIST],
+    m: usize,
+    input: &[u8; INPUT],
+    n: usize,
+    out: &'a mut [u8],
+) -> &'a [u8]
+    requires { ⌜ (m ≤ 8193) × (n ≤ 32769) × (65600 ≤ length (now out)) ⌝ }
+    ensures { λ r. ⌜ now r ≡ printed (take m (now (list .entry))) (take n (now (input .entry))) ⌝ }
 {
-    let n = tell(list, input, out);
+    let lines = &list[..];
+    let bytes = &input[..];
+    let end = tell(&lines[..m], &bytes[..n], out);
     let whole = &out[..];
-    &whole[..n]
+    &whole[..end]
 }

@@ -1,5 +1,5 @@
--- `classes` meets its contract. This is the one computed test over the whole table: antt computes the class of each of the 768 code points
--- from the ranges of [4] and [4a], and compares it with the entry of the constant.
+-- `classes` meets its contract. This is the one computed test over the whole table: antt computes both bits of each of the 768 code points
+-- from the ranges of [4] and [4a], and compares the bytes that they make with those of the constant.
 use mathlib.Core.Path.{refl}
 use Rattle.xml.specs.Productions.{isNameStart, isNameMore, isName}
 use Rattle.points.specs.Class.{classTable}
