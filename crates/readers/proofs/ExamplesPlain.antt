@@ -1,6 +1,6 @@
 -- Worked examples of the readers of text, comments, sections, references and values, each table under one statement that antt computes:
--- texts, and beside them what is left by the Recommendation, or that there is no such item. In order: how the tables are written; [15]
--- Comment; [18] CDSect; [14] CharData up to where it stops; [68] EntityRef; [66] CharRef; [10] AttValue.
+-- texts, and beside them what is left by the Recommendation, for a reference also what it says, or that there is no such item. In order:
+-- how the tables are written; [15] Comment; [18] CDSect; [14] CharData up to where it stops; [68] EntityRef; [66] CharRef; [10] AttValue.
 use mathlib.Core.Path.{_≡_, refl}
 use mathlib.Core.List.{List, [], _∷_}
 use mathlib.Core.Option.{Option, none, some}
@@ -11,7 +11,7 @@ use Rattle.xml.specs.Productions.{isChar, digitOf}
 use Rattle.utf8.proofs.Examples.{Row, _at_gives_, answers, expected}
 use Rattle.readers.specs.Read.{expect, seek, many}
 use Rattle.readers.specs.Plain.{isMark, textOf, commentOf, sectionOf}
-use Rattle.readers.specs.Value.{isDecimal, isHexadecimal, endsNumber, digitsOf, charRefOf, entityRefOf, referenceOf}
+use Rattle.readers.specs.Value.{isDecimal, isHexadecimal, endsNumber, Said, saying, digitsOf, charRefOf, entityRefOf, referenceOf}
 use Rattle.readers.specs.Value.{pieceOf, quotedOf, valueOf}
 
 -- ---- how the tables are written
@@ -133,87 +133,109 @@ charData-computed = refl
 
 -- ---- [68] EntityRef, of the five names
 
-pub entities : List Left
-unfolding _leaves_ refused
+abbrev Saying : Type 0
+Saying = Row (Option Said)
+
+-- at the front of s stands a reference that says c, and t is left
+infix 10 _says_leaving_
+unfoldable _says_leaving_ : String → ℕ → String → Saying
+unfolding written
+s says c leaving t = written s at 0 gives saying c (written t)
+
+-- at the front of s stands no reference
+unfoldable silent : String → Saying
+unfolding written
+silent s = written s at 0 gives none
+
+pub entities : List Saying
+unfolding _says_leaving_ silent
 entities =
-    ("&amp;" leaves "")
-    ∷ ("&lt;a" leaves "a")
-    ∷ ("&gt;" leaves "")
-    ∷ ("&apos;" leaves "")
-    ∷ ("&quot;" leaves "")
-    ∷ ("&amp;amp;" leaves "amp;")
-    ∷ refused ""
-    ∷ refused "&"
-    ∷ refused "&;"
-    ∷ refused "&amp"
-    ∷ refused "&amp "
-    ∷ refused "&amp ;"
-    ∷ refused "& amp;"
-    ∷ refused "&AMP;"
-    ∷ refused "&ampx;"
-    ∷ refused "&am;"
-    ∷ refused "&foo;"
-    ∷ refused "amp;"
+    ("&amp;" says 0x26 leaving "")
+    ∷ ("&lt;a" says 0x3C leaving "a")
+    ∷ ("&gt;" says 0x3E leaving "")
+    ∷ ("&apos;" says 0x27 leaving "")
+    ∷ ("&quot;" says 0x22 leaving "")
+    ∷ ("&amp;amp;" says 0x26 leaving "amp;")
+    ∷ silent ""
+    ∷ silent "&"
+    ∷ silent "&;"
+    ∷ silent "&amp"
+    ∷ silent "&amp "
+    ∷ silent "&amp ;"
+    ∷ silent "& amp;"
+    ∷ silent "&AMP;"
+    ∷ silent "&ampx;"
+    ∷ silent "&am;"
+    ∷ silent "&foo;"
+    ∷ silent "amp;"
     ∷ []
 
-pub entities-computed : left referenceOf entities ≡ expected entities
+pub entities-computed : answers (λ s k. referenceOf s) entities ≡ expected entities
 unfolding entities referenceOf entityRefOf charRefOf digitsOf endsNumber isDecimal isHexadecimal expect
 entities-computed = refl
 
 -- ---- [66] CharRef: the least and the greatest numbers of [2], those next to them, and numbers past 2⁶⁴ that are no Char's
 
-pub numbers : List Left
-unfolding _leaves_ refused
+pub numbers : List Saying
+unfolding _says_leaving_ silent
 numbers =
-    ("&#65;" leaves "")
-    ∷ ("&#x41;b" leaves "b")
-    ∷ ("&#xe9;" leaves "")
-    ∷ ("&#xE9;" leaves "")
-    ∷ ("&#9;" leaves "")
-    ∷ ("&#xA;" leaves "")
-    ∷ ("&#13;" leaves "")
-    ∷ ("&#32;" leaves "")
-    ∷ ("&#xD7FF;" leaves "")
-    ∷ ("&#xE000;" leaves "")
-    ∷ ("&#xFFFD;" leaves "")
-    ∷ ("&#x10000;" leaves "")
-    ∷ ("&#x10FFFF;" leaves "")
-    ∷ ("&#1114111;" leaves "")
-    ∷ ("&#0000000065;" leaves "")
-    ∷ ("&#x00000000000000000000041;" leaves "")
-    ∷ refused "&#;"
-    ∷ refused "&#x;"
-    ∷ refused "&#X41;"
-    ∷ refused "&#0;"
-    ∷ refused "&#x0;"
-    ∷ refused "&#8;"
-    ∷ refused "&#xB;"
-    ∷ refused "&#31;"
-    ∷ refused "&#xD800;"
-    ∷ refused "&#xDFFF;"
-    ∷ refused "&#xFFFE;"
-    ∷ refused "&#65535;"
-    ∷ refused "&#x110000;"
-    ∷ refused "&#1114112;"
-    ∷ refused "&#4294967361;"
-    ∷ refused "&#x100000041;"
-    ∷ refused "&#18446744073709551681;"
-    ∷ refused "&#x10000000000000041;"
-    ∷ refused "&#99999999999999999999;"
-    ∷ refused "&#65"
-    ∷ refused "&#x41"
-    ∷ refused "&#6 5;"
-    ∷ refused "&#65 ;"
-    ∷ refused "&# 65;"
-    ∷ refused "& #65;"
-    ∷ refused "&#-65;"
-    ∷ refused "&#6A;"
-    ∷ refused "&#x4G;"
-    ∷ refused "&#xx41;"
-    ∷ refused "#65;"
+    ("&#65;" says 65 leaving "")
+    ∷ ("&#x41;b" says 0x41 leaving "b")
+    ∷ ("&#xe9;" says 0xE9 leaving "")
+    ∷ ("&#xE9;" says 0xE9 leaving "")
+    ∷ ("&#9;" says 9 leaving "")
+    ∷ ("&#xA;" says 0xA leaving "")
+    ∷ ("&#13;" says 13 leaving "")
+    ∷ ("&#32;" says 32 leaving "")
+    ∷ ("&#xD7FF;" says 0xD7FF leaving "")
+    ∷ ("&#xE000;" says 0xE000 leaving "")
+    ∷ ("&#xFFFD;" says 0xFFFD leaving "")
+    ∷ ("&#x10000;" says 0x10000 leaving "")
+    ∷ ("&#x10FFFF;" says 0x10FFFF leaving "")
+    ∷ ("&#1114111;" says 0x10FFFF leaving "")
+    ∷ ("&#0000000065;" says 65 leaving "")
+    ∷ ("&#x00000000000000000000041;" says 0x41 leaving "")
+    ∷ ("&#10;" says 10 leaving "")
+    ∷ ("&#x20;" says 0x20 leaving "")
+    ∷ ("&#233;é" says 0xE9 leaving "é")
+    ∷ ("&#x1f600;" says 0x1F600 leaving "")
+    ∷ ("&#128512;" says 0x1F600 leaving "")
+    ∷ ("&#x26;amp;" says 0x26 leaving "amp;")
+    ∷ silent "&#;"
+    ∷ silent "&#x;"
+    ∷ silent "&#X41;"
+    ∷ silent "&#0;"
+    ∷ silent "&#x0;"
+    ∷ silent "&#8;"
+    ∷ silent "&#xB;"
+    ∷ silent "&#20;"
+    ∷ silent "&#x10;"
+    ∷ silent "&#31;"
+    ∷ silent "&#xD800;"
+    ∷ silent "&#xDFFF;"
+    ∷ silent "&#xFFFE;"
+    ∷ silent "&#65535;"
+    ∷ silent "&#x110000;"
+    ∷ silent "&#1114112;"
+    ∷ silent "&#4294967361;"
+    ∷ silent "&#x100000041;"
+    ∷ silent "&#18446744073709551681;"
+    ∷ silent "&#x10000000000000041;"
+    ∷ silent "&#99999999999999999999;"
+    ∷ silent "&#65"
+    ∷ silent "&#x41"
+    ∷ silent "&#6 5;"
+    ∷ silent "&#65 ;"
+    ∷ silent "&# 65;"
+    ∷ silent "& #65;"
+    ∷ silent "&#-65;"
+    ∷ silent "&#6A;"
+    ∷ silent "&#x4G;"
+    ∷ silent "&#xx41;"
+    ∷ silent "#65;"
     ∷ []
 
-pub numbers-computed : left referenceOf numbers ≡ expected numbers
+pub numbers-computed : answers (λ s k. referenceOf s) numbers ≡ expected numbers
 unfolding numbers referenceOf entityRefOf charRefOf digitsOf endsNumber isDecimal isHexadecimal digitOf isChar expect
 numbers-computed = refl
 

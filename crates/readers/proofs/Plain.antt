@@ -119,7 +119,7 @@ abbrev pub uptoOf : List ℕ → List ℕ → Option (List ℕ)
 uptoOf w s = expect w (seek w s)
 
 -- characters up to a place where w stands go past v, no end of which is the beginning of w
-past : (w v n : List ℕ) {m : List ℕ} → allLow v ≡ true → endless w v ≡ true → begins w m ≡ true
+pub past : (w v n : List ℕ) {m : List ℕ} → allLow v ≡ true → endless w v ≡ true → begins w m ≡ true
     → Star (Reads Char) (v ++ n) m → Star (Reads Char) n m
 past w [] n a b h d = d
 past w (y ∷ v) n {m} a b h d =
@@ -152,7 +152,7 @@ module _ (x : ℕ) (w : List ℕ) (l : allLow (x ∷ w) ≡ true) (o : borderles
           ∙ f (λ (k′, a, b). never (k′, more (c, i, p, e) a, b))
 
   -- w stands nowhere before its first place
-  upto-first : (s t : List ℕ) → seek (x ∷ w) s ≡ x ∷ w ++ t → Reads (Char ∗ ⨾ lit (x ∷ w) ⨾ Char ∗) s (x ∷ w ++ t) → ⊥
+  pub upto-first : (s t : List ℕ) → seek (x ∷ w) s ≡ x ∷ w ++ t → Reads (Char ∗ ⨾ lit (x ∷ w) ⨾ Char ∗) s (x ∷ w ++ t) → ⊥
   upto-first s t q (k, a, (n, e, b)) =
       let (u, p) = reads-suffix (Char ∗) s k a in
       let (v, r) = reads-suffix (Char ∗) n (x ∷ w ++ t) b in
@@ -242,11 +242,11 @@ comment-decides = lit-then (bytes "<!--") refl dashed-decides
 
 -- ---- [14] CharData
 
-abbrev Plain : Rule
+abbrev pub Plain : Rule
 Plain = char (except "<&")
 
 -- where text stops
-abbrev Stops : List ℕ → Type 0
+abbrev pub Stops : List ℕ → Type 0
 Stops t = (t ≡ []) ⊎ ((u : List ℕ) × Reads (text "<" ∣ text "&") t u)
 
 -- [^..]: a Char that is none of these
@@ -262,7 +262,7 @@ two-marks : (c : ℕ) → among (bytes "<&") c ≡ eqb c 0x3C || eqb c 0x26
 two-marks c = ap (λ (b : Bool). eqb c 0x3C || b) (or-false (eqb c 0x26))
 
 -- a plain character is passed, where `]]>` does not stand
-text-pass : (c : ℕ) (m : List ℕ) → isScalar c ≡ true → except "<&" c ≡ true
+pub text-pass : (c : ℕ) (m : List ℕ) → isScalar c ≡ true → except "<&" c ≡ true
     → textOf (utf8 c ++ m) ≡ cond (begins (bytes "]]>") (utf8 c ++ m)) none (textOf m)
 unfolding textOf
 text-pass c m k p = go (ltb c 0x80) refl
@@ -286,7 +286,7 @@ text-run : {s m t : List ℕ} → Star (Reads Plain) s m → textOf s ≡ some t
 text-run done e = e
 text-run (more {m = m} (c, k, p, q) rs) e = text-run rs (text-on c m k p (rw q at e))
 
-text-never : {s t : List ℕ} → textOf s ≡ some t → Reads (Plain ∗ ⨾ text "]]>" ⨾ Plain ∗) s t → ⊥
+pub text-never : {s t : List ℕ} → textOf s ≡ some t → Reads (Plain ∗ ⨾ text "]]>" ⨾ Plain ∗) s t → ⊥
 unfolding textOf
 text-never {t = t} h (m, a, (n, e, b)) = Option·none-ne-some t (rw e at (text-run a h))
 
@@ -321,7 +321,7 @@ stops-starts t (inr (u, inl e)) = rw e (starts-low (except "<&") 0x3C u (lit< tt
 stops-starts t (inr (u, inr e)) = rw e (starts-low (except "<&") 0x26 u (lit< tt))
 
 -- where `]]>` stands, plain characters up to the stop follow it
-past-end : {s t : List ℕ} (n : List ℕ) → Star (Reads Plain) s t → Stops t → s ≡ bytes "]]>" ++ n → Star (Reads Plain) n t
+pub past-end : {s t : List ℕ} (n : List ℕ) → Star (Reads Plain) s t → Stops t → s ≡ bytes "]]>" ++ n → Star (Reads Plain) n t
 unfolding except isChar
 past-end {s} {t} n rs h e = rw (← same) (run-reads (except "<&") n)
   where

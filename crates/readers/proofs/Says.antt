@@ -6,20 +6,20 @@ use mathlib.Core.Option.{Option, none, some, Option·none-ne-some}
 use Prim.Native.Nat.{ℕ, _≤_}
 use lib.ListN.{length, drop}
 use Rattle.xml.specs.Notation.{Rule, Reads}
-use Rattle.xml.specs.Productions.{CharData, Comment, CDSect, Reference, AttValue, PI, XMLDecl}
+use Rattle.xml.specs.Productions.{CharData, Comment, CDSect, AttValue, PI, XMLDecl}
 use Rattle.xml.proofs.Language.{reads-suffix}
 use Rattle.utf8.proofs.Place.{stands-ends}
 use Rattle.chars.specs.Name.{readingAt}
 use Rattle.chars.specs.declared.name.Reading.{Reading}
 use Rattle.chars.specs.declared.name.Reading.the-variants.{Ends, Fault}
 use Rattle.readers.specs.Plain.{textOf, commentOf, sectionOf}
-use Rattle.readers.specs.Value.{referenceOf, valueOf}
+use Rattle.readers.specs.Value.{valueOf}
 use Rattle.readers.specs.Named.{instructionOf, declarationOf}
 use Rattle.readers.specs.Meaning.{Chars, Decides, TextIs}
 use Rattle.readers.specs.Says.{Says, ReadingSays, TextSays}
 use Rattle.readers.proofs.Left.{End, end-stands, end-ahead}
 use Rattle.readers.proofs.Plain.{comment-decides, section-decides, text-sound, text-complete}
-use Rattle.readers.proofs.Value.{reference-decides, value-decides}
+use Rattle.readers.proofs.Value.{value-decides}
 use Rattle.readers.proofs.Instruction.{instruction-decides}
 use Rattle.readers.proofs.Declaration.{declaration-decides}
 
@@ -90,12 +90,6 @@ module _ (d : List ℕ) (at : ℕ) (c : Chars (drop at d)) where
 
   pub section-only : (r : Reading) → ReadingSays CDSect d at r → r ≡ readingAt d at (sectionOf (drop at d))
   section-only = reading-only section-decides d at c
-
-  pub reference-says : at ≤ length d → ReadingSays Reference d at (readingAt d at (referenceOf (drop at d)))
-  reference-says = reading-says reference-decides d at c
-
-  pub reference-only : (r : Reading) → ReadingSays Reference d at r → r ≡ readingAt d at (referenceOf (drop at d))
-  reference-only = reading-only reference-decides d at c
 
   pub value-says : at ≤ length d → ReadingSays AttValue d at (readingAt d at (valueOf (drop at d)))
   value-says = reading-says value-decides d at c

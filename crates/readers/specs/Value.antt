@@ -1,4 +1,4 @@
--- References, [66] to [68], and attribute values, [10].
+-- References, [66] to [68], each with the character that it says, and attribute values, [10].
 -- A value's plain characters are passed byte by byte.
 use mathlib.Core.Bool.{Bool, true, false, cond, _&&_}
 use mathlib.Core.List.{List, [], _∷_}
@@ -23,26 +23,46 @@ isHexadecimal = within ("0" to "9" ∷ "a" to "f" ∷ "A" to "F" ∷ [])
 unfoldable pub endsNumber : ℕ → Bool → ℕ → Bool
 endsNumber b any n = eqb b 0x3B && (any && isChar n)
 
+-- the code point that a reference says, and what follows the reference
+pub record Said : Type 0 where
+  pub code : ℕ
+  pub rest : List ℕ
+
+abbrev pub saying : ℕ → List ℕ → Option Said
+saying c t = some (record { code = c; rest = t })
+
 -- digits of a class and base, then `;`; n is the number so far
-unfoldable pub digitsOf : (ℕ → Bool) → ℕ → ℕ → Bool → List ℕ → Option (List ℕ)
+unfoldable pub digitsOf : (ℕ → Bool) → ℕ → ℕ → Bool → List ℕ → Option Said
 digitsOf p base n any [] = none
 digitsOf p base n any (b ∷ s) =
-    let later = digitsOf p base (n * base + digitOf b) true s in cond (p b) later (cond (endsNumber b any n) (some s) none)
+    let later = digitsOf p base (n * base + digitOf b) true s in cond (p b) later (cond (endsNumber b any n) (saying n s) none)
 
-unfoldable pub charRefOf : List ℕ → Option (List ℕ)
+unfoldable pub charRefOf : List ℕ → Option Said
 charRefOf s =
     orElse (andThen (expect (bytes "&#x") s) (digitsOf isHexadecimal 16 0 false))
     (andThen (expect (bytes "&#") s) (digitsOf isDecimal 10 0 false))
 
-unfoldable pub entityRefOf : List ℕ → Option (List ℕ)
-entityRefOf s =
-    orElse (expect (bytes "&amp;") s)
-    (orElse (expect (bytes "&lt;") s)
-    (orElse (expect (bytes "&gt;") s)
-    (orElse (expect (bytes "&apos;") s) (expect (bytes "&quot;") s))))
+-- the text w, which says c
+abbrev pub entityOf : List ℕ → ℕ → List ℕ → Option Said
+entityOf w c s = andThen (expect w s) (saying c)
 
-unfoldable pub referenceOf : List ℕ → Option (List ℕ)
+unfoldable pub entityRefOf : List ℕ → Option Said
+entityRefOf s =
+    orElse (entityOf (bytes "&amp;") 0x26 s)
+    (orElse (entityOf (bytes "&lt;") 0x3C s)
+    (orElse (entityOf (bytes "&gt;") 0x3E s)
+    (orElse (entityOf (bytes "&apos;") 0x27 s) (entityOf (bytes "&quot;") 0x22 s))))
+
+unfoldable pub referenceOf : List ℕ → Option Said
 referenceOf s = orElse (entityRefOf s) (charRefOf s)
+
+-- what follows it, alone
+abbrev pub restOf : Option Said → Option (List ℕ)
+restOf none = none
+restOf (some r) = some (r .rest)
+
+abbrev pub referenceEnd : List ℕ → Option (List ℕ)
+referenceEnd s = restOf (referenceOf s)
 
 -- ---- values
 
@@ -52,7 +72,7 @@ plainByte q [] = none
 plainByte q (b ∷ s) = cond (isMark q b) none (some s)
 
 unfoldable pub pieceOf : ℕ → List ℕ → Option (List ℕ)
-pieceOf q s = orElse (plainByte q s) (referenceOf s)
+pieceOf q s = orElse (plainByte q s) (referenceEnd s)
 
 unfoldable pub quotedOf : ℕ → List ℕ → Option (List ℕ)
 quotedOf q s = andThen (expect (q ∷ []) s) (λ t. expect (q ∷ []) (many (pieceOf q) 0 t))
