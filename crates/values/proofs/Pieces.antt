@@ -1,10 +1,10 @@
 -- Pieces of a value, between quotes q: what is no mark is passed. Then the loop; its invariant: what the pieces leave from i on is what
 -- they leave from the start, and a mark stands at i, or i is the end. At `&` a reference is read, and at any other mark the pieces end.
--- Last, a value in its quotes.
+-- Last, a value in its quotes, and in either of them.
 use mathlib.Core.Path.{_≡_, refl, sym, ap, _∙_}
 use mathlib.Core.Bool.{Bool, true, false, cond}
 use mathlib.Core.List.{List, [], _∷_}
-use mathlib.Core.Option.{none, some}
+use mathlib.Core.Option.{Option, none, some}
 use Prim.Native.Nat.{ℕ, _+_, _-_, _≤_, _<_}
 use native.Mathlib.Omega.{arith}
 use borrow.Author.Needs.{needs}
@@ -15,13 +15,18 @@ use Rattle.blocks.specs.Block.{until}
 use Rattle.chars.specs.Name.{readingAt}
 use Rattle.chars.specs.declared.name.Reading.{Reading}
 use Rattle.chars.specs.declared.name.Reading.the-variants.{Ends, Fault}
-use Rattle.readers.specs.Read.{expect, many}
+use Rattle.readers.specs.Read.{orElse, expect, many}
 use Rattle.readers.specs.Plain.{isMark}
-use Rattle.readers.specs.Value.{referenceOf, pieceOf, quotedOf}
+use Rattle.readers.specs.Value.{referenceOf, restOf, referenceEnd, pieceOf, quotedOf}
 use Rattle.readers.specs.Answer.{Answers, ends}
-use Rattle.readers.proofs.Answers.{ends-some, ends-inside, fault-none, then-ends, then-fault}
+use Rattle.readers.proofs.Answers.{ends-some, ends-inside, fault-none, then-ends, then-fault, answers-reading, or-ends, or-fault}
 use Rattle.readers.proofs.Many.{many-stop, many-step, shrinks-nil, shrinks-length, reading-answers}
-use Rattle.readers.proofs.Value.{reference-shrinks, reference-other, piece-plain, piece-marked, piece-shrinks}
+use Rattle.readers.proofs.Reference.{reference-shrinks, reference-other}
+use Rattle.readers.proofs.Value.{piece-plain, piece-marked, piece-shrinks}
+use Rattle.references.specs.Say.{sayingAt}
+use Rattle.references.specs.declared.reference.Saying.{Saying}
+use Rattle.references.specs.declared.reference.Saying.the-variants.{Says, Fault as NoReference}
+use Rattle.references.proofs.Meaning.{endOf, reference-ends}
 use Rattle.scans.proofs.Ends.{byte-answers}
 use Rattle.scans.proofs.Marks.{until-rest, until-ahead, until-inside, until-there}
 
@@ -63,20 +68,23 @@ module _ {q : ℕ} {d : List ℕ} {at i : ℕ} (v : Between q d at i) where
   pieces-end h = stops (rw (drop-end d i h) (shrinks-nil (piece-shrinks q)))
 
   module _ (l : i < length d) where
-    at-mark : pieceOf q (drop i d) ≡ referenceOf (drop i d)
+    at-mark : pieceOf q (drop i d) ≡ referenceEnd (drop i d)
     at-mark = rw (drop-step d i l) (piece-marked q (getD d i 0) (drop (i + 1) d) (v .mark l))
 
     pub pieces-other : (getD d i 0 ≡ 0x26 → ⊥) → Answers d at (Ends i) (some (many (pieceOf q) 0 (drop at d)))
-    pieces-other n = stops (at-mark ∙ rw (drop-step d i l) (reference-other (getD d i 0) (drop (i + 1) d) n))
+    pieces-other n = stops (at-mark ∙ rw (drop-step d i l) (ap restOf (reference-other (getD d i 0) (drop (i + 1) d) n)))
 
-    module _ {r : Reading} (e : r ≡ readingAt d i (referenceOf (drop i d))) where
-      answered : Answers d i r (referenceOf (drop i d))
-      answered = reading-answers reference-shrinks d i e
+    module _ {r : Saying} (e : r ≡ sayingAt d i (referenceOf (drop i d))) where
+      answered : Answers d i (endOf r) (referenceEnd (drop i d))
+      answered = reading-answers reference-shrinks d i (reference-ends d i e)
 
-      pub pieces-fault : r ≡ Fault → Answers d at (Ends i) (some (many (pieceOf q) 0 (drop at d)))
-      pieces-fault f = stops (at-mark ∙ fault-none answered f)
+      pub pieces-fault : r ≡ NoReference → Answers d at (Ends i) (some (many (pieceOf q) 0 (drop at d)))
+      pieces-fault f = stops (at-mark ∙ fault-none answered (ap endOf f))
 
-      module _ {j : ℕ} (f : r ≡ Ends j) where
+      module _ {c j : ℕ} (h : r ≡ Says c j) where
+        f : endOf r ≡ Ends j
+        f = ap endOf h
+
         longer : i < j
         longer =
             let a = shrinks-length reference-shrinks (drop i d) (drop j d) (ends-some answered f) in
@@ -118,3 +126,14 @@ module _ (q : ℕ) {d : List ℕ} (at : ℕ) {r : Reading} (a : Answers d at r (
   quoted-ends f b c = then-ends a _ f (then-ends b (expect (q ∷ [])) refl c)
 
 pub ruleset quoting = (byte-answers, quoted-fault, quoted-ends, ends-inside, needs)
+
+-- ---- in either quotes
+
+module _ {d : List ℕ} {at : ℕ} {r : Reading} {o : Option (List ℕ)} (a : Answers d at r o) where
+  pub first-reading : (o′ : Option (List ℕ)) {i : ℕ} → r ≡ Ends i → Ends i ≡ readingAt d at (orElse o o′)
+  first-reading o′ q = answers-reading (or-ends a o′ q)
+
+  pub second-reading : {o′ : Option (List ℕ)} {r′ : Reading} → r ≡ Fault → Answers d at r′ o′ → r′ ≡ readingAt d at (orElse o o′)
+  second-reading q b = answers-reading (or-fault a q b)
+
+pub ruleset reading = (first-reading, second-reading, needs)

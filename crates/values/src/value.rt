@@ -9,8 +9,9 @@ ghost use Rattle.chars.specs.declared.name.Reading.the-variants.{Ends};
 ghost use Rattle.readers.specs.Read.{many};
 ghost use Rattle.readers.specs.Value.{pieceOf, quotedOf, valueOf};
 ghost use Rattle.readers.specs.Answer.{Answers};
-use crate::reference::reference;
 use chars::name::Reading;
+use references::reference::Saying;
+use references::reference::reference;
 use scans::byte::after_byte;
 use scans::mark::to_mark;
 
@@ -25,10 +26,10 @@ fn pieces(doc: &[u8], at: usize, q: u8) -> usize
             return i;
         }
         match reference(doc, i) {
-            Reading::Ends(e) => {
+            Saying::Says(_, e) => {
                 i = to_mark(doc, e, q);
             }
-            Reading::Fault => {
+            Saying::Fault => {
                 return i;
             }
         }

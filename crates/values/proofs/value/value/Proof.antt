@@ -1,7 +1,7 @@
 -- `value` meets its contract: one reading or another, as an equation.
--- proofs/Readings.antt has the laws.
+-- proofs/Pieces.antt has the laws.
 use Rattle.readers.specs.Value.{valueOf}
-use Rattle.values.proofs.Readings.{reading}
+use Rattle.values.proofs.Pieces.{reading}
 use Rattle.values.proofs.value.value.Statement.{statement}
 use Rattle.values.proofs.value.value.Tie as tie
 
