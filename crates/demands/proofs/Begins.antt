@@ -68,11 +68,6 @@ module _ (u : List ℕ) where
   unfolding kindOf
   reference-kind = refl
 
-pub reference-and : (s t : List ℕ) → Reads Reference s t → (u : List ℕ) × (s ≡ 0x26 ∷ u)
-reference-and s t (inl (u, e, x)) = (u, e)
-reference-and s t (inr (inl (u, e, x))) = (0x23 ∷ u, e)
-reference-and s t (inr (inr (u, e, x))) = (0x23 ∷ 0x78 ∷ u, e)
-
 -- ---- a start tag: a name follows `<`
 
 name-begins : (x : ℕ) (w s t : List ℕ) → x < 0x80 → isNameStart x ≡ false → Reads Name s t → begins (x ∷ w) s ≡ false

@@ -21,7 +21,7 @@ use Rattle.document.specs.Place.{Opened}
 use Rattle.document.specs.Judge.{nothing}
 use Rattle.trees.specs.Grown.{Token, finish, tokens}
 use Rattle.demands.proofs.Parts.{Stops}
-use Rattle.demands.proofs.Begins.{reference-and}
+use Rattle.readers.proofs.Reference.{reads-refers, refers-first}
 use Rattle.demands.proofs.Goes.{Goes, goes-over, instruction-goes, comment-goes, section-goes, reference-goes}
 use Rattle.demands.proofs.Goes.{data-goes, space-goes, start-goes, finish-goes}
 
@@ -45,7 +45,7 @@ closes-stops : {n : Name} {raw s t : List ℕ} → Closes n raw s t → Stops s
 closes-stops x = inr (0x2F ∷ x .from, inl (x .opens))
 
 reference-stops : {raw s t : List ℕ} → Item Reference raw s t → Stops s
-reference-stops {s = s} {t = t} i = let (u, e) = reference-and s t (i .reads) in inr (u, inr e)
+reference-stops {s = s} {t = t} i = let (n, r) = reads-refers (i .reads) in let (u, e) = refers-first r in inr (u, inr e)
 
 instruction-stops : {raw s t : List ℕ} → Item PI raw s t → Stops s
 instruction-stops i = inr (0x3F ∷ i .reads .0, inl (i .reads .1))

@@ -22,6 +22,7 @@ use Rattle.readers.proofs.Combine.{chars-left}
 use Rattle.readers.proofs.Follow.{ascii}
 use Rattle.readers.specs.Named.{otherEncoding}
 use Rattle.readers.proofs.Encoding.{other-iff}
+use Rattle.readers.proofs.Reference.{refers-reads}
 use Rattle.tags.specs.declared.Item.{Item}
 use Rattle.tags.specs.declared.Item.the-variants.{Declaration, Instruction, Comment, Section, Reference, Text, Start, Finish}
 use Rattle.tags.specs.declared.Item.the-variants.{Doctype, Malformed, TooLarge, Nothing}
@@ -58,7 +59,8 @@ item-chars d at k (Declaration e) s h c q = chars-left XMLDecl (ascii XMLDecl re
 item-chars d at k (Instruction e) s h c q = chars-left PI (ascii PI refl) (drop at d) (drop e d) c (h .1 .0)
 item-chars d at k (Comment e) s h c q = chars-left CommentRule (ascii CommentRule refl) (drop at d) (drop e d) c (h .1 .0)
 item-chars d at k (Section e) s h c q = chars-left CDSect (ascii CDSect refl) (drop at d) (drop e d) c (h .1 .0)
-item-chars d at k (Reference e) s h c q = chars-left ReferenceRule (ascii ReferenceRule refl) (drop at d) (drop e d) c (h .1 .0)
+item-chars d at k (Reference n e) s h c q =
+    chars-left ReferenceRule (ascii ReferenceRule refl) (drop at d) (drop e d) c (refers-reads (h .1 .0))
 item-chars d at k (Text e) s h c q = chars-left CharData (ascii CharData refl) (drop at d) (drop e d) c (h .1 .0 .reads)
 item-chars d at k (Start n b e m t) s h c q = tag-chars d at (h .1) c
 item-chars d at k (Finish n e) s h c q = finish-chars d at (h .1) c

@@ -10,6 +10,7 @@ use lib.Dec.{leb}
 use lib.ListN.{length, drop, length-append}
 use Rattle.xml.specs.Notation.{Rule, Reads, Star, done, more, char, bytes}
 use Rattle.xml.specs.Productions.{PI, Comment as CommentRule, CDSect, Reference as ReferenceRule, CharData, S, except, same}
+use Rattle.xml.specs.Sign.{Refers}
 use Rattle.xml.specs.Forest.{Name, Tag}
 use Rattle.xml.specs.Document.{Opens, Closes, Item as ItemOf, Some, Small}
 use Rattle.xml.proofs.Bools.{or-left, or-right}
@@ -23,6 +24,9 @@ use Rattle.xml.proofs.Run.{starts-not}
 use Rattle.readers.specs.Meaning.{Chars, TextIs, tagEnd}
 use Rattle.readers.specs.Says.{ReadingSays, TextSays}
 use Rattle.readers.proofs.Left.{end-stands, end-ahead}
+use Rattle.readers.proofs.Reference.{reads-refers, refers-first}
+use Rattle.references.specs.Meaning.{ReferenceSays}
+use Rattle.references.specs.declared.reference.Saying.the-variants.{Says}
 use Rattle.tags.specs.Kept.{nameFrom}
 use Rattle.tags.specs.declared.Item.{Item}
 use Rattle.tags.specs.declared.Item.the-variants.{Declaration, Instruction, Comment, Section, Reference, Text, Start, Finish}
@@ -44,7 +48,7 @@ use Rattle.trees.specs.Grown.{Token, finish, aside, part, tagOf, started, itemT
 use Rattle.trees.proofs.Passes.{over-fine}
 use Rattle.demands.proofs.Parts.{Stops, part-is, drop-past, stops-space}
 use Rattle.demands.proofs.Tagged.{name-past}
-use Rattle.demands.proofs.Begins.{comment-kind, instruction-kind, section-kind, finish-kind, reference-kind, reference-and}
+use Rattle.demands.proofs.Begins.{comment-kind, instruction-kind, section-kind, finish-kind, reference-kind}
 use Rattle.demands.proofs.Begins.{start-kind, plain-kind, space-first, space-is-text}
 
 pub record Goes (d : List ℕ) (at : ℕ) (s : Opened) (ts : List Token) : Type 0 where
@@ -61,7 +65,7 @@ ahead d at (Declaration e) s h q = h
 ahead d at (Instruction e) s h q = h
 ahead d at (Comment e) s h q = h
 ahead d at (Section e) s h q = h
-ahead d at (Reference e) s h q = h
+ahead d at (Reference n e) s h q = h
 ahead d at (Text e) s h q = h
 ahead d at (Start n k e m t) s (a, b, c) q = (omega arith, c)
 ahead d at (Finish n e) s (a, c) q = (omega arith, c)
@@ -120,6 +124,9 @@ module _ (d : List ℕ) {at : ℕ} {s : List ℕ} (p : Stands d at s) where
   pub says-at : (r : Rule) {raw t : List ℕ} → Reads r s t → (x : Read d at raw t) → ReadingSays r d at (Ends (x .to))
   says-at r y x = (rw (p .rest, x .stands .rest) y, x .ahead, x .stands .inside)
 
+  refers-at : (n : ℕ) {raw t : List ℕ} → Refers n s t → (x : Read d at raw t) → ReferenceSays d at (Says n (x .to))
+  refers-at n y x = (rw (p .rest, x .stands .rest) y, x .ahead, x .stands .inside)
+
   text-at : {raw t : List ℕ} → TextIs s t → (x : Read d at raw t) → TextSays d at (Ends (x .to))
   text-at y x = (rw (p .rest, x .stands .rest) y, x .ahead, x .stands .inside)
 
@@ -159,9 +166,10 @@ module _ (d : List ℕ) {at : ℕ} {s : List ℕ} (p : Stands d at s) (c : Chars
       → ((e : ℕ) → Stands d e m → Goes d e o ts) → Goes d at o (aside raw ∷ ts)
   reference-goes {raw} {m} {ts} i w next =
       let x = read-at d p raw m (i .raw-is) in
-      let (u, e) = reference-and s m (i .reads) in
-      let q = here d p c (Reference (x .to)) (ap (kindOf false) e ∙ reference-kind u) (refl, says-at d p ReferenceRule (i .reads) x) in
-      rw (← x .raw-is) (goes-on d at (Reference (x .to)) o ts q (ap formed w) (next (x .to) (x .stands)))
+      let (n, r) = reads-refers (i .reads) in
+      let (u, e) = refers-first r in
+      let q = here d p c (Reference n (x .to)) (ap (kindOf false) e ∙ reference-kind u) (refl, refers-at d p n r x) in
+      rw (← x .raw-is) (goes-on d at (Reference n (x .to)) o ts q (ap formed w) (next (x .to) (x .stands)))
 
   -- text, by its first character
   text-goes : {raw m : List ℕ} {ts : List Token} (n : List ℕ) → Reads (char (except "<&")) s n → TextIs s m → (x : Read d at raw m)

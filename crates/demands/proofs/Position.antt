@@ -188,7 +188,7 @@ module _ (d : List ℕ) (at : ℕ) (s : Opened) where
   place-says k (Instruction e) x h = tt
   place-says k (Comment e) x h = tt
   place-says k (Section e) x h = formed-says (within-tests (s .names))
-  place-says k (Reference e) x h = formed-says (within-tests (s .names))
+  place-says k (Reference n e) x h = formed-says (within-tests (s .names))
   place-says k (Text e) x h = formed-says (either (within-tests (s .names)) (blank-tests d at e (x .1 .0) (h .0) (h .1)))
   place-says k (Start n b e m t) x h = start-says s t
   place-says k (Finish n e) x h = formed-says (closes-tests (nameFrom d (at + 2) n) (s .names))
@@ -203,7 +203,7 @@ module _ (d : List ℕ) (at : ℕ) (s : Opened) where
   place-only k (Instruction e) x h = formed-only always
   place-only k (Comment e) x h = formed-only always
   place-only k (Section e) x h = formed-only (within-tests (s .names))
-  place-only k (Reference e) x h = formed-only (within-tests (s .names))
+  place-only k (Reference n e) x h = formed-only (within-tests (s .names))
   place-only k (Text e) x h = formed-only (either (within-tests (s .names)) (blank-tests d at e (x .1 .0) (h .0) (h .1)))
   place-only k (Start n b e m t) x h = start-only s t
   place-only k (Finish n e) x h = formed-only (closes-tests (nameFrom d (at + 2) n) (s .names))

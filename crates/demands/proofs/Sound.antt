@@ -20,6 +20,7 @@ use Rattle.xml.proofs.Same.{same-equal}
 use Rattle.readers.specs.Meaning.{Chars}
 use Rattle.readers.proofs.Combine.{chars-left}
 use Rattle.readers.proofs.Follow.{ascii}
+use Rattle.readers.proofs.Reference.{refers-reads}
 use Rattle.tags.specs.Kept.{nameFrom}
 use Rattle.tags.specs.declared.Item.{Item}
 use Rattle.tags.specs.declared.Item.the-variants.{Declaration, Instruction, Comment, Section, Reference, Text, Start, Finish}
@@ -144,7 +145,7 @@ after-rooted d at (Declaration e) s q = q
 after-rooted d at (Instruction e) s q = q
 after-rooted d at (Comment e) s q = q
 after-rooted d at (Section e) s q = q
-after-rooted d at (Reference e) s q = q
+after-rooted d at (Reference n e) s q = q
 after-rooted d at (Text e) s q = q
 after-rooted d at (Start n h e m t) s q = refl
 after-rooted d at (Finish n e) s q = q
@@ -199,10 +200,11 @@ item-rest d at (Section e) s b ts q a h p next =
     let x = h .says .1 in
     rest-section (item-sound d at CDSect x) (formed-true (some (s .names)) p)
     (next true (chars-left CDSect (ascii CDSect refl) (drop at d) (drop e d) (h .chars) (x .0)) tt)
-item-rest d at (Reference e) s b ts q a h p next =
-    let x = h .says .1 in
-    rest-reference (item-sound d at ReferenceRule x) (formed-true (some (s .names)) p)
-    (next true (chars-left ReferenceRule (ascii ReferenceRule refl) (drop at d) (drop e d) (h .chars) (x .0)) tt)
+item-rest d at (Reference n e) s b ts q a h p next =
+    let (k, (x, l, i)) = h .says in
+    let y = refers-reads x in
+    rest-reference (item-sound d at ReferenceRule {e = e} (y, l, i)) (formed-true (some (s .names)) p)
+    (next true (chars-left ReferenceRule (ascii ReferenceRule refl) (drop at d) (drop e d) (h .chars) y) tt)
 item-rest d at (Text e) s b ts q a h p next =
     let (k, (x, l, i)) = h .says in
     let g : at < e = h .inside .0 in
@@ -283,7 +285,7 @@ item-begun d at (Comment e) b ts a h p next root =
     begun-comment (item-sound d at CommentRule x)
     (next refl true (chars-left CommentRule (ascii CommentRule refl) (drop at d) (drop e d) (h .chars) (x .0)) tt)
 item-begun d at (Section e) b ts a h p next root = fault-fine _ p
-item-begun d at (Reference e) b ts a h p next root = fault-fine _ p
+item-begun d at (Reference n e) b ts a h p next root = fault-fine _ p
 item-begun d at (Text e) b ts a h p next root =
     let (k, (x, l, i)) = h .says in
     let g : at < e = h .inside .0 in

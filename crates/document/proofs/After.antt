@@ -91,7 +91,7 @@ module _ {d starts lens : List ℕ} {o : Open} (s : Names d starts lens o) (at :
   opened-after (Instruction e) f = ap (with-names (o .rooted)) (same-names 0)
   opened-after (Comment e) f = ap (with-names (o .rooted)) (same-names 0)
   opened-after (Section e) f = ap (with-names (o .rooted)) (same-names 0)
-  opened-after (Reference e) f = ap (with-names (o .rooted)) (same-names 0)
+  opened-after (Reference n e) f = ap (with-names (o .rooted)) (same-names 0)
   opened-after (Text e) f = ap (with-names (o .rooted)) (same-names 0)
   opened-after (Start n h e m t) f = ap (with-names true) (start-names m n (start-room d starts lens o t f))
   opened-after (Finish n e) f =
@@ -163,7 +163,7 @@ module _ {d starts lens : List ℕ} {o : Open} (s : Names d starts lens o) (at :
   names-after (Instruction e) h f = names-kept 0 o (omega arith)
   names-after (Comment e) h f = names-kept 0 o (omega arith)
   names-after (Section e) h f = names-kept 0 o (omega arith)
-  names-after (Reference e) h f = names-kept 0 o (omega arith)
+  names-after (Reference n e) h f = names-kept 0 o (omega arith)
   names-after (Text e) h f = names-kept 0 o (omega arith)
   names-after (Start n k e m t) h f = start-inside m n (start-room d starts lens o t f) (omega arith)
   names-after (Finish n e) h f = names-kept 0 _ (omega arith)

@@ -72,7 +72,7 @@ fine-ahead d at (Declaration e) s h q = h
 fine-ahead d at (Instruction e) s h q = h
 fine-ahead d at (Comment e) s h q = h
 fine-ahead d at (Section e) s h q = h
-fine-ahead d at (Reference e) s h q = h
+fine-ahead d at (Reference n e) s h q = h
 fine-ahead d at (Text e) s h q = h
 fine-ahead d at (Start n k e m t) s h q = (let z = h .0 in let y = h .1 in omega arith, h .2)
 fine-ahead d at (Finish n e) s h q = (let z = h .0 in omega arith, h .1)

@@ -133,7 +133,7 @@ module _ (d starts lens : List ℕ) (o : Open) where
         → r ≡ placement d at i (openedOf d starts lens o)
     place-section q h = of-kind at q (h ∙ ap formed (names-some d starts lens (o .level .0)))
 
-    pub place-reference : {e : ℕ} → i ≡ Reference e → {r : Placement} → r ≡ formed (ltb 0 (o .level .0))
+    pub place-reference : {n e : ℕ} → i ≡ Reference n e → {r : Placement} → r ≡ formed (ltb 0 (o .level .0))
         → r ≡ placement d at i (openedOf d starts lens o)
     place-reference q h = of-kind at q (h ∙ ap formed (names-some d starts lens (o .level .0)))
 
@@ -235,7 +235,7 @@ len-other (Declaration e) k = refl
 len-other (Instruction e) k = refl
 len-other (Comment e) k = refl
 len-other (Section e) k = refl
-len-other (Reference e) k = refl
+len-other (Reference n e) k = refl
 len-other (Text e) k = refl
 len-other (Start n h e m t) k = absurd (not-among unnamed 6 refl k)
 len-other (Finish n e) k = refl
@@ -272,7 +272,7 @@ module _ (o : Open) where
   after-other (Instruction e) k = refl
   after-other (Comment e) k = refl
   after-other (Section e) k = refl
-  after-other (Reference e) k = refl
+  after-other (Reference n e) k = refl
   after-other (Text e) k = refl
   after-other (Start n h e m t) k = absurd (not-among untagged 6 refl k)
   after-other (Finish n e) k = absurd (not-among untagged 7 refl k)

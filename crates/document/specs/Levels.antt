@@ -50,7 +50,7 @@ openAfter (Declaration e) o = o
 openAfter (Instruction e) o = o
 openAfter (Comment e) o = o
 openAfter (Section e) o = o
-openAfter (Reference e) o = o
+openAfter (Reference c e) o = o
 openAfter (Text e) o = o
 openAfter (Start n h e m t) o = record { level = record { 0 = deeper m (o .level .0) }; rooted = true }
 openAfter (Finish n e) o = record { level = record { 0 = o .level .0 - 1 }; rooted = o .rooted }
@@ -65,7 +65,7 @@ lenOf (Declaration e) = 0
 lenOf (Instruction e) = 0
 lenOf (Comment e) = 0
 lenOf (Section e) = 0
-lenOf (Reference e) = 0
+lenOf (Reference c e) = 0
 lenOf (Text e) = 0
 lenOf (Start n h e m t) = n
 lenOf (Finish n e) = 0

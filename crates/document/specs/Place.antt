@@ -60,7 +60,7 @@ placement d at (Declaration e) s = Fine
 placement d at (Instruction e) s = Fine
 placement d at (Comment e) s = Fine
 placement d at (Section e) s = formed (inside s)
-placement d at (Reference e) s = formed (inside s)
+placement d at (Reference c e) s = formed (inside s)
 placement d at (Text e) s = formed (inside s || blank d at e)
 placement d at (Start n h e m t) s = startPlacement t s
 placement d at (Finish n e) s = formed (closes (nameFrom d (at + 2) n) (s .names))
@@ -84,7 +84,7 @@ afterItem d at (Declaration e) s = s
 afterItem d at (Instruction e) s = s
 afterItem d at (Comment e) s = s
 afterItem d at (Section e) s = s
-afterItem d at (Reference e) s = s
+afterItem d at (Reference c e) s = s
 afterItem d at (Text e) s = s
 afterItem d at (Start n h e m t) s = record { names = opens m (nameFrom d (at + 1) n) (s .names); rooted = true }
 afterItem d at (Finish n e) s = record { names = closed (s .names); rooted = s .rooted }
@@ -99,7 +99,7 @@ endOf at (Declaration e) = e
 endOf at (Instruction e) = e
 endOf at (Comment e) = e
 endOf at (Section e) = e
-endOf at (Reference e) = e
+endOf at (Reference c e) = e
 endOf at (Text e) = e
 endOf at (Start n h e m t) = e
 endOf at (Finish n e) = e

@@ -103,7 +103,7 @@ pub fn place(
         Item::Instruction(_) => Placement::Fine,
         Item::Comment(_) => Placement::Fine,
         Item::Section(_) => formed(inside),
-        Item::Reference(_) => formed(inside),
+        Item::Reference(_, _) => formed(inside),
         Item::Text(e) => text(doc, level, at, e),
         Item::Start {
             name: _,
@@ -164,7 +164,7 @@ pub fn end_of(at: usize, item: Item) -> usize
         Item::Instruction(e) => e,
         Item::Comment(e) => e,
         Item::Section(e) => e,
-        Item::Reference(e) => e,
+        Item::Reference(_, e) => e,
         Item::Text(e) => e,
         Item::Start {
             name: _,

@@ -104,7 +104,7 @@ kinds =
     ∷ ("</a>" is Finish 1 4)
     ∷ ("<a>" is start 1 2 3)
     ∷ ("<a/>" is alone 1 2 4)
-    ∷ ("&lt;" is Reference 4)
+    ∷ ("&lt;" is Reference 0x3C 4)
     ∷ ("a" is Text 1)
     ∷ ("a<b" is Text 1)
     ∷ ("ab&lt;" is Text 2)
@@ -144,7 +144,7 @@ contents =
     ∷ ("<![CDATA[<!DOCTYPE a>&b;]]>" is Section 27)
     ∷ (bytes "<![CDATA[]]>>a" at 12 gives Text 14)
     ∷ ("]]&gt;" is Text 2)
-    ∷ (bytes "]]&gt;" at 2 gives Reference 6)
+    ∷ (bytes "]]&gt;" at 2 gives Reference 0x3E 6)
     ∷ ("] ]>" is Text 4)
     ∷ ("a>b" is Text 3)
     ∷ broken
@@ -155,13 +155,13 @@ contents =
 
 pub references : List (Row Item)
 references =
-    ("&amp;" is Reference 5)
-    ∷ ("&gt;a" is Reference 4)
-    ∷ ("&apos;" is Reference 6)
-    ∷ ("&quot;" is Reference 6)
-    ∷ ("&#65;" is Reference 5)
-    ∷ ("&#x000e9;" is Reference 9)
-    ∷ ("&#x10FFFF;" is Reference 10)
+    ("&amp;" is Reference 0x26 5)
+    ∷ ("&gt;a" is Reference 0x3E 4)
+    ∷ ("&apos;" is Reference 0x27 6)
+    ∷ ("&quot;" is Reference 0x22 6)
+    ∷ ("&#65;" is Reference 65 5)
+    ∷ ("&#x000e9;" is Reference 0xE9 9)
+    ∷ ("&#x10FFFF;" is Reference 0x10FFFF 10)
     ∷ broken
     ("&;" ∷ "&lt" ∷ "& lt;" ∷ "&LT;" ∷ "&nbsp;" ∷ "&#;" ∷ "&#0;" ∷ "&#x;" ∷ "&#X41;" ∷ "&#xD800;" ∷ "&#xFFFE;" ∷ "&#x110000;"
     ∷ "&#18446744073709551681;" ∷ [])

@@ -15,18 +15,19 @@ use Rattle.xml.specs.Character.{begins}
 use Rattle.xml.proofs.Bools.{or-either, true-false}
 use Rattle.utf8.specs.Place.{endsAt}
 use Rattle.readers.specs.Plain.{textOf, commentOf, sectionOf}
-use Rattle.readers.specs.Value.{referenceOf}
+use Rattle.readers.specs.Value.{Said, referenceOf}
 use Rattle.readers.specs.Named.{Piece, Tag, instructionOf, declarationOf, tagOf, endTagOf, smallTag}
 use Rattle.readers.proofs.Left.{Shorter, shorter-length}
 use Rattle.readers.proofs.Many.{Shrinks}
 use Rattle.readers.proofs.Shorter.{comment-shrinks, section-shrinks, text-shorter, instruction-shrinks, declaration-shrinks}
-use Rattle.readers.proofs.Value.{reference-shrinks}
+use Rattle.readers.proofs.Reference.{said-refers, refers-shorter}
 use Rattle.readers.proofs.Tags.{tag-lengths, end-tag-lengths}
+use Rattle.references.specs.Say.{sayingAt}
 use Rattle.tags.specs.Tag.{startPlaced, startBy, tagAt, finishBy, endTagAt}
 use Rattle.tags.specs.declared.Item.{Item}
 use Rattle.tags.specs.declared.Item.the-variants.{Declaration, Instruction, Comment, Section, Reference, Text, Finish, TooLarge}
 use Rattle.items.specs.Item.{Kind, declaration, instruction, comment, section, doctype, finish, start, reference, text, nothing}
-use Rattle.items.specs.Item.{declares, kindOf, itemBy, itemOf, itemAt}
+use Rattle.items.specs.Item.{declares, kindOf, itemBy, referenceItem, itemOf, itemAt}
 use Rattle.items.specs.Inside.{Ahead, Inside}
 use Rattle.items.proofs.Telling.{kind-nothing, kind-reference}
 
@@ -130,6 +131,15 @@ module _ (d : List ℕ) (at : ℕ) where
       go none q = tt
       go (some v) q = sized v q (leb (length (v .name)) 255)
 
+  -- ---- references
+
+  reference-inside : Inside d at (referenceItem (sayingAt d at (referenceOf (drop at d))))
+  reference-inside = go (referenceOf (drop at d)) refl
+    where
+      go : (o : Option Said) → referenceOf (drop at d) ≡ o → Inside d at (referenceItem (sayingAt d at o))
+      go none q = tt
+      go (some r) q = shorter-ahead d at (r .rest) (refers-shorter (said-refers q))
+
   -- ---- the item
 
   kind-inside : (k : Kind) → (isText k ≡ true → (t : List ℕ) → textOf (drop at d) ≡ some t → Shorter (drop at d) t)
@@ -141,7 +151,7 @@ module _ (d : List ℕ) (at : ℕ) where
   kind-inside doctype h = tt
   kind-inside finish h = end-tag-inside
   kind-inside start h = tag-inside
-  kind-inside reference h = read-inside d at Reference (λ e x. x) referenceOf reference-shrinks
+  kind-inside reference h = reference-inside
   kind-inside text h = by-inside d at Text (λ e x. x) (textOf (drop at d)) (h refl)
   kind-inside nothing h = tt
 

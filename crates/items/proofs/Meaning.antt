@@ -10,7 +10,7 @@ use borrow.Author.Tests.{leb-true, leb-false, le-leb}
 use lib.Dec.{leb}
 use lib.ListN.{length, drop, length-drop}
 use Rattle.xml.specs.Notation.{Reads}
-use Rattle.xml.specs.Productions.{XMLDecl, PI, Comment as CommentRule, CDSect, Reference as ReferenceRule}
+use Rattle.xml.specs.Productions.{XMLDecl, PI, Comment as CommentRule, CDSect}
 use Rattle.xml.specs.Document.{AllShort}
 use Rattle.xml.proofs.Bools.{and-left, and-right, and-both, true-false}
 use Rattle.utf8.specs.Place.{endsAt}
@@ -26,13 +26,18 @@ use Rattle.readers.proofs.Left.{end-stands}
 use Rattle.readers.proofs.Tags.{tag-sound, tag-complete, tag-leaves, end-tag-sound, end-tag-complete, end-tag-leaves}
 use Rattle.readers.proofs.Unique.{unique-iff}
 use Rattle.readers.proofs.Says.{declaration-says, declaration-only, instruction-says, instruction-only, comment-says, comment-only}
-use Rattle.readers.proofs.Says.{section-says, section-only, reference-says, reference-only, text-says, text-only}
+use Rattle.readers.proofs.Says.{section-says, section-only, text-says, text-only}
+use Rattle.references.specs.Say.{sayingAt}
+use Rattle.references.specs.Meaning.{ReferenceSays}
+use Rattle.references.specs.declared.reference.Saying.{Saying}
+use Rattle.references.specs.declared.reference.Saying.the-variants.{Says as Refers, Fault as NoReference}
+use Rattle.references.proofs.Meaning.{reference-says, reference-only}
 use Rattle.tags.specs.Tag.{startPlaced, startBy, tagAt, finishBy, endTagAt}
 use Rattle.tags.specs.declared.Item.{Item}
 use Rattle.tags.specs.declared.Item.the-variants.{Declaration, Instruction, Comment, Section, Reference, Text, Start, Finish}
 use Rattle.tags.specs.declared.Item.the-variants.{Doctype, Malformed, TooLarge, Nothing}
 use Rattle.items.specs.Item.{Kind, declaration, instruction, comment, section, doctype, finish, start, reference, text, nothing}
-use Rattle.items.specs.Item.{kindOf, itemBy, itemOf, itemAt}
+use Rattle.items.specs.Item.{kindOf, itemBy, referenceItem, itemOf, itemAt}
 use Rattle.items.specs.Meaning.{Short, Small, Twice, StartIs, FinishIs, Broken, Large, large-finish, large-start}
 use Rattle.items.specs.Meaning.{KindSays, ItemSays}
 use Rattle.items.proofs.Telling.{kind-nothing, by-ends, by-fault}
@@ -197,6 +202,10 @@ module _ (d : List ℕ) (at : ℕ) (c : Chars (drop at d)) where
   by-says P f R none y n x = n x
   by-says P f R (some t) y n x = y _ x
 
+  by-saying : (r : Saying) → ReferenceSays d at r → KindSays reference d at (referenceItem r)
+  by-saying (Refers n e) x = (refl, x)
+  by-saying NoReference x = x
+
   kind-says : (k : Kind) → at ≤ length d → KindSays k d at (itemOf k d at)
   kind-says declaration l =
       by-says (KindSays declaration d at) Declaration (Reads XMLDecl) (declarationOf (drop at d)) (λ e x. (refl, x)) (λ x. x)
@@ -213,9 +222,7 @@ module _ (d : List ℕ) (at : ℕ) (c : Chars (drop at d)) where
   kind-says doctype l = refl
   kind-says finish l = end-tag-says
   kind-says start l = tag-says
-  kind-says reference l =
-      by-says (KindSays reference d at) Reference (Reads ReferenceRule) (referenceOf (drop at d)) (λ e x. (refl, x)) (λ x. x)
-      (reference-says d at c l)
+  kind-says reference l = by-saying (sayingAt d at (referenceOf (drop at d))) (reference-says d at)
   kind-says text l =
       by-says (KindSays text d at) Text TextIs (textOf (drop at d)) (λ e x. (refl, x)) (λ x. x) (text-says d at c l)
   kind-says nothing l = refl
@@ -228,7 +235,7 @@ module _ (d : List ℕ) (at : ℕ) (c : Chars (drop at d)) where
   broken-only doctype n = absurd n
   broken-only finish n = no-end-tag n
   broken-only start n = no-tag n
-  broken-only reference n = by-fault Reference d at (referenceOf (drop at d)) (reference-only d at c Fault n) refl
+  broken-only reference n = ap referenceItem (reference-only d at NoReference n)
   broken-only text n = by-fault Text d at (textOf (drop at d)) (text-only d at c Fault n) refl
   broken-only nothing n = absurd n
 
@@ -248,7 +255,7 @@ module _ (d : List ℕ) (at : ℕ) (c : Chars (drop at d)) where
   kind-only k (Section e) (q, x) = by-ends Section d at (sectionOf (drop at d)) (section-only d at c (Ends e) x) refl ∙ of-kind q
   kind-only k (Finish n e) (q, x) = finish-only x ∙ of-kind q
   kind-only k (Start n h e empty twice) (q, x) = start-only x ∙ of-kind q
-  kind-only k (Reference e) (q, x) = by-ends Reference d at (referenceOf (drop at d)) (reference-only d at c (Ends e) x) refl ∙ of-kind q
+  kind-only k (Reference n e) (q, x) = ap referenceItem (reference-only d at (Refers n e) x) ∙ of-kind q
   kind-only k (Text e) (q, x) = by-ends Text d at (textOf (drop at d)) (text-only d at c (Ends e) x) refl ∙ of-kind q
   kind-only k Doctype q = of-kind q
   kind-only k Malformed n = broken-only k n

@@ -29,11 +29,14 @@ use Rattle.readers.specs.Value.{referenceOf}
 use Rattle.readers.specs.Named.{instructionOf, declarationOf}
 use Rattle.readers.proofs.Answers.{text-inside}
 use Rattle.tags.specs.Tag.{tagAt, endTagAt}
+use Rattle.references.specs.Say.{sayingAt}
+use Rattle.references.specs.declared.reference.Saying.{Saying}
+use Rattle.references.specs.declared.reference.Saying.the-variants.{Says, Fault as NoReference}
 use Rattle.tags.specs.declared.Item.{Item}
 use Rattle.tags.specs.declared.Item.the-variants.{Declaration, Instruction, Comment, Section, Reference, Text}
 use Rattle.tags.specs.declared.Item.the-variants.{Doctype, Malformed, Nothing}
 use Rattle.items.specs.Item.{Kind, declaration, instruction, comment, section, doctype, finish, start, reference, text, nothing}
-use Rattle.items.specs.Item.{declares, kindOf, itemBy, itemOf, itemAt}
+use Rattle.items.specs.Item.{declares, kindOf, itemBy, referenceItem, itemOf, itemAt}
 
 -- ---- the kinds
 
@@ -276,16 +279,16 @@ pub ruleset marked-up = (markup-alone, markup-next, markup-finish, markup-start,
 -- ---- `content` and `item`
 
 module _ (first : Bool) (d : List ℕ) (at : ℕ) (l : at < length d) where
-  module _ (e : getD d at 0 ≡ 0x26) {r : Reading} (g : r ≡ readingAt d at (referenceOf (drop at d))) where
-    is-reference : itemBy Reference d at (referenceOf (drop at d)) ≡ itemAt first d at
+  module _ (e : getD d at 0 ≡ 0x26) {r : Saying} (g : r ≡ sayingAt d at (referenceOf (drop at d))) where
+    is-reference : referenceItem (sayingAt d at (referenceOf (drop at d))) ≡ itemAt first d at
     is-reference =
         kinded first d at (front-one d at l ∙ ap (λ (b : ℕ). b ∷ drop (at + 1) d) e) (kind-reference first (drop (at + 1) d))
 
-    pub content-reference : {i : ℕ} → r ≡ Ends i → Reference i ≡ itemAt first d at
-    content-reference h = by-ends Reference d at (referenceOf (drop at d)) g h ∙ is-reference
+    pub content-reference : {c i : ℕ} → r ≡ Says c i → Reference c i ≡ itemAt first d at
+    content-reference h = ap referenceItem (sym h ∙ g) ∙ is-reference
 
-    pub content-unknown : r ≡ Fault → Malformed ≡ itemAt first d at
-    content-unknown h = by-fault Reference d at (referenceOf (drop at d)) g h ∙ is-reference
+    pub content-unknown : r ≡ NoReference → Malformed ≡ itemAt first d at
+    content-unknown h = ap referenceItem (sym h ∙ g) ∙ is-reference
 
   module _ (n : getD d at 0 ≡ 0x3C → ⊥) (m : getD d at 0 ≡ 0x26 → ⊥) {r : Reading} (g : r ≡ readingAt d at (textOf (drop at d))) where
     is-text : itemBy Text d at (textOf (drop at d)) ≡ itemAt first d at

@@ -12,6 +12,9 @@ use Rattle.utf8.specs.Place.{endsAt}
 use Rattle.readers.specs.Plain.{textOf, commentOf, sectionOf}
 use Rattle.readers.specs.Value.{referenceOf}
 use Rattle.readers.specs.Named.{instructionOf, declarationOf}
+use Rattle.references.specs.Say.{sayingAt}
+use Rattle.references.specs.declared.reference.Saying.{Saying}
+use Rattle.references.specs.declared.reference.Saying.the-variants.{Says, Fault as NoReference}
 use Rattle.tags.specs.Tag.{tagAt, endTagAt}
 use Rattle.tags.specs.declared.Item.{Item}
 use Rattle.tags.specs.declared.Item.the-variants.{Declaration, Instruction, Comment, Section, Reference, Text, Start, Finish}
@@ -57,6 +60,11 @@ abbrev pub itemBy : (ℕ → Item) → List ℕ → ℕ → Option (List ℕ) �
 itemBy f d at none = Malformed
 itemBy f d at (some t) = f (endsAt d at t)
 
+-- a reference with the character that it says
+abbrev pub referenceItem : Saying → Item
+referenceItem (Says c e) = Reference c e
+referenceItem NoReference = Malformed
+
 abbrev pub itemOf : Kind → List ℕ → ℕ → Item
 itemOf declaration d at = itemBy Declaration d at (declarationOf (drop at d))
 itemOf instruction d at = itemBy Instruction d at (instructionOf (drop at d))
@@ -65,7 +73,7 @@ itemOf section d at = itemBy Section d at (sectionOf (drop at d))
 itemOf doctype d at = Doctype
 itemOf finish d at = endTagAt d at
 itemOf start d at = tagAt d at
-itemOf reference d at = itemBy Reference d at (referenceOf (drop at d))
+itemOf reference d at = referenceItem (sayingAt d at (referenceOf (drop at d)))
 itemOf text d at = itemBy Text d at (textOf (drop at d))
 itemOf nothing d at = Nothing
 

@@ -6,13 +6,15 @@ use mathlib.Core.Bool.{Bool, true, false}
 use mathlib.Core.List.{List}
 use Prim.Native.Nat.{ℕ, _+_, _≤_}
 use lib.ListN.{length, drop}
-use Rattle.xml.specs.Productions.{XMLDecl, PI, Comment as CommentRule, CDSect, Reference as ReferenceRule}
+use Rattle.xml.specs.Productions.{XMLDecl, PI, Comment as CommentRule, CDSect}
 use Rattle.xml.specs.Document.{Unique, AllShort}
 use Rattle.utf8.specs.Place.{Stands}
 use Rattle.chars.specs.declared.name.Reading.the-variants.{Ends, Fault}
 use Rattle.readers.specs.Named.{Piece, Tag}
 use Rattle.readers.specs.Meaning.{EndTagIs, TagIs}
 use Rattle.readers.specs.Says.{ReadingSays, TextSays}
+use Rattle.references.specs.Meaning.{ReferenceSays}
+use Rattle.references.specs.declared.reference.Saying.the-variants.{Says, Fault as NoReference}
 use Rattle.tags.specs.declared.Item.{Item}
 use Rattle.tags.specs.declared.Item.the-variants.{Declaration, Instruction, Comment, Section, Reference, Text, Start, Finish}
 use Rattle.tags.specs.declared.Item.the-variants.{Doctype, Malformed, TooLarge, Nothing}
@@ -66,7 +68,7 @@ Broken section d at = ReadingSays CDSect d at Fault
 Broken doctype d at = ⊥
 Broken finish d at = (v : Piece) → EndTagIs (drop at d) v → ⊥
 Broken start d at = (v : Tag) → TagIs (drop at d) v → ⊥
-Broken reference d at = ReadingSays ReferenceRule d at Fault
+Broken reference d at = ReferenceSays d at NoReference
 Broken text d at = TextSays d at Fault
 Broken nothing d at = ⊥
 
@@ -85,7 +87,7 @@ KindSays k d at (Comment e) = (k ≡ comment) × ReadingSays CommentRule d at (E
 KindSays k d at (Section e) = (k ≡ section) × ReadingSays CDSect d at (Ends e)
 KindSays k d at (Finish n e) = (k ≡ finish) × FinishIs d at n e
 KindSays k d at (Start n h e empty twice) = (k ≡ start) × StartIs d at n h e empty twice
-KindSays k d at (Reference e) = (k ≡ reference) × ReadingSays ReferenceRule d at (Ends e)
+KindSays k d at (Reference c e) = (k ≡ reference) × ReferenceSays d at (Says c e)
 KindSays k d at (Text e) = (k ≡ text) × TextSays d at (Ends e)
 KindSays k d at Doctype = k ≡ doctype
 KindSays k d at Malformed = Broken k d at

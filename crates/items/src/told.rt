@@ -15,10 +15,11 @@ use plain::comment::comment;
 use plain::section::section;
 use plain::text::text;
 use points::table::Classes;
+use references::reference::Saying;
+use references::reference::reference;
 use tags::Item;
 use tags::finish::end_tag;
 use tags::tag::tag;
-use values::reference::reference;
 
 // Whether a declaration stands at a place: `<?xml` and white space, as first item only.
 fn is_declaration(doc: &[u8], at: usize, first: bool) -> bool
@@ -106,8 +107,8 @@ fn content(doc: &[u8], at: usize, first: bool) -> Item
 {
     if doc[at] == 0x26 {
         return match reference(doc, at) {
-            Reading::Ends(e) => Item::Reference(e),
-            Reading::Fault => Item::Malformed,
+            Saying::Says(c, e) => Item::Reference(c, e),
+            Saying::Fault => Item::Malformed,
         };
     }
     match text(doc, at) {

@@ -224,7 +224,7 @@ end-ahead d at (Declaration e) h l = (omega (arith, h .0), h .1)
 end-ahead d at (Instruction e) h l = (omega (arith, h .0), h .1)
 end-ahead d at (Comment e) h l = (omega (arith, h .0), h .1)
 end-ahead d at (Section e) h l = (omega (arith, h .0), h .1)
-end-ahead d at (Reference e) h l = (omega (arith, h .0), h .1)
+end-ahead d at (Reference n e) h l = (omega (arith, h .0), h .1)
 end-ahead d at (Text e) h l = (omega (arith, h .0), h .1)
 end-ahead d at (Start n b e m t) h l = (omega (arith, h .0, h .1), h .2)
 end-ahead d at (Finish n e) h l = (omega (arith, h .0), h .1)
@@ -268,7 +268,7 @@ module _ {d starts lens o o′ : List ℕ} {level : ℕ} (at : ℕ) {run r : Run
   asides-step (Instruction e) k m = m starts lens level h
   asides-step (Comment e) k m = m starts lens level h
   asides-step (Section e) k m = m starts lens level h
-  asides-step (Reference e) k m = m starts lens level h
+  asides-step (Reference n e) k m = m starts lens level h
   asides-step (Text e) k m = m starts lens level h
   asides-step (Start n b e u t) k m = m starts lens level h
   asides-step (Finish n e) k m = absurd (not-among unfinished 7 refl k)

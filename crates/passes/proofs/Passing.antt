@@ -238,7 +238,7 @@ module _ {list d o₀ : List ℕ} {states : List MatchState} {starts lens : List
         after (Instruction e) k = refl
         after (Comment e) k = refl
         after (Section e) k = refl
-        after (Reference e) k = refl
+        after (Reference n e) k = refl
         after (Text e) k = refl
         after (Start n h e m t) k = absurd (not-among untagged 6 refl k)
         after (Finish n e) k = refl
@@ -255,7 +255,7 @@ module _ {list d o₀ : List ℕ} {states : List MatchState} {starts lens : List
         no-more (Instruction e) l = omega arith
         no-more (Comment e) l = omega arith
         no-more (Section e) l = omega arith
-        no-more (Reference e) l = omega arith
+        no-more (Reference n e) l = omega arith
         no-more (Text e) l = omega arith
         no-more (Start n h e m t) l = omega arith
         no-more (Finish n e) l = omega arith

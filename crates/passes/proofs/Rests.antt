@@ -120,7 +120,7 @@ rest-other {v} {d} {at} {x = x} r {i} q s f k l g = rest-on r q (makes i f k) l 
     makes (Instruction e) f k ts = refl
     makes (Comment e) f k ts = refl
     makes (Section e) f k ts = refl
-    makes (Reference e) f k ts = refl
+    makes (Reference n e) f k ts = refl
     makes (Text e) f k ts = refl
     makes (Start n h e m t) f k ts = absurd (not-among untagged 6 refl k)
     makes (Finish n e) f k ts = refl

@@ -6,15 +6,15 @@ mod gather; // the attributes of a tag
 pub mod finish; // end tags
 pub mod tag; // start tags and empty tags
 
-// What stands at a place. A sound item with the place of its end; a tag also with the length of its name, which begins after `<` or `</`;
-// a start or empty tag also with the place of its final `>` or `/>`, and whether an attribute's name stands twice. Or the fault: a document
-// type; a broken production; over a size. Nothing stands past the end.
+// What stands at a place. A sound item with the place of its end; a reference also with the code point that it says; a tag also with the
+// length of its name, which begins after `<` or `</`; a start or empty tag also with the place of its final `>` or `/>`, and whether an
+// attribute's name stands twice. Or the fault: a document type; a broken production; over a size. Nothing stands past the end.
 pub enum Item {
     Declaration(usize),
     Instruction(usize),
     Comment(usize),
     Section(usize),
-    Reference(usize),
+    Reference(u32, usize),
     Text(usize),
     Start {
         name: usize,

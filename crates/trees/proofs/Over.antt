@@ -10,9 +10,12 @@ use Rattle.xml.proofs.Bools.{true-false}
 use Rattle.readers.specs.Plain.{textOf, commentOf, sectionOf}
 use Rattle.readers.specs.Value.{referenceOf}
 use Rattle.readers.specs.Named.{Piece, Tag, instructionOf, declarationOf, tagOf, endTagOf, smallTag}
+use Rattle.references.specs.Say.{sayingAt}
+use Rattle.references.specs.declared.reference.Saying.{Saying}
+use Rattle.references.specs.declared.reference.Saying.the-variants.{Says, Fault as NoReference}
 use Rattle.items.specs.Item.{Kind, declaration, instruction, comment, section, doctype, finish, start, reference, text, nothing}
 use Rattle.tags.specs.Tag.{startBy, tagAt, finishBy, endTagAt}
-use Rattle.items.specs.Item.{kindOf, itemBy, itemOf, itemAt}
+use Rattle.items.specs.Item.{kindOf, itemBy, referenceItem, itemOf, itemAt}
 use Rattle.tags.specs.declared.Item.{Item}
 use Rattle.tags.specs.declared.Item.the-variants.{Declaration, Instruction, Comment, Section, Reference, Text, Start, Finish}
 use Rattle.tags.specs.declared.Item.the-variants.{Doctype, Malformed, TooLarge, Nothing}
@@ -47,7 +50,7 @@ isItem (Declaration e) = true
 isItem (Instruction e) = true
 isItem (Comment e) = true
 isItem (Section e) = true
-isItem (Reference e) = true
+isItem (Reference n e) = true
 isItem (Text e) = true
 isItem (Start n h e m t) = true
 isItem (Finish n e) = true
@@ -60,6 +63,10 @@ module _ (d : List ℕ) (at : ℕ) where
   read-item : (f : ℕ → Item) (o : Option (List ℕ)) → ((e : ℕ) → isItem (f e) ≡ true) → isItem (itemBy f d at o) ≡ true
   read-item f none h = refl
   read-item f (some t) h = h _
+
+  said-item : (r : Saying) → isItem (referenceItem r) ≡ true
+  said-item (Says c e) = refl
+  said-item NoReference = refl
 
   sized-item : (b : Bool) (i : Item) → isItem i ≡ true → isItem (cond b i TooLarge) ≡ true
   sized-item true i h = h
@@ -82,7 +89,7 @@ module _ (d : List ℕ) (at : ℕ) where
   kind-item doctype q = refl
   kind-item finish q = end-tag-item (endTagOf (drop at d))
   kind-item start q = tag-item (tagOf (drop at d))
-  kind-item reference q = read-item Reference (referenceOf (drop at d)) (λ e. refl)
+  kind-item reference q = said-item (sayingAt d at (referenceOf (drop at d)))
   kind-item text q = read-item Text (textOf (drop at d)) (λ e. refl)
   kind-item nothing q = q
 

@@ -10,8 +10,8 @@ shared-slice-read-if1 c = search contents
 reference-requires : tie.Need-reference-requires
 reference-requires c κs = search contents
 
-enum-known-e : tie.Need-enum-known-e
-enum-known-e c = search contents
+enum-known-c : tie.Need-enum-known-c
+enum-known-c c = search contents
 
 enum-told : tie.Need-enum-told
 enum-told c = search contents
@@ -25,8 +25,8 @@ returns-2 c = search contents
 text-requires : tie.Need-text-requires
 text-requires c κs = search contents
 
-enum-known-e-2 : tie.Need-enum-known-e-2
-enum-known-e-2 c = search contents
+enum-known-e : tie.Need-enum-known-e
+enum-known-e c = search contents
 
 enum-told-2 : tie.Need-enum-told-2
 enum-told-2 c = search contents
@@ -43,12 +43,12 @@ content-spec =
     (tie.spec
     shared-slice-read-if1
     reference-requires
-    enum-known-e
+    enum-known-c
     enum-told
     returns
     returns-2
     text-requires
-    enum-known-e-2
+    enum-known-e
     enum-told-2
     returns-3
     returns-4)
