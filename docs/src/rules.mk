@@ -69,7 +69,7 @@ trials: library
 
 # The crates' source, read as Rust, is timed on every machine. On x86-64, for which the toolchain makes code, the static library is too.
 # UNCHECKED= leaves index checks in. One unit, so that what is inlined does not go by modules.
-TIMED = utf8 points blocks chars paths lookup compiled matcher scans plain values instructions tags items document \
+TIMED = utf8 points blocks chars paths lookup compiled matcher scans plain references values instructions tags items document \
     writer output passes cutter exported
 UNCHECKED = --unchecked
 WHAT = characters matcher cut
