@@ -1,5 +1,6 @@
 -- A path list by printing: what a list says is data, and its bytes are what that data prints as. In order: steps, paths and lists; what
--- each prints as; which data is a path; sizes.
+-- each prints as; which data is a path; sizes. Where a sentence of document 02 changes one of document 01, it is quoted.
+use mathlib.Core.Path.{_≡_}
 use mathlib.Core.Bool.{Bool, true, false}
 use mathlib.Core.List.{List, [], _∷_, _++_}
 use Prim.Native.Nat.{ℕ, _≤_, _<_}
@@ -8,7 +9,7 @@ use Rattle.xml.specs.Notation.{bytes}
 use Rattle.xml.specs.Productions.{Name}
 use Rattle.xml.specs.Language.{Language}
 use Rattle.paths.specs.declared.Kind.{Kind}
-use Rattle.paths.specs.declared.Kind.the-variants.{Child, Descendant}
+use Rattle.paths.specs.declared.Kind.the-variants.{Child, Descendant, SelfStep, DescendantOrSelf}
 
 -- `*`, or a name
 pub data Test : Type 0 where
@@ -25,9 +26,12 @@ pub record Path : Type 0 where
 
 -- ---- what each prints as
 
+-- "Add `/self::` and `/descendant-or-self::` before a test."
 abbrev pub printKind : Kind → List ℕ
 printKind Child = bytes "/"
 printKind Descendant = bytes "//"
+printKind SelfStep = bytes "/self::"
+printKind DescendantOrSelf = bytes "/descendant-or-self::"
 
 abbrev pub printTest : Test → List ℕ
 printTest any = bytes "*"
@@ -51,11 +55,21 @@ printLine p = printAll printStep (p .steps) ++ printMark (p .marked) ++ bytes "\
 unfoldable pub printList : List Path → List ℕ
 printList = printAll printLine
 
--- ---- which data is a path: one step or more, and each name is a Name of [5]
+-- ---- which data is a path: one step or more, and each name is a Name of [5] without two colons side by side
+
+pub record TwoColons (n : List ℕ) : Type 0 where
+  pub before : List ℕ
+  pub after : List ℕ
+  pub is : n ≡ before ++ bytes "::" ++ after
+
+-- "any other name test with two colons side by side is 2 from now on": it is in no path, so no path prints as its line
+pub record ProperName (n : List ℕ) : Type 0 where
+  pub name : Language Name n
+  pub apart : TwoColons n → ⊥
 
 abbrev pub ProperTest : Test → Type 0
 ProperTest any = Unit {0}
-ProperTest (named n) = Language Name n
+ProperTest (named n) = ProperName n
 
 pub record Proper (s : Step) : Type 0 where
   pub test : ProperTest (s .test)
@@ -68,7 +82,7 @@ pub record IsPath (p : Path) : Type 0 where
   pub some : 0 < length (p .steps)
   pub each : All Proper (p .steps)
 
--- ---- sizes: 16 steps a line, names of 255 bytes
+-- ---- sizes: 16 steps a line, names of 255 bytes, in which what stands before the name does not count
 
 abbrev pub testSize : Test → ℕ
 testSize any = 0

@@ -7,10 +7,13 @@ use chars::name::Reading;
 use chars::name::name;
 use chars::text::stands;
 
-// How a step stands to the step before: one place below, or any number of places from one on.
+// Where a step stands, seen from the step before: one place below; any number of places below, from one on; the same place; that place or
+// any below.
 pub enum Kind {
     Child,
     Descendant,
+    SelfStep,
+    DescendantOrSelf,
 }
 
 // What stands at a place: a step, with its name's place and length (0 for `*`) and its end; or none.
