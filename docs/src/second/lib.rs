@@ -1,5 +1,5 @@
-//! The filter of document 01 with the request Q-1 of document 02, written a second time from these pages alone, slow
-//! and obvious. Here: the numbers handed back and the three public questions. The list is in `list`, the characters in
+//! The filter of document 01 with the requests of document 02, written a second time from these pages alone,
+//! slow and obvious. Here: the numbers handed back and the three public questions. The list is in `list`, the characters in
 //! `chars`, the productions in `declaration`, `markup`, `reference` and `tag` over `reader`, the items in `items`, their
 //! faults in `faults`, the tree in `tree` and `document`, the choice of places in `select`, the bytes in `write`, what
 //! the program prints in `program`.

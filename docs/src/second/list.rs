@@ -1,5 +1,5 @@
 //! The path list: lines of steps, each line perhaps marked. "Lines are judged in order: the first line with a fault
-//! decides." Within a line, malformed (2) comes before too large (3).
+//! decides." Within a line, malformed (2) comes before too large (3). Two of the four kinds of step are document 02's, Q-6.
 
 use crate::limits::{LINE_STEPS, LIST_BYTES, LIST_LINES, NAME_BYTES};
 use crate::reader::Reader;
@@ -8,6 +8,8 @@ use crate::{refusal, Numbers};
 pub enum Axis {
     Child,
     Descendant,
+    Itself,
+    DescendantOrSelf,
 }
 
 pub enum Test<'a> {
@@ -61,16 +63,31 @@ fn path(line: &[u8]) -> Option<Path<'_>> {
     Some(Path { steps, is_marked })
 }
 
-/// "A step is `/` (child) or `//` (descendant), then `*` or a Name."
+/// "A step is `/` (child) or `//` (descendant), then `*` or a Name", or it has another axis "before a test".
 fn step<'a>(reader: &mut Reader<'a>) -> Option<Step<'a>> {
-    let axis = if reader.take("//") {
-        Axis::Descendant
+    let axis = axis(reader)?;
+    let test = if reader.take("*") { Test::Any } else { Test::Name(tested(reader)?) };
+    Some(Step { axis, test })
+}
+
+/// Q-6: "Add `/self::` and `/descendant-or-self::`". Both begin with one slash (reading R-18), so `//` is looked for first.
+fn axis(reader: &mut Reader) -> Option<Axis> {
+    if reader.take("//") {
+        Some(Axis::Descendant)
+    } else if reader.take("/self::") {
+        Some(Axis::Itself)
+    } else if reader.take("/descendant-or-self::") {
+        Some(Axis::DescendantOrSelf)
     } else {
         reader.want("/")?;
-        Axis::Child
-    };
-    let test = if reader.take("*") { Test::Any } else { Test::Name(reader.name()?) };
-    Some(Step { axis, test })
+        Some(Axis::Child)
+    }
+}
+
+/// The name of a test. Q-6: "any other name test with two colons side by side is 2", other than the two axes, that is,
+/// which are taken before; so it is malformed however long it is (reading R-21).
+fn tested<'a>(reader: &mut Reader<'a>) -> Option<&'a str> {
+    reader.name().filter(|name| !name.contains("::"))
 }
 
 fn is_too_large(path: &Path) -> bool {

@@ -1,6 +1,6 @@
-//! What a path selects, by trying every choice of places for its steps, as the definition in document 01 reads. The
-//! choices are tried one by one and nothing is remembered between them, so a path of many `//` steps on a deep chain
-//! of names that nearly fit takes very long.
+//! What a path selects, by trying every choice of places for its steps, as the definition in document 01 reads, with the
+//! two steps that Q-6 of document 02 adds. The choices are tried one by one and nothing is remembered between them, so a
+//! path of many `//` or `/descendant-or-self::` steps on a deep chain of names that nearly fit takes very long.
 
 use crate::list::{Axis, Path, Step, Test};
 use crate::tree::{Element, Selection};
@@ -38,7 +38,7 @@ fn selects(path: &Path, names: &[&str]) -> bool {
 }
 
 /// Can places be chosen for these steps so that the last of them has this place? Places count from 1; "before the first
-/// step is place 0", so no steps at all have place 0 and no other.
+/// step is place 0", so no steps at all have place 0 and no other. "place 0 is no element, so no step takes it".
 fn can_be_laid(steps: &[Step], names: &[&str], place: usize) -> bool {
     let (last, earlier) = match steps.split_last() {
         Some(split) => split,
@@ -47,8 +47,8 @@ fn can_be_laid(steps: &[Step], names: &[&str], place: usize) -> bool {
     if place == 0 || !fits(&last.test, names[place - 1]) {
         return false;
     }
-    // Each earlier step needs a place of its own, so lower places than these need not be tried.
-    (earlier.len()..place).any(|before| is_below(&last.axis, before, place) && can_be_laid(earlier, names, before))
+    // "Places may now repeat", so the place itself is tried as well.
+    (0..=place).any(|before| may_follow(&last.axis, before, place) && can_be_laid(earlier, names, before))
 }
 
 /// "each name test equals the name there, `*` any name"
@@ -59,10 +59,13 @@ fn fits(test: &Test, name: &str) -> bool {
     }
 }
 
-/// "a child step stands exactly one place below the step before, a descendant step at least one"
-fn is_below(axis: &Axis, before: usize, place: usize) -> bool {
+/// "a child step stands exactly one place below the step before, a descendant step at least one"; "Self takes the same
+/// place as the step before, descendant-or-self that place or any below".
+fn may_follow(axis: &Axis, before: usize, place: usize) -> bool {
     match axis {
         Axis::Child => place == before + 1,
         Axis::Descendant => place >= before + 1,
+        Axis::Itself => place == before,
+        Axis::DescendantOrSelf => place >= before,
     }
 }
