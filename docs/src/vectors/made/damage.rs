@@ -32,7 +32,8 @@ const DOCTYPES: &[&str] = &["<!DOCTYPE", "<!DOCTYPE g>", "<!DOCTYPE a []>", "<!D
 const IN_LISTS: &[&[u8]] = &[
     b"/", b"//", b"///", b"/a", b"//a", b"/*", b"*", b"/*a", b" #", b"#", b" ", b"  #", b" # ", b"\n", b"\n\n", b"\r\n", b"\t", b"/-a",
     b"/a\n", b"/1", b"\xc3\xa9", b"e\xcc\x81", b"\xcc\x81", b"\xc3", b"\xef\xbb\xbf", b"\xff", b"\xf0\x90\x80\x80", b"/\xc3\x97", b"\0",
-    b"/a[1]", b"/@k", b"/..", b"/x:y", b"|", b";",
+    b"/a[1]", b"/@k", b"/..", b"/x:y", b"|", b";", b"::", b":", b"self::", b"/self::", b"/self::a", b"/self::*", b"/self:::a", b"/self:a",
+    b"//self::a", b"/Self::a", b"/child::a", b"/a::b", b"descendant-or-self::", b"/descendant-or-self::", b"/descendant-or-self::a",
 ];
 
 pub fn document(doc: &[u8], from: usize, random: &mut Random) -> Vec<u8> {

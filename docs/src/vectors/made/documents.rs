@@ -4,10 +4,12 @@
 
 use super::random::Random;
 
-/// Names alike in their fronts, composed and decomposed accents, characters of four bytes, colons and what looks like markup elsewhere.
+/// Names alike in their fronts, composed and decomposed accents, characters of four bytes, colons and what looks like markup elsewhere, or
+/// like an axis in a list.
 #[rustfmt::skip]
 const NAMES: &[&str] = &[
-    "a", "b", "c", "g", "v", "n", "aa", "ab", "\u{e9}", "e\u{301}", "e", "x:y", "_", "a-1.b", "\u{10000}", "xml", ":",
+    "a", "b", "c", "g", "v", "n", "aa", "ab", "\u{e9}", "e\u{301}", "e", "x:y", "_", "a-1.b", "\u{10000}", "xml", ":", ":a", "self",
+    "self:a", "self::a", "a::b",
 ];
 #[rustfmt::skip]
 const ATTRIBUTES: &[&str] = &["k", "kk", "l", "xmlns:a", "xmlns", "\u{e9}", "e\u{301}", "a", "_", "\u{10000}"];

@@ -1,9 +1,13 @@
 // Lists and documents with one size near its limit, on either side of it: levels, attributes, names in each place, lines, steps, and the
-// bytes of the list. No path has over three descendant steps where the document is deep: the second program tries every choice of places.
+// bytes of the list. No path has over three descendant or descendant-or-self steps where the document is deep: the second program tries
+// every choice of places.
 
 use super::documents;
 use super::lists;
 use super::random::Random;
+
+/// What stands before a name whose size is tried.
+const AXES: &[&str] = &["//", "//", "/self::", "/descendant-or-self::"];
 
 /// A list and a document, and from where on their relatives may differ: what stands before would only be repeated in a pack.
 pub struct Near {
@@ -26,11 +30,11 @@ pub fn near(random: &mut Random) -> Near {
     Near { list: list.into_bytes(), doc: doc.into_bytes(), list_from, doc_from }
 }
 
-/// The list with a line more that makes it too large, or nearly.
+/// The list with a line more that makes it too large, or nearly; at times the line is malformed as well, which comes first.
 pub fn too_large(list: &[u8], random: &mut Random) -> Vec<u8> {
     let more = match random.below(3) {
-        0 => format!("{}\n", "/a".repeat(random.between(16, 18))),
-        1 => format!("//{}\n", "n".repeat(random.between(255, 257))),
+        0 => format!("/a{}\n", random.pick(&["/a", "/a", "/self::a"]).repeat(random.between(15, 17))),
+        1 => format!("{}{}{}\n", random.pick(AXES), "n".repeat(random.between(255, 257)), random.pick(&["", "", "::", "::n"])),
         _ => "/a\n".repeat(random.between(24, 33)),
     };
     [list, more.as_bytes()].concat()
@@ -62,9 +66,15 @@ fn deep(random: &mut Random) -> (String, String) {
             doc += random.pick(&["<a/>", "<b/>", "Aar"]);
         }
     }
-    let list = random.pick(&["//a//b//a\n", "//a/a/a\n//b #\n", "/a/*//b/a\n", "//*\n", "//b//a #\n/*\n", "//a/b/a/b\n"]);
-    (list.into(), doc)
+    (random.pick(ON_DEEP).into(), doc)
 }
+
+/// Lists for documents of many levels.
+#[rustfmt::skip]
+const ON_DEEP: &[&str] = &[
+    "//a//b//a\n", "//a/a/a\n//b #\n", "/a/*//b/a\n", "//*\n", "//b//a #\n/*\n", "//a/b/a/b\n", "//a/self::a/b\n", "//*/self::b #\n",
+    "//b/descendant-or-self::a/b\n", "/descendant-or-self::a/a/descendant-or-self::b\n", "/self::a\n/a/self::*/a\n",
+];
 
 /// So many attributes. The one at `twice` has the name of another.
 fn many(count: usize, twice: usize) -> String {
@@ -103,13 +113,15 @@ fn names(random: &mut Random) -> (String, String) {
     let bytes = random.between(254, 257);
     let name = name(random, bytes);
     let list = random.pick(&["//v\n", "/g/*\n", "//n #\n"]);
+    let axis = random.pick(AXES);
+    let before = if axis == "/self::" { "/g/*" } else { "" };
     match random.below(6) {
-        0 => (format!("//n\n//{name}\n"), "<g><n/></g>".into()),
+        0 => (format!("//n\n{axis}{name}\n"), "<g><n/></g>".into()),
         1 => (list.into(), format!("<g><n/><{name}><n/></{name}></g>")),
         2 => (list.into(), format!("<g><n/><{name}/></g>")),
         3 => (list.into(), format!("<g><n/></{name}></g>")),
         4 => (list.into(), format!("<g><n/><v {name}=''/></g>")),
-        _ => (format!("//{name}\n"), format!("<g><n/><{name} k='1'/></g>")),
+        _ => (format!("{before}{axis}{name}\n"), format!("<g><n/><{name} k='1'/></g>")),
     }
 }
 
@@ -117,25 +129,35 @@ fn names(random: &mut Random) -> (String, String) {
 fn lines(random: &mut Random) -> (String, String) {
     let doc = documents::document(random);
     let count = random.between(31, 34);
-    let mut list: String = (1..count).map(|_| random.pick(&["/a\n", "/b\n", "//a\n", "/* #\n"])).collect();
+    let mut list: String = (1..count).map(|_| random.pick(&["/a\n", "/b\n", "//a\n", "/* #\n", "/a/self::a\n"])).collect();
     list += &match random.below(4) {
-        0 => random.pick(&["\n", "a\n", "/a", "/a #", "/"]).to_string(),
+        0 => random.pick(&["\n", "a\n", "/a", "/a #", "/", "/a::b\n"]).to_string(),
         _ => lists::line(random, &doc),
     };
     (list, String::from_utf8_lossy(&doc.bytes).into_owned())
 }
 
-/// A line of 15 to 18 steps, and a document of so many levels.
+/// A line of 15 to 18 steps, and a document of about as many levels as it goes down. In half of the lines one step in three stays.
 fn steps(random: &mut Random) -> (String, String) {
     let count = random.between(15, 18);
-    let descends: Vec<usize> = (0..3).map(|_| random.below(count)).collect();
+    let far: Vec<usize> = (0..3).map(|_| random.below(count)).collect();
+    let has_same = random.one_in(2);
     let mut list = String::from(random.pick(&["", "//b\n"]));
+    let mut down = 0;
     for i in 0..count {
-        list += if descends.contains(&i) { "//" } else { "/" };
+        let axis = if far.contains(&i) {
+            random.pick(&["//", "//", "/descendant-or-self::"])
+        } else if has_same && i > 0 && random.one_in(3) {
+            "/self::"
+        } else {
+            "/"
+        };
+        down += usize::from(axis != "/self::");
+        list += axis;
         list += random.pick(&["a", "a", "a", "*"]);
     }
     list += random.pick(&["\n", "\n", " #\n", " # \n", "/\n"]);
-    let levels = random.between(count - 1, count + 2);
+    let levels = random.between(down - 1, down + 2);
     (list, format!("{}<a k='1'/><b/>{}", "<a>".repeat(levels - 1), "</a>".repeat(levels - 1)))
 }
 

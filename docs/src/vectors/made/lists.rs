@@ -1,8 +1,12 @@
 // Sound lists for a document. Half of the paths are laid on a chain of the document, so that they select something; the others are of its
-// names at random and mostly miss.
+// names at random and mostly miss. A third of them may have all four kinds of step, the others child and descendant steps alone. A laid
+// path has at most two steps for each place of its chain, so it has not too many.
 
 use super::documents::Grown;
 use super::random::Random;
+
+/// The four kinds of step, without their tests.
+const AXES: &[&str] = &["/", "//", "/self::", "/descendant-or-self::"];
 
 /// Mostly up to eight lines; sometimes none, sometimes any number that is sound.
 pub fn list(random: &mut Random, grown: &Grown) -> Vec<u8> {
@@ -21,32 +25,62 @@ pub fn list(random: &mut Random, grown: &Grown) -> Vec<u8> {
 
 /// One line with its line feed.
 pub fn line(random: &mut Random, grown: &Grown) -> String {
-    let steps = if random.one_in(2) { laid(random, grown) } else { loose(random, grown) };
+    let has_all = random.one_in(3);
+    let steps = if random.one_in(2) { laid(random, grown, has_all) } else { loose(random, grown, has_all) };
     let mark = if random.one_in(4) { " #" } else { "" };
     format!("{steps}{mark}\n")
 }
 
-/// Places chosen on a chain, the last among them. A child step can stand only next to the place before.
-fn laid(random: &mut Random, grown: &Grown) -> String {
+/// Places chosen on a chain, the last among them. A child step can stand only next to the place before. With all kinds a place is at times
+/// taken again, and what could be a descendant step is at times one that could also stay.
+fn laid(random: &mut Random, grown: &Grown, has_all: bool) -> String {
     let chain = &grown.chains[random.below(grown.chains.len())];
     let mut steps = String::new();
     let mut next_to = true;
     for (i, name) in chain.iter().enumerate() {
         let stands = i + 1 == chain.len() || !random.one_in(3);
         if stands {
-            steps += if next_to && !random.one_in(4) { "/" } else { "//" };
-            steps += if random.one_in(5) { "*" } else { *name };
+            let further = if has_all && random.one_in(2) { "/descendant-or-self::" } else { "//" };
+            steps += if next_to && !random.one_in(4) { "/" } else { further };
+            steps += test(random, name, 5);
+            if has_all && random.one_in(3) {
+                steps += random.pick(&["/self::", "/self::", "/descendant-or-self::"]);
+                steps += test(random, name, 5);
+            }
         }
         next_to = stands;
     }
     steps
 }
 
-fn loose(random: &mut Random, grown: &Grown) -> String {
+fn loose(random: &mut Random, grown: &Grown, has_all: bool) -> String {
     let mut steps = String::new();
     for _ in 0..random.pick(&[1, 1, 2, 2, 3, 4, 5]) {
-        steps += random.pick(&["/", "//"]);
-        steps += if random.one_in(4) { "*" } else { random.pick(&grown.names) };
+        let name = random.pick(&grown.names);
+        steps += random.pick(if has_all { AXES } else { &AXES[..2] });
+        steps += test(random, name, 4);
     }
     steps
+}
+
+/// The name, or `*` once in so many times, and where the name can't stand in a list.
+fn test(random: &mut Random, name: &'static str, times: usize) -> &'static str {
+    if random.one_in(times) || name.contains("::") {
+        "*"
+    } else {
+        name
+    }
+}
+
+/// The list with another kind of step at one place, or the same: what it selects differs a little.
+pub fn turned(list: &[u8], random: &mut Random) -> Vec<u8> {
+    let begins = |at: &usize| list[*at] == b'/' && (*at == 0 || list[*at - 1] != b'/');
+    let steps: Vec<usize> = (0..list.len()).filter(begins).collect();
+    if steps.is_empty() {
+        return list.to_vec();
+    }
+    let at = random.pick(&steps);
+    // The longest that stands there: each begins with a slash.
+    let axis = AXES.iter().filter(|axis| list[at..].starts_with(axis.as_bytes())).map(|axis| axis.len()).max();
+    [&list[..at], random.pick(AXES).as_bytes(), &list[at + axis.unwrap_or(0)..]].concat()
 }

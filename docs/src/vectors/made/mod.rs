@@ -50,7 +50,8 @@ pub fn narrower(list: &[u8], random: &mut Random) -> Vec<u8> {
     narrow
 }
 
-/// A sound list and document in every room, narrower lists, damaged lists, other lists, and last other documents.
+/// A sound list and document in every room, narrower lists, lists with another kind of step, damaged lists, other lists, and last other
+/// documents.
 fn general(cases: &mut Vec<Case>, random: &mut Random) {
     let grown = documents::document(random);
     let doc = &grown.bytes;
@@ -58,6 +59,9 @@ fn general(cases: &mut Vec<Case>, random: &mut Random) {
     every_room(cases, &list, doc, random);
     for _ in 0..random.between(2, 5) {
         push(cases, &narrower(&list, random), doc, random);
+    }
+    for _ in 0..2 {
+        push(cases, &lists::turned(&list, random), doc, random);
     }
     for _ in 0..3 {
         push(cases, &damage::list(&list, 0, random), doc, random);

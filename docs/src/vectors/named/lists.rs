@@ -1,4 +1,5 @@
-// The path list: what a line is, how it is at fault, and which line is named. Sizes are in limits.rs, characters of names in characters.rs.
+// The path list: what a line is, how it is at fault, and which line is named. Sizes are in limits.rs, characters of names in characters.rs,
+// the axes of document 02 in axes.rs.
 
 use super::{kept, refused, Named};
 
@@ -37,7 +38,7 @@ fn sound_lists() -> Vec<Named> {
         kept("/g\n", "<g k='1'/>", "<g k='1'></g>", 1),
         kept("//g\n", "<g/>", "<g></g>", 1),
         kept("//g #\n", "<g/>", "<g/>", 1),
-        sound("/child::g\n"),
+        sound("/child:g\n"),
         sound("/:\n"),
         sound("/_-.0:\n"),
         sound("/xml\n"),

@@ -1,9 +1,11 @@
 // The cases written by hand, with what documents 01 and 02 say of each, and the check that the second program says the same. The tables are
 // in the files by topic: examples.rs and readings.rs, lists.rs, characters.rs, the items (markup.rs, tags.rs, references.rs,
-// declarations.rs), places.rs, selection.rs, written.rs, limits.rs (list) and sizes.rs (document), order.rs; of document 02, encodings.rs.
-// A case that is kept has its whole cut there, so its second number is the cut's length.
+// declarations.rs), places.rs, selection.rs, written.rs, limits.rs (list) and sizes.rs (document), order.rs; of document 02, encodings.rs,
+// axes.rs and same_place.rs. A case that is kept has its whole cut there, so its second number is the cut's length.
 
 // Tables have one case a line.
+#[rustfmt::skip]
+mod axes;
 #[rustfmt::skip]
 mod characters;
 #[rustfmt::skip]
@@ -26,6 +28,8 @@ mod places;
 mod readings;
 #[rustfmt::skip]
 mod references;
+#[rustfmt::skip]
+mod same_place;
 #[rustfmt::skip]
 mod selection;
 #[rustfmt::skip]
@@ -98,6 +102,8 @@ fn tables() -> Vec<Vec<Named>> {
         sizes::all(),
         order::all(),
         encodings::all(),
+        axes::all(),
+        same_place::all(),
     ]
 }
 
