@@ -2,6 +2,7 @@
 -- one answer. Worked examples are in `examples`.
 pub mod Print
 pub mod Names
+pub mod Colons
 pub mod Steps
 pub mod Lines
 pub mod Meaning

@@ -19,10 +19,9 @@ use Rattle.paths.specs.Path.{All, none as nil, more, Proper, IsPath, Wit
 use Rattle.paths.specs.Reader.{Run, kindAt, stepAt, steps, printEnd, endAt, withEnd, lineAt}
 use Rattle.paths.specs.Judge.{smallNames, within, smallOnly, soundAt, lines}
 use Rattle.paths.specs.declared.Kind.{Kind}
-use Rattle.paths.specs.declared.Kind.the-variants.{Child, Descendant}
 use Rattle.paths.proofs.Print.{Printed, Undoes, Found, prepend, reads-nil, run-none, run-found, run-print, run-whole}
 use Rattle.paths.proofs.Names.{name-ends}
-use Rattle.paths.proofs.Steps.{Free, AnyRest, AfterTest, AfterStep, step-undoes, step-long, steps-found}
+use Rattle.paths.proofs.Steps.{Free, AnyRest, kind-slash, AfterTest, AfterStep, step-undoes, step-long, steps-found}
 
 -- ---- a line's end
 
@@ -65,8 +64,7 @@ end-no-name false t = name-ends 0x0A _ (omega arith) refl
 
 step-no-name : (k : Kind) (s : List ℕ) → starts isName (printKind k ++ s) ≡ false
 unfolding isName isNameStart isNameMore
-step-no-name Child s = name-ends 0x2F _ (omega arith) refl
-step-no-name Descendant s = name-ends 0x2F _ (omega arith) refl
+step-no-name k s = rw (kind-slash k) (name-ends 0x2F _ (omega arith) refl)
 
 -- ---- lines
 

@@ -1,5 +1,5 @@
 -- What the functions find at places is what the definitions say.
--- In order: a text that ends inside; a test; a step; a line's end.
+-- In order: a text that ends inside; a test, whose name is looked through for two colons; a step; a line's end.
 use mathlib.Core.Path.{_≡_, refl, sym, ap, _∙_}
 use mathlib.Core.Bool.{Bool, true, false}
 use mathlib.Core.List.{List, _++_}
@@ -16,11 +16,12 @@ use Rattle.utf8.specs.Place.{endsAt}
 use Rattle.chars.specs.Name.{nameOf, nameAt, readingAt}
 use Rattle.chars.specs.declared.name.Reading.{Reading}
 use Rattle.chars.specs.declared.name.Reading.the-variants.{Ends, Fault}
+use Rattle.chars.proofs.Meaning.{name-says}
 use Rattle.paths.specs.Path.{Test, testSize, printKind, printTest, printStep}
-use Rattle.paths.specs.Reader.{kindAt, nameBefore, testAt, withKind, stepAt, endAt}
+use Rattle.paths.specs.Reader.{kindAt, twoColons, nameBefore, testAt, withKind, stepAt, endAt}
 use Rattle.paths.specs.Place.{testPlaced, testEndAt, stepPlaced, stepEndAt, lineEndAt}
 use Rattle.paths.specs.declared.Kind.{Kind}
-use Rattle.paths.specs.declared.Kind.the-variants.{Child, Descendant}
+use Rattle.paths.specs.declared.Kind.the-variants.{Child, Descendant, SelfStep, DescendantOrSelf}
 use Rattle.paths.specs.declared.StepEnd.{StepEnd}
 use Rattle.paths.specs.declared.StepEnd.the-variants.{Step as StepTo, Fault as NoStep}
 use Rattle.paths.specs.declared.LineEnd.the-variants.{Ends as LineEnds, Fault as NoEnd}
@@ -30,6 +31,32 @@ pub room : (d : List ℕ) (at : ℕ) (w : List ℕ) {x : Bool} → x ≡ begins 
 room d at w q y n =
     let e : begins w (drop at d) ≡ true = sym q ∙ y in
     omega (arith, length-drop at d, ap length (begins-split w (drop at d) e) ∙ length-append w (drop (length w) (drop at d)))
+
+-- ---- a name
+
+-- from at to e stands a name, and what follows it is left
+record NameHere (d : List ℕ) (at e : ℕ) : Type 0 where
+  pub left : List ℕ
+  pub found : nameOf (drop at d) ≡ some left
+  pub size : length (drop at d) - length left ≡ e - at
+  pub on : at ≤ e
+
+module _ (d : List ℕ) (at : ℕ) {r : Reading} {e : ℕ} (f : r ≡ nameAt d at) (g : r ≡ Ends e) where
+  name-here : NameHere d at e
+  unfolding nameAt endsAt
+  name-here = go (nameOf (drop at d)) refl (sym g ∙ f)
+    where
+      go : (o : Option (List ℕ)) → nameOf (drop at d) ≡ o → Ends e ≡ readingAt d at o → NameHere d at e
+      go none h z = absurd (let z : _≡_ {A = ℕ} 0 1 = cc in omega arith)
+      go (some t) h z =
+          let w : e ≡ at + (length (drop at d) - length t) = cc in
+          record { left = t; found = h; size = omega arith; on = omega arith }
+
+  pub name-on : at ≤ e
+  name-on = name-here .on
+
+  pub name-inside : e ≤ length d
+  name-inside = rw (sym f ∙ g) at (name-says d at) .1
 
 -- ---- a test
 
@@ -47,29 +74,23 @@ module _ (d : List ℕ) (at : ℕ) {x : Bool} (q : x ≡ begins (bytes "*") (dro
         go none z = refl
         go (some t) z = absurd (let z : _≡_ {A = ℕ} 0 1 = cc in omega arith)
 
-    module _ {e : ℕ} (g : r ≡ Ends e) where
-      pub test-name : StepTo k at (e - at) e ≡ testEndAt k d at
-      unfolding testEndAt testAt nameAt endsAt
-      test-name = rw (sym q ∙ n) (go (nameOf (drop at d)) (sym g ∙ f))
-        where
-          go : (o : Option (List ℕ)) → Ends e ≡ readingAt d at o
-              → StepTo k at (e - at) e ≡ testPlaced k at (nameBefore (drop at d) o)
-          go none z = absurd (let z : _≡_ {A = ℕ} 0 1 = cc in omega arith)
-          go (some t) z =
-              let n = length (drop at d) - length t in
-              let l : length (take n (drop at d)) ≡ n = length-take-le n (drop at d) (omega arith) in
-              let w : e ≡ at + n = cc in
-              rw (l, w) (ap (λ (m : ℕ). StepTo k at m (at + n)) (let v : at + n - at ≡ n = omega arith in v))
+    module _ {e : ℕ} (g : r ≡ Ends e) {y : Bool} (h : y ≡ twoColons (take (e - at) (drop at d))) where
+      pub test-refused : y ≡ true → NoStep ≡ testEndAt k d at
+      unfolding testEndAt testAt
+      test-refused t = let v = name-here d at f g in rw (sym q ∙ n, v .found, v .size, sym h ∙ t)
 
-pub name-on : (d : List ℕ) (at : ℕ) {r : Reading} {e : ℕ} → r ≡ nameAt d at → r ≡ Ends e → at ≤ e
-unfolding nameAt endsAt
-name-on d at {r} {e} f g = go (nameOf (drop at d)) (sym g ∙ f)
-  where
-    go : (o : Option (List ℕ)) → Ends e ≡ readingAt d at o → at ≤ e
-    go none z = absurd (let z : _≡_ {A = ℕ} 0 1 = cc in omega arith)
-    go (some t) z = let w : e ≡ at + (length (drop at d) - length t) = cc in omega arith
+      pub test-name : y ≡ false → StepTo k at (e - at) e ≡ testEndAt k d at
+      unfolding testEndAt testAt
+      test-name t =
+          let v = name-here d at f g in
+          let o = v .on in
+          let i = name-inside d at f g in
+          let l : length (take (e - at) (drop at d)) ≡ e - at =
+          length-take-le (e - at) (drop at d) (omega (arith, length-drop at d)) in
+          let w : e ≡ at + (e - at) = omega arith in
+          rw (sym q ∙ n, v .found, v .size, sym h ∙ t, l) (ap (StepTo k at (e - at)) w)
 
-pub ruleset testing = (test-star, test-fault, test-name, name-on, needs)
+pub ruleset testing = (test-star, test-fault, test-refused, test-name, name-on, name-inside, needs)
 
 -- ---- a step
 
@@ -88,18 +109,28 @@ step-kind d at k e = rw (e, drop-drop (length (printKind k)) at d) (go (testAt (
 module _ (d : List ℕ) (at : ℕ) {x : Bool} (q : x ≡ begins (bytes "//") (drop at d)) where
   pub step-descends : x ≡ true → {r : StepEnd} → r ≡ testEndAt Descendant d (at + 2) → r ≡ stepEndAt d at
   unfolding kindAt
-  step-descends y p = p ∙ step-kind d at Descendant (rw (sym q ∙ y))
+  step-descends t p = p ∙ step-kind d at Descendant (rw (sym q ∙ t))
 
-  module _ (n : x ≡ false) {z : Bool} (f : z ≡ begins (bytes "/") (drop at d)) where
-    pub step-child : z ≡ true → {r : StepEnd} → r ≡ testEndAt Child d (at + 1) → r ≡ stepEndAt d at
+  module _ (n : x ≡ false) {y : Bool} (f : y ≡ begins (bytes "/self::") (drop at d)) where
+    pub step-stays : y ≡ true → {r : StepEnd} → r ≡ testEndAt SelfStep d (at + 7) → r ≡ stepEndAt d at
     unfolding kindAt
-    step-child y p = p ∙ step-kind d at Child (rw (sym q ∙ n, sym f ∙ y))
+    step-stays t p = p ∙ step-kind d at SelfStep (rw (sym q ∙ n, sym f ∙ t))
 
-    pub step-fault : z ≡ false → NoStep ≡ stepEndAt d at
-    unfolding stepEndAt stepAt kindAt
-    step-fault m = sym (rw (sym q ∙ n, sym f ∙ m))
+    module _ (m : y ≡ false) {z : Bool} (g : z ≡ begins (bytes "/descendant-or-self::") (drop at d)) where
+      pub step-anywhere : z ≡ true → {r : StepEnd} → r ≡ testEndAt DescendantOrSelf d (at + 21) → r ≡ stepEndAt d at
+      unfolding kindAt
+      step-anywhere t p = p ∙ step-kind d at DescendantOrSelf (rw (sym q ∙ n, sym f ∙ m, sym g ∙ t))
 
-pub ruleset stepping = (step-descends, step-child, step-fault, needs)
+      module _ (l : z ≡ false) {c : Bool} (h : c ≡ begins (bytes "/") (drop at d)) where
+        pub step-child : c ≡ true → {r : StepEnd} → r ≡ testEndAt Child d (at + 1) → r ≡ stepEndAt d at
+        unfolding kindAt
+        step-child t p = p ∙ step-kind d at Child (rw (sym q ∙ n, sym f ∙ m, sym g ∙ l, sym h ∙ t))
+
+        pub step-fault : c ≡ false → NoStep ≡ stepEndAt d at
+        unfolding stepEndAt stepAt kindAt
+        step-fault t = sym (rw (sym q ∙ n, sym f ∙ m, sym g ∙ l, sym h ∙ t))
+
+pub ruleset stepping = (step-descends, step-stays, step-anywhere, step-child, step-fault, needs)
 
 -- ---- a line's end
 

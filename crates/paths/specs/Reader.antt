@@ -1,6 +1,6 @@
 -- The reader of a list, on what is left of it: executable definitions, each of which gives back what was printed. In order: any number of
 -- things, one after another; a step; a line. proofs/Steps.antt and proofs/Lines.antt show that they give back what was printed.
-use mathlib.Core.Bool.{Bool, true, false, cond}
+use mathlib.Core.Bool.{Bool, true, false, cond, _||_}
 use mathlib.Core.List.{List, [], _∷_, _++_}
 use mathlib.Core.Option.{Option, none, some}
 use Prim.Native.Nat.{ℕ, zero, suc, pred, _-_}
@@ -10,7 +10,7 @@ use Rattle.xml.specs.Character.{begins}
 use Rattle.chars.specs.Name.{nameOf}
 use Rattle.paths.specs.Path.{Test, any, named, Step, Path, printKind, printStep, printMark}
 use Rattle.paths.specs.declared.Kind.{Kind}
-use Rattle.paths.specs.declared.Kind.the-variants.{Child, Descendant}
+use Rattle.paths.specs.declared.Kind.the-variants.{Child, Descendant, SelfStep, DescendantOrSelf}
 
 -- ---- things at the front of some bytes, and what is left
 
@@ -32,15 +32,29 @@ readAll print read k [] = record { all = []; rest = [] }
 readAll print read (suc k) (b ∷ s) = readAll print read k s
 readAll print read zero (b ∷ s) = next print (read (b ∷ s)) (b ∷ s) (λ k. readAll print read k s)
 
--- ---- a step: `/` or `//`, then `*` or the longest name
+-- ---- a step: what its kind prints as, then `*` or the longest name
 
+-- what begins with `/` and more of a kind is no child step: no name begins with a slash, and the others would be names with two colons
 unfoldable pub kindAt : List ℕ → Option Kind
-kindAt s = cond (begins (bytes "//") s) (some Descendant) (cond (begins (bytes "/") s) (some Child) none)
+kindAt s =
+    cond (begins (bytes "//") s) (some Descendant)
+    (cond (begins (bytes "/self::") s) (some SelfStep)
+    (cond (begins (bytes "/descendant-or-self::") s) (some DescendantOrSelf)
+    (cond (begins (bytes "/") s) (some Child) none)))
+
+-- two colons side by side
+abbrev pub twoColons : List ℕ → Bool
+twoColons [] = false
+twoColons (b ∷ s) = begins (bytes "::") (b ∷ s) || twoColons s
+
+-- the name n, which may not have them
+abbrev pub nameOnly : List ℕ → Option Test
+nameOnly n = cond (twoColons n) none (some (named n))
 
 -- the name that stands in s before t
 abbrev pub nameBefore : List ℕ → Option (List ℕ) → Option Test
 nameBefore s none = none
-nameBefore s (some t) = some (named (take (length s - length t) s))
+nameBefore s (some t) = nameOnly (take (length s - length t) s)
 
 unfoldable pub testAt : List ℕ → Option Test
 testAt s = cond (begins (bytes "*") s) (some any) (nameBefore s (nameOf s))

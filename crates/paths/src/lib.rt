@@ -1,6 +1,7 @@
 // The path list: steps and line ends at places, and the list judged line by line. What a list means is in specs/Path.antt, and what is
 // answered in specs/Answer.antt.
 ghost use mathlib.Core.Path.{_≡_};
+ghost use Rattle.paths.specs.Reader.{twoColons};
 ghost use Rattle.paths.specs.Place.{testEndAt, stepEndAt, lineEndAt};
 ghost use Rattle.paths.specs.Judge.{listAnswer};
 use chars::name::Reading;
@@ -52,7 +53,21 @@ impl ListAnswer {
     pub const NAME: usize = 255;
 }
 
-// The step of a kind whose `*` or name stands at a place.
+// Whether two colons stand side by side in a name.
+fn two_colons(name: &[u8]) -> bool
+    ensures { λ r. ⌜ r ≡ twoColons (now (name .entry)) ⌝ }
+{
+    let mut i: usize = 0;
+    while i < name.len() {
+        if stands(name, i, b"::") {
+            return true;
+        }
+        i += 1;
+    }
+    false
+}
+
+// The step of a kind whose `*` or name stands at a place. A name with two colons side by side is no name of a step.
 fn test_at(list: &[u8], at: usize, kind: Kind) -> StepEnd
     ensures { λ r. ⌜ r ≡ testEndAt kind (now (list .entry)) at ⌝ }
 {
@@ -65,12 +80,17 @@ fn test_at(list: &[u8], at: usize, kind: Kind) -> StepEnd
         };
     }
     match name(list, at) {
-        Reading::Ends(end) => StepEnd::Step {
-            kind,
-            name: at,
-            len: end - at,
-            end,
-        },
+        Reading::Ends(end) => {
+            if two_colons(&list[at..end]) {
+                return StepEnd::Fault;
+            }
+            StepEnd::Step {
+                kind,
+                name: at,
+                len: end - at,
+                end,
+            }
+        }
         Reading::Fault => StepEnd::Fault,
     }
 }
@@ -81,6 +101,12 @@ pub fn step_at(list: &[u8], at: usize) -> StepEnd
 {
     if stands(list, at, b"//") {
         return test_at(list, at + 2, Kind::Descendant);
+    }
+    if stands(list, at, b"/self::") {
+        return test_at(list, at + 7, Kind::SelfStep);
+    }
+    if stands(list, at, b"/descendant-or-self::") {
+        return test_at(list, at + 21, Kind::DescendantOrSelf);
     }
     if stands(list, at, b"/") {
         return test_at(list, at + 1, Kind::Child);

@@ -1,5 +1,5 @@
--- `test_at` meets its contract: `*` is one byte that stands there, so its end is inside; else a name, or none.
--- proofs/Places.antt has the laws.
+-- `test_at` meets its contract: `*` is one byte that stands there, so its end is inside; else a name, which ends inside and has no two
+-- colons side by side, or none. proofs/Places.antt has the laws.
 use native.Mathlib.Omega.{arith}
 use Rattle.xml.specs.Notation.{bytes}
 use Rattle.paths.proofs.Places.{room, testing}
@@ -26,17 +26,32 @@ name-requires c κs = search testing
 enum-known-end : tie.Need-enum-known-end
 enum-known-end c = search testing
 
-sub-t12 : tie.Need-sub-t12
-sub-t12 c = search testing
+sub-two-colons : tie.Need-sub-two-colons
+sub-two-colons c = search testing
 
-enum-told : tie.Need-enum-told
-enum-told c = search testing
+part-two-colons-start : tie.Need-part-two-colons-start
+part-two-colons-start c = search testing
+
+part-two-colons-end : tie.Need-part-two-colons-end
+part-two-colons-end c = search testing
+
+two-colons-requires : tie.Need-two-colons-requires
+two-colons-requires c κs = search testing
 
 returns-2 : tie.Need-returns-2
 returns-2 c = search testing
 
+sub-t14 : tie.Need-sub-t14
+sub-t14 c = search testing
+
+enum-told : tie.Need-enum-told
+enum-told c = search testing
+
 returns-3 : tie.Need-returns-3
 returns-3 c = search testing
+
+returns-4 : tie.Need-returns-4
+returns-4 c = search testing
 
 pub test-at-spec : {M : Type 1} → statement M
 test-at-spec =
@@ -48,7 +63,12 @@ test-at-spec =
     returns
     name-requires
     enum-known-end
-    sub-t12
-    enum-told
+    sub-two-colons
+    part-two-colons-start
+    part-two-colons-end
+    two-colons-requires
     returns-2
-    returns-3)
+    sub-t14
+    enum-told
+    returns-3
+    returns-4)
