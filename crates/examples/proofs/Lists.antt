@@ -1,5 +1,6 @@
 -- Worked examples of `listAnswer` and `listPaths`, each table under one statement that antt computes: lists, and beside them the answers by
--- document 01. In order: how the lists are written; the lines; the steps and marks of a line; names; sizes; which fault decides; paths.
+-- documents 01 and 02. In order: how the lists are written; the lines; the steps and marks of a line; names; kinds of step, and two colons
+-- side by side; sizes; which fault decides; paths.
 use mathlib.Core.Path.{_≡_, refl}
 use mathlib.Core.Bool.{true, false}
 use mathlib.Core.List.{List, [], _∷_, _++_}
@@ -13,7 +14,7 @@ use Rattle.chars.specs.Name.{nameOf}
 use Rattle.paths.specs.Path.{Test, any, named, Step, Path, printStep, printLine}
 use Rattle.paths.specs.Reader.{readAll, kindAt, testAt, stepAt, steps, endAt, lineAt}
 use Rattle.paths.specs.Judge.{within, soundAt, lines, judge, listAnswer, listPaths}
-use Rattle.paths.specs.declared.Kind.the-variants.{Child, Descendant}
+use Rattle.paths.specs.declared.Kind.the-variants.{Child, Descendant, SelfStep, DescendantOrSelf}
 use Rattle.paths.specs.declared.ListAnswer.{ListAnswer}
 use Rattle.paths.specs.declared.ListAnswer.the-variants.{Sound, TooLong, Malformed, TooLarge}
 
@@ -126,6 +127,60 @@ nameLines =
     ∷ (line overlong gives Malformed 1)
     ∷ []
 
+-- ---- kinds of step, and two colons side by side
+
+-- the two longer kinds, and names that only look like them
+pub kindLines : List (Row ListAnswer)
+kindLines =
+    (bytes "/self::p\n" gives Sound)
+    ∷ (bytes "/self::* #\n" gives Sound)
+    ∷ (bytes "/descendant-or-self::p\n" gives Sound)
+    ∷ (bytes "/descendant-or-self::* #\n" gives Sound)
+    ∷ (bytes "/a/self::a//b/descendant-or-self::*/self::c #\n" gives Sound)
+    ∷ (bytes "/self:::p\n" gives Sound)
+    ∷ (bytes "/self:::\n" gives Sound)
+    ∷ (bytes "/descendant-or-self:::p\n" gives Sound)
+    ∷ (bytes "/self::self\n" gives Sound)
+    ∷ (bytes "/self::self:p\n" gives Sound)
+    ∷ (bytes "/self\n" gives Sound)
+    ∷ (bytes "/self:\n" gives Sound)
+    ∷ (bytes "/self:p\n" gives Sound)
+    ∷ (bytes "//self:p\n" gives Sound)
+    ∷ (bytes "/a:b:c:\n" gives Sound)
+    ∷ (bytes "/descendant-or-self:p\n" gives Sound)
+    ∷ (bytes "/self::\n" gives Malformed 1)
+    ∷ (bytes "/descendant-or-self::\n" gives Malformed 1)
+    ∷ (bytes "/self:: #\n" gives Malformed 1)
+    ∷ (bytes "/self::/a\n" gives Malformed 1)
+    ∷ (bytes "/self::1\n" gives Malformed 1)
+    ∷ (bytes "/self::**\n" gives Malformed 1)
+    ∷ (bytes "self::p\n" gives Malformed 1)
+    ∷ []
+
+pub colonLines : List (Row ListAnswer)
+colonLines =
+    (bytes "//self::p\n" gives Malformed 1)
+    ∷ (bytes "//descendant-or-self::p\n" gives Malformed 1)
+    ∷ (bytes "//self::*\n" gives Malformed 1)
+    ∷ (bytes "/self::::p\n" gives Malformed 1)
+    ∷ (bytes "/self::::\n" gives Malformed 1)
+    ∷ (bytes "/self::self::p\n" gives Malformed 1)
+    ∷ (bytes "/self::a::b\n" gives Malformed 1)
+    ∷ (bytes "/self::p::\n" gives Malformed 1)
+    ∷ (bytes "/descendant-or-self::self::p\n" gives Malformed 1)
+    ∷ (bytes "/a::b\n" gives Malformed 1)
+    ∷ (bytes "/a:::b\n" gives Malformed 1)
+    ∷ (bytes "/::\n" gives Malformed 1)
+    ∷ (bytes "/p::\n" gives Malformed 1)
+    ∷ (bytes "/:::p\n" gives Malformed 1)
+    ∷ (bytes "/child::p\n" gives Malformed 1)
+    ∷ (bytes "/descendant::p\n" gives Malformed 1)
+    ∷ (bytes "/Self::p\n" gives Malformed 1)
+    ∷ (bytes "/myself::p\n" gives Malformed 1)
+    ∷ (bytes "/a\n/b/c::d #\n" gives Malformed 2)
+    ∷ (line (composed ++ bytes "::" ++ composed) gives Malformed 1)
+    ∷ []
+
 -- ---- sizes
 
 pub sizes : List (Row ListAnswer)
@@ -141,6 +196,16 @@ sizes =
     ∷ (line (letters 252 ++ wide) gives Sound)
     ∷ (line (letters 253 ++ wide) gives TooLarge 1)
     ∷ ((bytes "/b" ++ line (letters 256)) gives TooLarge 1)
+    ∷ (line (bytes "self::" ++ letters 255) gives Sound)
+    ∷ (line (bytes "self::" ++ letters 256) gives TooLarge 1)
+    ∷ (line (bytes "self:::" ++ letters 254) gives Sound)
+    ∷ (line (bytes "self:::" ++ letters 255) gives TooLarge 1)
+    ∷ (line (bytes "descendant-or-self::" ++ letters 255) gives Sound)
+    ∷ (line (bytes "descendant-or-self::" ++ letters 256) gives TooLarge 1)
+    ∷ ((times 16 (bytes "/self::a") ++ bytes " #\n") gives Sound)
+    ∷ ((times 17 (bytes "/self::a") ++ bytes " #\n") gives TooLarge 1)
+    ∷ ((manySteps 15 ++ bytes "/descendant-or-self::*\n") gives Sound)
+    ∷ ((manySteps 16 ++ bytes "/descendant-or-self::*\n") gives TooLarge 1)
     ∷ (manyLines 32 gives Sound)
     ∷ (manyLines 33 gives TooLarge 33)
     ∷ (times 32 (line (letters 254)) gives Sound)
@@ -158,6 +223,11 @@ firstFault =
     ∷ (line (letters 256 ++ cutOff) gives Malformed 1)
     ∷ (line (letters 256 ++ bytes "!") gives Malformed 1)
     ∷ (line (letters 256 ++ bytes "/") gives Malformed 1)
+    ∷ (line (letters 254 ++ bytes "::") gives Malformed 1)
+    ∷ (line (bytes "::" ++ letters 298) gives Malformed 1)
+    ∷ (line (bytes "self::" ++ letters 298 ++ bytes "::") gives Malformed 1)
+    ∷ ((manySteps 17 ++ bytes "/a::b\n") gives Malformed 1)
+    ∷ ((bytes "/a::b" ++ line (letters 256)) gives Malformed 1)
     ∷ ((manySteps 17 ++ bytes "\nx\n") gives TooLarge 1)
     ∷ ((bytes "x\n" ++ manySteps 17 ++ bytes "\n") gives Malformed 1)
     ∷ ((bytes "/a\n" ++ manySteps 17 ++ bytes "\nx\n") gives TooLarge 2)
@@ -173,11 +243,12 @@ firstFault =
 
 -- all of them
 abbrev pub lists : List (Row ListAnswer)
-lists = wholeLines ++ blanks ++ badSteps ++ nameLines ++ sizes ++ firstFault
+lists = wholeLines ++ blanks ++ badSteps ++ nameLines ++ kindLines ++ colonLines ++ sizes ++ firstFault
 
 pub answers-computed : answers (λ s k. listAnswer s) lists ≡ expected lists
-unfolding wholeLines blanks badSteps nameLines sizes firstFault listAnswer judge lines soundAt within lineAt steps readAll endAt stepAt
-    testAt kindAt printStep printLine nameOf run starts character guess valueOf utf8 isScalar isNameStart isNameMore isName
+unfolding wholeLines blanks badSteps nameLines kindLines colonLines sizes firstFault listAnswer judge lines soundAt within lineAt steps
+    readAll endAt stepAt testAt kindAt printStep printLine nameOf run starts character guess valueOf utf8 isScalar isNameStart isNameMore
+    isName
 answers-computed = refl
 
 -- ---- the paths of a list
@@ -188,13 +259,19 @@ child x = record { kind = Child; test = x }
 abbrev below : Test → Step
 below x = record { kind = Descendant; test = x }
 
+abbrev same : Test → Step
+same x = record { kind = SelfStep; test = x }
+
+abbrev sameOrBelow : Test → Step
+sameOrBelow x = record { kind = DescendantOrSelf; test = x }
+
 abbrev plain : List Step → Path
 plain xs = record { steps = xs; marked = false }
 
 abbrev marked : List Step → Path
 marked xs = record { steps = xs; marked = true }
 
--- none of an empty list and of one that is refused; the kinds of step and the mark; the two names é
+-- none of an empty list and of one that is refused; the kinds of step and the mark; the two names é; names with colons
 pub pathLists : List (Row (List Path))
 pathLists =
     ([] gives [])
@@ -202,6 +279,12 @@ pathLists =
     ∷ (bytes "/*//b #\n/a\n" gives marked (child any ∷ below (named (bytes "b")) ∷ []) ∷ plain (child (named (bytes "a")) ∷ []) ∷ [])
     ∷ (bytes "/a\n/a\n" gives plain (child (named (bytes "a")) ∷ []) ∷ plain (child (named (bytes "a")) ∷ []) ∷ [])
     ∷ ((line composed ++ line decomposed) gives plain (child (named composed) ∷ []) ∷ plain (child (named decomposed) ∷ []) ∷ [])
+    ∷ (bytes "/self::*/descendant-or-self::b #\n" gives marked (same any ∷ sameOrBelow (named (bytes "b")) ∷ []) ∷ [])
+    ∷ (bytes "/a/self::p\n" gives plain (child (named (bytes "a")) ∷ same (named (bytes "p")) ∷ []) ∷ [])
+    ∷ (bytes "/self:::p\n/self:::\n" gives plain (same (named (bytes ":p")) ∷ []) ∷ plain (same (named (bytes ":")) ∷ []) ∷ [])
+    ∷ (bytes "/self:p\n/self:\n" gives plain (child (named (bytes "self:p")) ∷ []) ∷ plain (child (named (bytes "self:")) ∷ []) ∷ [])
+    ∷ (bytes "/self\n//self:p\n" gives plain (child (named (bytes "self")) ∷ []) ∷ plain (below (named (bytes "self:p")) ∷ []) ∷ [])
+    ∷ (bytes "/a\n/b::c\n" gives [])
     ∷ (bytes "/a\nb\n" gives [])
     ∷ ((bytes "/a\n" ++ manySteps 17 ++ bytes "\n") gives [])
     ∷ (manyLines 33 gives [])
