@@ -1,70 +1,76 @@
 // Path lists at the sizes and past them: each a piece, another one n times and a last one, for five n from some number on. A line has the
 // row of the list, n, and what is answered.
-ghost use Prim.Native.Nat.{_<_};
 use crate::answers;
 use crate::out;
 
-// Three bytes of the piece, three of the one that is repeated, two of the last; 0 is no byte. In order: lines, from 0 and from 30 on; lines
-// and a malformed one; steps; steps, malformed; bytes of a name; two bytes each of a name; bytes after a line.
-const PIECES: [[u8; 8]; 8] = [
-    [0, 0, 0, b'/', b'a', b'\n', 0, 0],
-    [0, 0, 0, b'/', b'a', b'\n', 0, 0],
-    [0, 0, 0, b'/', b'a', b'\n', b'a', b'\n'],
-    [0, 0, 0, b'/', b'a', 0, b'\n', 0],
-    [0, 0, 0, b'/', b'a', 0, b' ', b'\n'],
-    [b'/', 0, 0, b'n', 0, 0, b'\n', 0],
-    [b'/', b'n', 0, 0xC3, 0xA9, 0, b'\n', 0],
-    [b'/', b'a', b'\n', b'x', 0, 0, 0, 0],
-];
-
-// The first n of each row.
-const FROM: [usize; 8] = [0, 30, 30, 14, 14, 253, 125, 8187];
-
-// Byte j of the list of a row with n, before those that are none are left out.
-fn byte_of(row: usize, n: usize, j: usize) -> u8
-    requires { ⌜ n < 8192 ⌝ }
-{
-    let mut at = j;
-    if 3 * n + 3 <= j {
-        at = 3 + (j - 3 * n) % 8;
-    } else if 3 <= j {
-        at = 3 + j % 3;
+// Writes a piece from the place at on, as far as there is room. Where it ends.
+fn join(s: &mut [u8], at: usize, piece: &[u8]) -> usize {
+    let mut i = at;
+    let mut j: usize = 0;
+    while j < piece.len() {
+        if s.len() <= i {
+            return i;
+        }
+        s[i] = piece[j];
+        i += 1;
+        j += 1;
     }
-    PIECES[row % 8][at % 8]
+    i
 }
 
-// What is answered on the list of a row with n.
-fn sized(row: usize, n: usize) -> usize
-    requires { ⌜ n < 8192 ⌝ }
-{
-    let mut s = [0u8; 24580];
-    let mut len: usize = 0;
-    let mut j: usize = 0;
-    while j < 3 * n + 5 {
-        let b = byte_of(row, n, j);
-        j += 1;
-        if b != 0 {
-            s[len] = b;
-            len += 1;
-        }
+// What is answered on a list of a piece, another one n times and a last one.
+fn sized(first: &[u8], piece: &[u8], n: usize, last: &[u8]) -> usize {
+    let mut s = [0u8; 8200];
+    let mut len = join(&mut s, 0, first);
+    let mut k: usize = 0;
+    while k < n {
+        len = join(&mut s, len, piece);
+        k += 1;
     }
+    len = join(&mut s, len, last);
     answers::listed(answers::front(&s, len))
 }
 
-fn line(row: usize, n: usize) {
-    let code = sized(row, n % 8192);
-    out::number(row);
-    out::number(n);
-    out::number(code / 64);
-    out::number(code % 64);
-    out::end();
+// A line for each of five n.
+fn lines(row: usize, first: &[u8], piece: &[u8], from: usize, last: &[u8]) {
+    let mut k: usize = 0;
+    while k < 5 {
+        let n = from % 8192 + k;
+        let code = sized(first, piece, n, last);
+        out::number(row);
+        out::number(n);
+        out::number(code / 64);
+        out::number(code % 64);
+        out::end();
+        k += 1;
+    }
+}
+
+// In order: lines, from 0 and from 30 on; lines and a malformed one; steps; steps, malformed; bytes of a name; two bytes each of a name;
+// bytes after a line.
+fn plain() {
+    lines(0, b"", b"/a\n", 0, b"");
+    lines(1, b"", b"/a\n", 30, b"");
+    lines(2, b"", b"/a\n", 30, b"a\n");
+    lines(3, b"", b"/a", 14, b"\n");
+    lines(4, b"", b"/a", 14, b" \n");
+    lines(5, b"/", b"n", 253, b"\n");
+    lines(6, b"/n", b"\xC3\xA9", 125, b"\n");
+    lines(7, b"/a\n", b"x", 8187, b"");
+}
+
+// In order: bytes of a name behind the two longer kinds of step; steps of these kinds; a name with two colons; a name that begins with one.
+fn colons() {
+    lines(8, b"/self::", b"n", 253, b"\n");
+    lines(9, b"/descendant-or-self::", b"n", 253, b"\n");
+    lines(10, b"", b"/self::a", 14, b" #\n");
+    lines(11, b"//b", b"/descendant-or-self::*", 13, b"\n");
+    lines(12, b"/", b"n", 252, b"::\n");
+    lines(13, b"/self:::", b"n", 252, b"\n");
 }
 
 pub fn print() {
     out::text(b"list, how often its piece stands there, and what is answered\n");
-    let mut k: usize = 0;
-    while k < 40 {
-        line(k / 5, FROM[k / 5] % 8192 + k % 5);
-        k += 1;
-    }
+    plain();
+    colons();
 }

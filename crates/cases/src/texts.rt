@@ -85,7 +85,7 @@ pub fn show(s: &[u8]) {
 
 // A line of the list each: ASCII; U+E9 and the same as a letter and U+301, U+300 first, U+B7, U+D7, U+F7, U+37E; U+2C00, U+3000, U+3001,
 // U+203F, U+10000 and U+EFFFF, U+F0000; nothing, bytes that begin nothing, sequences that are cut off; overlong forms of a letter, a
-// surrogate, U+FFFE, a code point past the last; white space, and what is none: U+B, U+C, U+A0, U+2003; path lists in three lines.
+// surrogate, U+FFFE, a code point past the last; white space, and what is none: U+B, U+C, U+A0, U+2003; path lists in five lines.
 pub fn print() {
     out::text(
         b"bytes; name ends from 0, 1; space ends from 0, 100; as a list; replaced, cut off\n",
@@ -99,7 +99,9 @@ pub fn print() {
         \x20| a|\t\r\n a b|\x0B\x0C|\xC2\xA0 |\xE2\x80\x83a| \x00 |\
         /a\n|//a\n|/*\n|/a #\n|\
         //b/*//c #\n/d\n|/g/p/v\n//n #\n//v//n\n|\
-        /\xC3\xA9/e\xCC\x81\n|/:a/_b-1.2\n//*/x #\n|",
+        /\xC3\xA9/e\xCC\x81\n|/:a/_b-1.2\n//*/x #\n|\
+        /self::p\n|/self:::p #\n|/descendant-or-self::*/a\n|/a/descendant-or-self::b:c/self::*\n|//self:p/self\n|\
+        /self::self::p\n|//self::p\n|/a\n/b::c\n|/child::p/Self::p\n|/self::\xC3\xA9:e\xCC\x81::\n|",
         false,
     );
 }

@@ -10,7 +10,8 @@ fn sizes(row: usize, first: &[u8], piece: &[u8], n: usize, last: &[u8]) {
 }
 
 /// In order: lines, from 0 and from 30 on; lines and a malformed one; steps; steps, malformed; bytes of a name; two bytes each of a name;
-/// bytes after a line.
+/// bytes after a line. Then bytes of a name behind the two longer kinds of step; steps of these kinds; a name with two colons; a name that
+/// begins with one.
 pub fn print() {
     println!("list, how often its piece stands there, and what is answered");
     sizes(0, b"", b"/a\n", 0, b"");
@@ -21,4 +22,10 @@ pub fn print() {
     sizes(5, b"/", b"n", 253, b"\n");
     sizes(6, b"/n", "é".as_bytes(), 125, b"\n");
     sizes(7, b"/a\n", b"x", 8187, b"");
+    sizes(8, b"/self::", b"n", 253, b"\n");
+    sizes(9, b"/descendant-or-self::", b"n", 253, b"\n");
+    sizes(10, b"", b"/self::a", 14, b" #\n");
+    sizes(11, b"//b", b"/descendant-or-self::*", 13, b"\n");
+    sizes(12, b"/", b"n", 252, b"::\n");
+    sizes(13, b"/self:::", b"n", 252, b"\n");
 }

@@ -41,7 +41,7 @@ fn show(s: &[u8]) {
 
 pub fn print() {
     println!("bytes; name ends from 0, 1; space ends from 0, 100; as a list; replaced, cut off");
-    let texts: [&[u8]; 53] = [
+    let texts: [&[u8]; 63] = [
         b"a", b"report", b"_1.2-3", b":", b"a:b:c", b"-a", b".a", b"1a", b"a b", b"a=", b"a/>", b"a\x00b", b"a@[`{",
         "été".as_bytes(), "e\u{301}te".as_bytes(), "\u{300}a".as_bytes(), "a\u{B7}b".as_bytes(), "\u{B7}".as_bytes(),
         "a\u{D7}b".as_bytes(), "a\u{F7}b".as_bytes(), "a\u{37E}b".as_bytes(), "\u{2C00}".as_bytes(), "\u{3000}a".as_bytes(),
@@ -51,6 +51,8 @@ pub fn print() {
         b" ", b" a", b"\t\r\n a b", b"\x0B\x0C", "\u{A0} ".as_bytes(), "\u{2003}a".as_bytes(), b" \x00 ",
         b"/a\n", b"//a\n", b"/*\n", b"/a #\n", b"//b/*//c #\n/d\n",
         b"/g/p/v\n//n #\n//v//n\n", b"/\xC3\xA9/e\xCC\x81\n", b"/:a/_b-1.2\n//*/x #\n",
+        b"/self::p\n", b"/self:::p #\n", b"/descendant-or-self::*/a\n", b"/a/descendant-or-self::b:c/self::*\n", b"//self:p/self\n",
+        b"/self::self::p\n", b"//self::p\n", b"/a\n/b::c\n", b"/child::p/Self::p\n", "/self::é:e\u{301}::\n".as_bytes(),
     ];
     texts.iter().for_each(|s| show(s));
 }

@@ -1,14 +1,24 @@
-// The answer on a path list in ordinary Rust, from the words of document 01. It shares nothing with the Rattle source.
+// The answer on a path list in ordinary Rust, from the words of documents 01 and 02. It shares nothing with the Rattle source.
 use super::chars;
+
+/// What follows the front of a step: `//`, or `/` and then perhaps one of two texts. A test stands there.
+fn test(rest: &str) -> Option<&str> {
+    if let Some(test) = rest.strip_prefix("//") {
+        return Some(test);
+    }
+    let behind = rest.strip_prefix('/')?;
+    let longer = ["self::", "descendant-or-self::"].iter().find_map(|text| behind.strip_prefix(text));
+    Some(longer.unwrap_or(behind))
+}
 
 /// How many steps a line has and how long its longest name is; or nothing where it is malformed.
 fn steps(line: &str) -> Option<(usize, usize)> {
     let mut rest = line.strip_suffix(" #").unwrap_or(line);
     let (mut count, mut longest) = (0, 0);
     while !rest.is_empty() {
-        rest = rest.strip_prefix("//").or_else(|| rest.strip_prefix('/'))?;
+        rest = test(rest)?;
         let end = if rest.starts_with('*') { 1 } else { chars::name(rest.as_bytes(), 0) };
-        if end == 0 {
+        if end == 0 || rest[..end].contains("::") {
             return None;
         }
         if !rest.starts_with('*') {

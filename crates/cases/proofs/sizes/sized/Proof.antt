@@ -1,38 +1,35 @@
--- `cases::sizes::sized` is safe and ends. The measure is how many bytes are left.
+-- `cases::sizes::sized` is safe and ends. The measure is how many pieces are left.
 -- Assumes nothing.
-use Prim.Native.Nat.{_+_, _-_, _*_, _≤_}
-use lib.ListN.{length}
 use mathlib.Core.Path.{_≡_}
+use Prim.Native.Nat.{_-_, _≤_}
+use lib.ListN.{length}
 use borrow.Author.Needs.{needs}
 use Rattle.cases.proofs.sizes.sized.Statement.{statement}
 use Rattle.cases.proofs.sizes.sized.Tie as tie
 
 abbrev Inv-loop : tie.InvT-loop
-Inv-loop row n s₀ len₀ j₀ s len j = (j ≤ 3 * n + 5) × (len ≤ j) × (length s ≡ 24580)
+Inv-loop first piece n last s₀ len₀ k₀ s len k = (k ≤ n) × (length s ≡ 8200)
 
 abbrev μ-loop : tie.MeasureT-loop
-μ-loop row n s₀ len₀ j₀ s len j = 3 * n + 5 - j
+μ-loop first piece n last s₀ len₀ k₀ s len k = n - k
+
+slice-aggregate-join : tie.Need-slice-aggregate-join Inv-loop μ-loop
+slice-aggregate-join c = search needs
+
+join-requires : tie.Need-join-requires Inv-loop μ-loop
+join-requires c κs = search needs
 
 loop-holds : tie.Need-loop-holds Inv-loop μ-loop
 loop-holds c = search needs
 
-mul-loop : tie.Need-mul-loop Inv-loop μ-loop
-mul-loop c = search needs
+slice-aggregate-join-2 : tie.Need-slice-aggregate-join-2 Inv-loop μ-loop
+slice-aggregate-join-2 c = search needs
 
-add-loop : tie.Need-add-loop Inv-loop μ-loop
-add-loop c = search needs
+join-requires-2 : tie.Need-join-requires-2 Inv-loop μ-loop
+join-requires-2 c κs = search needs
 
-byte-of-requires : tie.Need-byte-of-requires Inv-loop μ-loop
-byte-of-requires c κs = search needs
-
-add-j : tie.Need-add-j Inv-loop μ-loop
-add-j c = search needs
-
-array-write-s : tie.Need-array-write-s Inv-loop μ-loop
-array-write-s c = search needs
-
-add-len : tie.Need-add-len Inv-loop μ-loop
-add-len c = search needs
+add-k : tie.Need-add-k Inv-loop μ-loop
+add-k c = search needs
 
 loop-less : tie.Need-loop-less Inv-loop μ-loop
 loop-less c = search needs
@@ -40,11 +37,11 @@ loop-less c = search needs
 loop-again : tie.Need-loop-again Inv-loop μ-loop
 loop-again c = search needs
 
-loop-less-2 : tie.Need-loop-less-2 Inv-loop μ-loop
-loop-less-2 c = search needs
+slice-aggregate-join-3 : tie.Need-slice-aggregate-join-3 Inv-loop μ-loop
+slice-aggregate-join-3 c = search needs
 
-loop-again-2 : tie.Need-loop-again-2 Inv-loop μ-loop
-loop-again-2 c = search needs
+join-requires-3 : tie.Need-join-requires-3 Inv-loop μ-loop
+join-requires-3 c κs = search needs
 
 slice-aggregate-front : tie.Need-slice-aggregate-front Inv-loop μ-loop
 slice-aggregate-front c = search needs
@@ -64,17 +61,16 @@ sized-spec =
     (tie.spec
     Inv-loop
     μ-loop
+    slice-aggregate-join
+    join-requires
     loop-holds
-    mul-loop
-    add-loop
-    byte-of-requires
-    add-j
-    array-write-s
-    add-len
+    slice-aggregate-join-2
+    join-requires-2
+    add-k
     loop-less
     loop-again
-    loop-less-2
-    loop-again-2
+    slice-aggregate-join-3
+    join-requires-3
     slice-aggregate-front
     front-requires
     listed-requires
