@@ -1,4 +1,4 @@
--- Worked examples of the compiled tables, computed: a list of three paths, what descends, the last steps and the marks, its distinct names
+-- Worked examples of the compiled tables, computed: a list of three paths, which steps go and which go far, the last steps and the marks, its distinct names
 -- with their places, and what names pass. Expected values are written from document 01's words, bit j for step j + 1.
 use mathlib.Core.Path.{_≡_, refl}
 use mathlib.Core.Bool.{true, false}
@@ -7,7 +7,7 @@ use lib.ListN.{take}
 use Rattle.xml.specs.Notation.{bytes}
 use Rattle.paths.specs.Path.{Test, any, named, Step, Path, printStep, printLine, printList}
 use Rattle.paths.specs.declared.Kind.the-variants.{Child, Descendant}
-use Rattle.compiled.specs.Bits.{column, descendsOf, lastsOf, marksOf, fitOf, otherFit}
+use Rattle.compiled.specs.Bits.{column, staysOf, goesOf, farOf, lastsOf, marksOf, fitOf, otherFit}
 use Rattle.lookup.specs.Names.{namesOf, placeOf}
 use Rattle.lookup.specs.Index.{padded}
 
@@ -30,9 +30,17 @@ unfolding printList printLine printStep
 prints = refl
 
 -- the first four of 32
-pub descends : take 4 (descendsOf three) ≡ 2 ∷ 1 ∷ 1 ∷ 0 ∷ []
-unfolding descendsOf column padded
-descends = refl
+pub stays : take 4 (staysOf three) ≡ 0 ∷ 0 ∷ 0 ∷ 0 ∷ []
+unfolding staysOf column padded
+stays = refl
+
+pub goes : take 4 (goesOf three) ≡ 3 ∷ 3 ∷ 1 ∷ 0 ∷ []
+unfolding goesOf column padded
+goes = refl
+
+pub far : take 4 (farOf three) ≡ 2 ∷ 1 ∷ 1 ∷ 0 ∷ []
+unfolding farOf column padded
+far = refl
 
 pub lasts : take 4 (lastsOf three) ≡ 2 ∷ 2 ∷ 1 ∷ 0 ∷ []
 unfolding lastsOf column padded

@@ -30,7 +30,8 @@ use Rattle.paths.proofs.Names.{name-front}
 use Rattle.paths.proofs.Steps.{step-undoes, step-long}
 use Rattle.paths.proofs.Lines.{line-print, end-no-step, after-step}
 use Rattle.paths.proofs.Meaning.{says, paths-print}
-use Rattle.compiled.specs.Bits.{bit, bitsOf, stepBits, column, descends, lastBit}
+use Rattle.compiled.specs.Kinds as kinds
+use Rattle.compiled.specs.Bits.{bit, bitsOf, stepBits, column, lastBit}
 use Rattle.lookup.specs.Names.{namesOf, listNames, firsts}
 use Rattle.compiled.specs.Compiled.{joined}
 use Rattle.compiled.specs.Built.{numberOf, numberRow, numberRows, testOf, testIn, Built, AtStep, StepDone}
@@ -149,10 +150,11 @@ module _ (done : List Path) (m : Bool) where
 
 -- ---- within the line
 
-abbrev downs : Step → Bool
-downs s = descends (s .kind)
+-- the bits of the steps whose kinds pass a test
+abbrev kindBits : (Kind → Bool) → List Step → ℕ
+kindBits f ss = bitsOf (map (λ s. f (s .kind)) ss)
 
-pub record InLine (d at len head next rows : List ℕ) (names p place bit down : ℕ) : Type 0 where
+pub record InLine (d at len head next rows : List ℕ) (names p place bit stays goes far : ℕ) : Type 0 where
   pub here : AtPath d p
   pub read : List Step
   pub todo : List Step
@@ -160,11 +162,13 @@ pub record InLine (d at len head next rows : List ℕ) (names p place bit down :
   pub built : Built d at len head next rows names (here .done ++ record { steps = read; marked = here .path .marked } ∷ [])
   pub place-is : place ≡ length (printList (here .done)) + length (printAll printStep read)
   pub bit-is : bit ≡ 2 ^ length read
-  pub down-is : down ≡ bitsOf (map downs read)
+  pub stays-is : stays ≡ kindBits kinds.stays read
+  pub goes-is : goes ≡ kindBits kinds.goes read
+  pub far-is : far ≡ kindBits kinds.far read
 
 -- the step that stands at the place, told as its kind, its name's place and length, and its end
-record NextStep (d at len head next rows : List ℕ) (names p place bit down : ℕ)
-    (v : InLine d at len head next rows names p place bit down) (kind : Kind) (a n end : ℕ) : Type 0 where
+record NextStep (d at len head next rows : List ℕ) (names p place bit stays goes far : ℕ)
+    (v : InLine d at len head next rows names p place bit stays goes far) (kind : Kind) (a n end : ℕ) : Type 0 where
   pub step : Step
   pub later : List Step
   pub todo-is : v .todo ≡ step ∷ later
@@ -177,7 +181,7 @@ record NextStep (d at len head next rows : List ℕ) (names p place bit down : �
       ≡ printStep step ++ (printAll printStep later ++ (printEnd (v .here .path .marked) ++ printList (v .here .rest)))
 
 pub line-start : {d at len head next rows : List ℕ} {names p place : ℕ} → AtLine d at len head next rows names p place
-    → InLine d at len head next rows names p place 1 0
+    → InLine d at len head next rows names p place 1 0 0 0
 line-start v =
     record {
       here = v .here;
@@ -187,10 +191,12 @@ line-start v =
       built = built-empty (v .here .done) (v .here .path .marked) (done-few (v .here)) (v .built);
       place-is = v .place-is ∙ sym (add-zero (length (printList (v .here .done))));
       bit-is = sym (pow-zero 2);
-      down-is = refl;
+      stays-is = refl;
+      goes-is = refl;
+      far-is = refl;
     }
 
-module _ {d at len head next rows : List ℕ} {names p place bit down : ℕ} (v : InLine d at len head next rows names p place bit down) where
+module _ {d at len head next rows : List ℕ} {names p place bit stays goes far : ℕ} (v : InLine d at len head next rows names p place bit stays goes far) where
   steps-few : length (v .read) + length (v .todo) ≤ 16
   steps-few =
       let a = path-good (v .here) .within .steps in
@@ -218,12 +224,22 @@ module _ {d at len head next rows : List ℕ} {names p place bit down : ℕ} (v 
       let b = power-16 (length (v .read)) (omega arith) in
       rw (v .bit-is) b
 
-  pub line-down : down < 65536
-  line-down =
+  kinds-below : (f : Kind → Bool) → kindBits f (v .read) < 65536
+  kinds-below f =
+      let g : Step → Bool = λ s. f (s .kind) in
       let a = steps-few in
-      let b = bits-below (map downs (v .read)) in
-      let c = power-16 (length (map downs (v .read))) (rw (length-map (v .read) downs) (omega arith)) in
-      rw (v .down-is) (omega arith)
+      let b = bits-below (map g (v .read)) in
+      let c = power-16 (length (map g (v .read))) (rw (length-map (v .read) g) (omega arith)) in
+      omega arith
+
+  pub line-stays : stays < 65536
+  line-stays = rw (v .stays-is) (kinds-below kinds.stays)
+
+  pub line-goes : goes < 65536
+  line-goes = rw (v .goes-is) (kinds-below kinds.goes)
+
+  pub line-far : far < 65536
+  line-far = rw (v .far-is) (kinds-below kinds.far)
 
   -- the next step is read
   next-read : (s : Step) (ss : List Step) → v .todo ≡ s ∷ ss
@@ -270,23 +286,26 @@ module _ {d at len head next rows : List ℕ} {names p place bit down : ℕ} (v 
               let y = two-pow-succ n in
               rw z (omega arith)
 
-      pub line-end : LineDone d at len head next rows p (record { names = names; end = place; last = bit / 2; down = down })
+      pub line-end : LineDone d at len head next rows p
+          (record { names = names; end = place; last = bit / 2; stays = stays; goes = goes; far = far })
       line-end =
           record {
             here = v .here;
             built = rw all-read at (v .built);
             end-is = rw all-read at (v .place-is);
             last-is = last-bit;
-            down-is = rw all-read at (v .down-is);
+            stays-is = rw all-read at (v .stays-is);
+            goes-is = rw all-read at (v .goes-is);
+            far-is = rw all-read at (v .far-is);
           }
 
     -- the step that is read is the next one
     module _ {kind : Kind} {a n end : ℕ} (f : r ≡ StepTo kind a n end) where
-      next-step : NextStep d at len head next rows names p place bit down v kind a n end
+      next-step : NextStep d at len head next rows names p place bit stays goes far v kind a n end
       unfolding stepEndAt
       next-step = go (v .todo) refl
         where
-          go : (ss : List Step) → v .todo ≡ ss → NextStep d at len head next rows names p place bit down v kind a n end
+          go : (ss : List Step) → v .todo ≡ ss → NextStep d at len head next rows names p place bit stays goes far v kind a n end
           go [] e =
               let l : drop place d ≡ after = left ∙ rw e in
               let g : stepAt (drop place d) ≡ none = rw l (end-no-step (v .here .path .marked) (printList (v .here .rest))) in
@@ -373,11 +392,12 @@ module _ {d at len head next rows : List ℕ} {names p place bit down : ℕ} (v 
             room = line-room;
           }
 
-      pub line-more : {at′ len′ head′ next′ rows′ : List ℕ} {names′ x : ℕ}
-          → StepDone d at len head next rows names p bit a n at′ len′ head′ next′ rows′ names′ → x ≡ cond (descends kind) bit 0
-          → InLine d at′ len′ head′ next′ rows′ names′ p end (bit * 2) (down + x)
+      pub line-more : {at′ len′ head′ next′ rows′ : List ℕ} {names′ x y z : ℕ}
+          → StepDone d at len head next rows names p bit a n at′ len′ head′ next′ rows′ names′ → x ≡ cond (kinds.stays kind) bit 0
+          → y ≡ cond (kinds.goes kind) bit 0 → z ≡ cond (kinds.far kind) bit 0
+          → InLine d at′ len′ head′ next′ rows′ names′ p end (bit * 2) (stays + x) (goes + y) (far + z)
       unfolding line-step
-      line-more {x = x} e g =
+      line-more e f g h =
           let s = next-step .step in
           let ss = next-step .later in
           record {
@@ -388,7 +408,9 @@ module _ {d at len head next rows : List ℕ} {names p place bit down : ℕ} (v 
             built = e .is line-step;
             place-is = place-on;
             bit-is = bit-on;
-            down-is = down-on;
+            stays-is = kind-on kinds.stays (v .stays-is) f;
+            goes-is = kind-on kinds.goes (v .goes-is) g;
+            far-is = kind-on kinds.far (v .far-is) h;
           }
         where
           place-on : end ≡ length (printList (v .here .done)) + length (printAll printStep (v .read ++ next-step .step ∷ []))
@@ -409,11 +431,13 @@ module _ {d at len head next rows : List ℕ} {names p place bit down : ℕ} (v 
           bit-on : bit * 2 ≡ 2 ^ length (v .read ++ next-step .step ∷ [])
           bit-on = rw long-on (let z = two-pow-succ (length (v .read)) in let y = v .bit-is in omega arith)
 
-          down-on : down + x ≡ bitsOf (map downs (v .read ++ next-step .step ∷ []))
-          down-on =
+          kind-on : (f : Kind → Bool) {u x : ℕ} → u ≡ kindBits f (v .read) → x ≡ cond (f kind) bit 0
+              → u + x ≡ kindBits f (v .read ++ next-step .step ∷ [])
+          kind-on f e g =
               let s = next-step .step in
-              sym (ap bitsOf (map-snoc downs (v .read) s)
-              ∙ bits-snoc (map downs (v .read)) (downs s)
-              ∙ cc (v .down-is, v .bit-is, g, next-step .kind-is, length-map (v .read) downs))
+              let h : Step → Bool = λ s. f (s .kind) in
+              sym (ap bitsOf (map-snoc h (v .read) s)
+              ∙ bits-snoc (map h (v .read)) (h s)
+              ∙ cc (e, v .bit-is, g, next-step .kind-is, length-map (v .read) h))
 
-pub ruleset lining = (line-start, line-bit, line-down, line-end, line-less, line-room, line-step, line-more, needs)
+pub ruleset lining = (line-start, line-bit, line-stays, line-goes, line-far, line-end, line-less, line-room, line-step, line-more, needs)

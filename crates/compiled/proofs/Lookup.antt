@@ -13,7 +13,7 @@ use Rattle.paths.proofs.Meaning.{paths-print}
 use Rattle.lookup.specs.Names.{namesOf, chainsOf, placeOf}
 use Rattle.lookup.specs.Index.{Indexed, Tables}
 use Rattle.lookup.proofs.Places.{place-least}
-use Rattle.compiled.specs.Bits.{fitOf, descendsOf, lastsOf, marksOf}
+use Rattle.compiled.specs.Bits.{fitOf, staysOf, goesOf, farOf, lastsOf, marksOf}
 use Rattle.compiled.specs.Sizes.{Sized}
 use Rattle.compiled.specs.Compiled.{rowsOf, placesOf, lengthsOf, tablesOf}
 use Rattle.compiled.proofs.Firsts.{names-few}
@@ -40,8 +40,18 @@ module _ (ps : List Path) (s : Sized ps) where
   abbrev next : List ℕ
   next = chainsOf (namesOf ps) .next
 
+  -- the columns from one of them on
+  abbrev lasts-on : List ℕ
+  lasts-on = lastsOf ps ++ (marksOf ps ++ [])
+
+  abbrev far-on : List ℕ
+  far-on = farOf ps ++ lasts-on
+
+  abbrev goes-on : List ℕ
+  goes-on = goesOf ps ++ far-on
+
   abbrev columns : List ℕ
-  columns = descendsOf ps ++ (lastsOf ps ++ (marksOf ps ++ []))
+  columns = staysOf ps ++ goes-on
 
   abbrev behind-len : List ℕ
   behind-len = head ++ (next ++ (rowsOf ps ++ columns))
@@ -65,23 +75,35 @@ module _ (ps : List Path) (s : Sized ps) where
   from-rows : drop 1792 (tablesOf ps) ≡ rowsOf ps ++ columns
   from-rows = behind (tablesOf ps) 1280 512 next (rowsOf ps ++ columns) from-next (long .next)
 
-  from-descends : drop 18208 (tablesOf ps) ≡ columns
-  from-descends = behind (tablesOf ps) 1792 16416 (rowsOf ps) columns from-rows (long .rows)
+  from-stays : drop 18208 (tablesOf ps) ≡ columns
+  from-stays = behind (tablesOf ps) 1792 16416 (rowsOf ps) columns from-rows (long .rows)
 
-  from-lasts : drop 18240 (tablesOf ps) ≡ lastsOf ps ++ (marksOf ps ++ [])
-  from-lasts = behind (tablesOf ps) 18208 32 (descendsOf ps) (lastsOf ps ++ (marksOf ps ++ [])) from-descends (long .descends)
+  from-goes : drop 18240 (tablesOf ps) ≡ goes-on
+  from-goes = behind (tablesOf ps) 18208 32 (staysOf ps) goes-on from-stays (long .stays)
 
-  from-marks : drop 18272 (tablesOf ps) ≡ marksOf ps ++ []
-  from-marks = behind (tablesOf ps) 18240 32 (lastsOf ps) (marksOf ps ++ []) from-lasts (long .lasts)
+  from-far : drop 18272 (tablesOf ps) ≡ far-on
+  from-far = behind (tablesOf ps) 18240 32 (goesOf ps) far-on from-goes (long .goes)
 
-  pub descends-part : take 32 (drop 18208 (tablesOf ps)) ≡ descendsOf ps
-  descends-part = table-here (tablesOf ps) 18208 32 (descendsOf ps) (lastsOf ps ++ (marksOf ps ++ [])) from-descends (long .descends)
+  from-lasts : drop 18304 (tablesOf ps) ≡ lasts-on
+  from-lasts = behind (tablesOf ps) 18272 32 (farOf ps) lasts-on from-far (long .far)
 
-  pub lasts-part : take 32 (drop 18240 (tablesOf ps)) ≡ lastsOf ps
-  lasts-part = table-here (tablesOf ps) 18240 32 (lastsOf ps) (marksOf ps ++ []) from-lasts (long .lasts)
+  from-marks : drop 18336 (tablesOf ps) ≡ marksOf ps ++ []
+  from-marks = behind (tablesOf ps) 18304 32 (lastsOf ps) (marksOf ps ++ []) from-lasts (long .lasts)
 
-  pub marks-part : take 32 (drop 18272 (tablesOf ps)) ≡ marksOf ps
-  marks-part = table-here (tablesOf ps) 18272 32 (marksOf ps) [] from-marks (long .marks)
+  pub stays-part : take 32 (drop 18208 (tablesOf ps)) ≡ staysOf ps
+  stays-part = table-here (tablesOf ps) 18208 32 (staysOf ps) goes-on from-stays (long .stays)
+
+  pub goes-part : take 32 (drop 18240 (tablesOf ps)) ≡ goesOf ps
+  goes-part = table-here (tablesOf ps) 18240 32 (goesOf ps) far-on from-goes (long .goes)
+
+  pub far-part : take 32 (drop 18272 (tablesOf ps)) ≡ farOf ps
+  far-part = table-here (tablesOf ps) 18272 32 (farOf ps) lasts-on from-far (long .far)
+
+  pub lasts-part : take 32 (drop 18304 (tablesOf ps)) ≡ lastsOf ps
+  lasts-part = table-here (tablesOf ps) 18304 32 (lastsOf ps) (marksOf ps ++ []) from-lasts (long .lasts)
+
+  pub marks-part : take 32 (drop 18336 (tablesOf ps)) ≡ marksOf ps
+  marks-part = table-here (tablesOf ps) 18336 32 (marksOf ps) [] from-marks (long .marks)
 
   -- the place of a name is that of a row
   pub row-in : (n : List ℕ) → placeOf (namesOf ps) n ≤ 512

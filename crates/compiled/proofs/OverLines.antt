@@ -19,7 +19,7 @@ use Rattle.paths.specs.declared.LineEnd.{LineEnd}
 use Rattle.paths.specs.declared.LineEnd.the-variants.{Ends, Fault}
 use Rattle.paths.proofs.Lines.{end-undoes, line-print, line-long}
 use Rattle.paths.proofs.Meaning.{paths-print}
-use Rattle.compiled.specs.Bits.{column, descends, lastBit, descendsOf, lastsOf, marksOf}
+use Rattle.compiled.specs.Bits.{column, lastBit, staysOf, goesOf, farOf, lastsOf, marksOf}
 use Rattle.lookup.specs.Names.{namesOf, chainsOf}
 use Rattle.lookup.specs.Index.{padded, Indexed, first}
 use Rattle.compiled.specs.Sizes.{Sized}
@@ -67,7 +67,7 @@ built-none d =
 
 -- ---- the lines
 
-pub record Lining (d at len head next rows downs lasts marks : List ℕ) (names p place : ℕ) : Type 0 where
+pub record Lining (d at len head next rows stays goes far lasts marks : List ℕ) (names p place : ℕ) : Type 0 where
   pub sound : listAnswer d ≡ Sound
   pub done : List Path
   pub left : List Path
@@ -75,14 +75,16 @@ pub record Lining (d at len head next rows downs lasts marks : List ℕ) (names 
   pub p-is : p ≡ length done
   pub place-is : place ≡ length (printList done)
   pub built : Built d at len head next rows names done
-  pub downs-are : downs ≡ descendsOf done
+  pub stays-are : stays ≡ staysOf done
+  pub goes-are : goes ≡ goesOf done
+  pub far-are : far ≡ farOf done
   pub lasts-are : lasts ≡ lastsOf done
   pub marks-are : marks ≡ marksOf done
 
 pub lines-start : {d : List ℕ} → listAnswer d ≡ Sound
     → Lining d (replicate 512 0) (replicate 512 0) (replicate 256 0) (replicate 512 0) (replicate 16416 0)
-    (replicate 32 0) (replicate 32 0) (replicate 32 0) 0 0 0
-unfolding descendsOf lastsOf marksOf column padded printList
+    (replicate 32 0) (replicate 32 0) (replicate 32 0) (replicate 32 0) (replicate 32 0) 0 0 0
+unfolding staysOf goesOf farOf lastsOf marksOf column padded printList
 lines-start {d} s =
     record {
       sound = s;
@@ -92,7 +94,9 @@ lines-start {d} s =
       p-is = refl;
       place-is = refl;
       built = built-none d;
-      downs-are = refl;
+      stays-are = refl;
+      goes-are = refl;
+      far-are = refl;
       lasts-are = refl;
       marks-are = refl;
     }
@@ -116,8 +120,8 @@ sound-sized d e =
     let (p, g, f) = paths-print d e in
     record { few = f; short = all-map (λ q h. h .within .steps) g; bytes = rw p (sound-bytes d e) }
 
-module _ {d at len head next rows downs lasts marks : List ℕ} {names p place : ℕ}
-    (v : Lining d at len head next rows downs lasts marks names p place) where
+module _ {d at len head next rows stays goes far lasts marks : List ℕ} {names p place : ℕ}
+    (v : Lining d at len head next rows stays goes far lasts marks names p place) where
   prints : printList (v .done ++ v .left) ≡ d
   prints = rw (v .all) at (paths-print d (v .sound) .0)
 
@@ -217,8 +221,9 @@ module _ {d at len head next rows downs lasts marks : List ℕ} {names p place :
               (sym (v .all) ∙ w .here .all ∙ ap (λ (l : List Path). l ++ path ∷ w .here .rest) same-done)
 
       pub lines-more : {x : ℕ} → x ≡ cond (t .marked) (r .last) 0
-          → Lining d at′ len′ head′ next′ rows′ (set downs p (r .down)) (set lasts p (r .last)) (set marks p x) (r .names) (p + 1) (t .next)
-      unfolding descendsOf lastsOf marksOf
+          → Lining d at′ len′ head′ next′ rows′ (set stays p (r .stays)) (set goes p (r .goes)) (set far p (r .far)) (set lasts p (r .last))
+          (set marks p x) (r .names) (p + 1) (t .next)
+      unfolding staysOf goesOf farOf lastsOf marksOf
       lines-more {x} e =
           let l : length (v .done) < 32 = rw (← v .p-is) lines-few in
           let m = ap (λ (y : Tail). y .marked) tailed in
@@ -235,7 +240,9 @@ module _ {d at len head next rows downs lasts marks : List ℕ} {names p place :
             p-is = rw (length-append (v .done) (path ∷ [])) (ap (λ (n : ℕ). n + 1) (v .p-is));
             place-is = next-is;
             built = rw same-done at (w .built);
-            downs-are = column-stored _ (v .done) path l (v .downs-are) (v .p-is) (w .down-is);
+            stays-are = column-stored _ (v .done) path l (v .stays-are) (v .p-is) (w .stays-is);
+            goes-are = column-stored _ (v .done) path l (v .goes-are) (v .p-is) (w .goes-is);
+            far-are = column-stored _ (v .done) path l (v .far-are) (v .p-is) (w .far-is);
             lasts-are = column-stored _ (v .done) path l (v .lasts-are) (v .p-is) (w .last-is);
             marks-are = column-stored _ (v .done) path l (v .marks-are) (v .p-is) q;
           }
@@ -259,9 +266,17 @@ module _ {d at len head next rows downs lasts marks : List ℕ} {names p place :
       let b = ap length (v .all) ∙ length-append (v .done) (v .left) in
       omega arith
 
-  pub downs-size : length downs ≡ 32
-  unfolding descendsOf
-  downs-size = rw (v .downs-are) (column-long _ (v .done) done-few)
+  pub stays-size : length stays ≡ 32
+  unfolding staysOf
+  stays-size = rw (v .stays-are) (column-long _ (v .done) done-few)
+
+  pub goes-size : length goes ≡ 32
+  unfolding goesOf
+  goes-size = rw (v .goes-are) (column-long _ (v .done) done-few)
+
+  pub far-size : length far ≡ 32
+  unfolding farOf
+  far-size = rw (v .far-are) (column-long _ (v .done) done-few)
 
   pub lasts-size : length lasts ≡ 32
   unfolding lastsOf
@@ -272,25 +287,31 @@ module _ {d at len head next rows downs lasts marks : List ℕ} {names p place :
   marks-size = rw (v .marks-are) (column-long _ (v .done) done-few)
 
   -- and that there is room for it at its place
-  pub at-fits : 0 + length at ≤ 18304
+  pub at-fits : 0 + length at ≤ 18368
   at-fits = let z = at-size in omega arith
 
-  pub len-fits : 512 + length len ≤ 18304
+  pub len-fits : 512 + length len ≤ 18368
   len-fits = let z = len-size in omega arith
 
-  pub head-fits : 1024 + length head ≤ 18304
+  pub head-fits : 1024 + length head ≤ 18368
   head-fits = let z = head-size in omega arith
 
-  pub next-fits : 1280 + length next ≤ 18304
+  pub next-fits : 1280 + length next ≤ 18368
   next-fits = let z = next-size in omega arith
 
-  pub downs-fit : 18208 + length downs ≤ 18304
-  downs-fit = let z = downs-size in omega arith
+  pub stays-fit : 18208 + length stays ≤ 18368
+  stays-fit = let z = stays-size in omega arith
 
-  pub lasts-fit : 18240 + length lasts ≤ 18304
+  pub goes-fit : 18240 + length goes ≤ 18368
+  goes-fit = let z = goes-size in omega arith
+
+  pub far-fit : 18272 + length far ≤ 18368
+  far-fit = let z = far-size in omega arith
+
+  pub lasts-fit : 18304 + length lasts ≤ 18368
   lasts-fit = let z = lasts-size in omega arith
 
-  pub marks-fit : 18272 + length marks ≤ 18304
+  pub marks-fit : 18336 + length marks ≤ 18368
   marks-fit = let z = marks-size in omega arith
 
   -- no line is left
@@ -317,7 +338,7 @@ module _ {d at len head next rows downs lasts marks : List ℕ} {names p place :
     lines-spreadable = rw rows-are (numbers-spreadable (listPaths d) sized)
 
     module _ {rows′ : List ℕ} (s : Spread rows rows′) where
-      pub lines-long : Longs at len head next rows′ downs lasts marks
+      pub lines-long : Longs at len head next rows′ stays goes far lasts marks
       lines-long =
           record {
             at-long = at-size;
@@ -325,17 +346,21 @@ module _ {d at len head next rows downs lasts marks : List ℕ} {names p place :
             head-long = head-size;
             next-long = next-size;
             rows-long = s .long;
-            downs-long = downs-size;
+            stays-long = stays-size;
+            goes-long = goes-size;
+            far-long = far-size;
             lasts-long = lasts-size;
             marks-long = marks-size;
           }
 
       -- each is that of the list's paths
-      pub lines-end : joined (at ∷ len ∷ head ∷ next ∷ rows′ ∷ downs ∷ lasts ∷ marks ∷ []) ≡ tablesOf (listPaths d)
+      pub lines-end : joined (at ∷ len ∷ head ∷ next ∷ rows′ ∷ stays ∷ goes ∷ far ∷ lasts ∷ marks ∷ []) ≡ tablesOf (listPaths d)
       unfolding tablesOf
       lines-end =
           let i : Indexed d at len head next (namesOf (listPaths d)) = rw all-done at (v .built .indexed) in
-          let x : downs ≡ descendsOf (listPaths d) = rw all-done at (v .downs-are) in
+          let u : stays ≡ staysOf (listPaths d) = rw all-done at (v .stays-are) in
+          let w : goes ≡ goesOf (listPaths d) = rw all-done at (v .goes-are) in
+          let x : far ≡ farOf (listPaths d) = rw all-done at (v .far-are) in
           let y : lasts ≡ lastsOf (listPaths d) = rw all-done at (v .lasts-are) in
           let z : marks ≡ marksOf (listPaths d) = rw all-done at (v .marks-are) in
           let r = numbers-spread (listPaths d) sized (rw rows-are at s) in
@@ -343,6 +368,6 @@ module _ {d at len head next rows downs lasts marks : List ℕ} {names p place :
 
 pub ruleset over-lines = (lines-start, lines-line, lines-few, lines-less, lines-more, lines-spreadable, needs)
 
-pub ruleset sizes = (at-size, len-size, head-size, next-size, downs-size, lasts-size, marks-size, needs)
+pub ruleset sizes = (at-size, len-size, head-size, next-size, stays-size, goes-size, far-size, lasts-size, marks-size, needs)
 
-pub ruleset rooms = (at-fits, len-fits, head-fits, next-fits, downs-fit, lasts-fit, marks-fit, needs)
+pub ruleset rooms = (at-fits, len-fits, head-fits, next-fits, stays-fit, goes-fit, far-fit, lasts-fit, marks-fit, needs)

@@ -8,7 +8,7 @@ use native.Mathlib.Omega.{arith}
 use native.Mathlib.Nat.{pow-le-pow-right}
 use lib.ListN.{length, replicate}
 use Rattle.paths.specs.Path.{Path, All, none, more}
-use Rattle.compiled.specs.Bits.{column, lastBit, descendsOf, lastsOf, marksOf, fitOf, otherFit}
+use Rattle.compiled.specs.Bits.{column, lastBit, staysOf, goesOf, farOf, lastsOf, marksOf, fitOf, otherFit}
 use Rattle.lookup.specs.Names.{Named, namesOf, chainsOf}
 use Rattle.lookup.specs.Index.{padded}
 use Rattle.compiled.specs.Sizes.{Sized}
@@ -28,12 +28,14 @@ pub record Long (ps : List Path) : Type 0 where
   pub head : length (chainsOf (namesOf ps) .head) ≡ 256
   pub next : length (chainsOf (namesOf ps) .next) ≡ 512
   pub rows : length (rowsOf ps) ≡ 16416
-  pub descends : length (descendsOf ps) ≡ 32
+  pub stays : length (staysOf ps) ≡ 32
+  pub goes : length (goesOf ps) ≡ 32
+  pub far : length (farOf ps) ≡ 32
   pub lasts : length (lastsOf ps) ≡ 32
   pub marks : length (marksOf ps) ≡ 32
 
 pub tables-long : (ps : List Path) → Sized ps → Long ps
-unfolding descendsOf lastsOf marksOf
+unfolding staysOf goesOf farOf lastsOf marksOf
 tables-long ps s =
     let i = paths-indexed ps s in
     let v = index-linked i in
@@ -43,7 +45,9 @@ tables-long ps s =
       head = v .head-long;
       next = v .next-long;
       rows = rows-long ps s;
-      descends = column-long _ ps (s .few);
+      stays = column-long _ ps (s .few);
+      goes = column-long _ ps (s .few);
+      far = column-long _ ps (s .few);
       lasts = column-long _ ps (s .few);
       marks = column-long _ ps (s .few);
     }
@@ -100,7 +104,7 @@ all-below [] f = none
 all-below (x ∷ xs) f = more (f 0) (all-below xs (λ i. f (suc i)))
 
 pub tables-below : (ps : List Path) → Sized ps → Below 65536 (tablesOf ps)
-unfolding tablesOf descendsOf lastsOf marksOf
+unfolding tablesOf staysOf goesOf farOf lastsOf marksOf
 tables-below ps s =
     let v = index-linked (paths-indexed ps s) in
     let f = names-few ps (s .few) (s .short) in
@@ -112,9 +116,11 @@ tables-below ps s =
     (more {x = chainsOf (namesOf ps) .head} (all-below (chainsOf (namesOf ps) .head) (λ i. let z = v .top i in omega arith))
     (more {x = chainsOf (namesOf ps) .next} (all-below (chainsOf (namesOf ps) .next) (λ i. let z = v .most i in omega arith))
     (more {x = rowsOf ps} (all-below (rowsOf ps) (rows-below ps s))
-    (more {x = descendsOf ps} (all-column 65536 _ ps (omega arith) (all-map (step-bits-below _) (s .short)))
+    (more {x = staysOf ps} (all-column 65536 _ ps (omega arith) (all-map (step-bits-below _) (s .short)))
+    (more {x = goesOf ps} (all-column 65536 _ ps (omega arith) (all-map (step-bits-below _) (s .short)))
+    (more {x = farOf ps} (all-column 65536 _ ps (omega arith) (all-map (step-bits-below _) (s .short)))
     (more {x = lastsOf ps} (all-column 65536 _ ps (omega arith) (all-map last-below (s .short)))
-    (more {x = marksOf ps} (all-column 65536 _ ps (omega arith) (all-map mark-below (s .short))) none)))))))))
+    (more {x = marksOf ps} (all-column 65536 _ ps (omega arith) (all-map mark-below (s .short))) none)))))))))))
   where
     -- a name stands in the list, whose bytes are at most 8,192
     places : Below 65536 (placesOf ps)

@@ -6,9 +6,8 @@ use Prim.Native.Nat.{ℕ, _+_, _-_, _*_, _^_}
 use lib.ListN.{length}
 use Rattle.xml.specs.Productions.{same}
 use Rattle.paths.specs.Path.{Test, any, named, Step, Path}
-use Rattle.paths.specs.declared.Kind.{Kind}
-use Rattle.paths.specs.declared.Kind.the-variants.{Child, Descendant}
 use Rattle.lookup.specs.Index.{padded}
+use Rattle.compiled.specs.Kinds.{stays, goes, far}
 
 abbrev pub bit : Bool → ℕ
 bit true = 1
@@ -26,14 +25,16 @@ stepBits f p = bitsOf (map f (p .steps))
 unfoldable pub column : (Path → ℕ) → List Path → List ℕ
 column f ps = padded 32 (map f ps)
 
--- ---- the steps that descend; the last step, and where the path is marked
+-- ---- the steps that may stay, go below, go far; the last step, and where the path is marked
 
-abbrev pub descends : Kind → Bool
-descends Child = false
-descends Descendant = true
+unfoldable pub staysOf : List Path → List ℕ
+staysOf = column (stepBits (λ s. stays (s .kind)))
 
-unfoldable pub descendsOf : List Path → List ℕ
-descendsOf = column (stepBits (λ s. descends (s .kind)))
+unfoldable pub goesOf : List Path → List ℕ
+goesOf = column (stepBits (λ s. goes (s .kind)))
+
+unfoldable pub farOf : List Path → List ℕ
+farOf = column (stepBits (λ s. far (s .kind)))
 
 abbrev pub lastBit : Path → ℕ
 lastBit p = 2 ^ (length (p .steps) - 1)

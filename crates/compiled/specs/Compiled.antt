@@ -4,7 +4,7 @@ use mathlib.Core.List.{List, [], _∷_, _++_, map}
 use Prim.Native.Nat.{ℕ, _-_}
 use lib.ListN.{length, replicate}
 use Rattle.paths.specs.Path.{Path}
-use Rattle.compiled.specs.Bits.{descendsOf, lastsOf, marksOf, fitOf, otherFit}
+use Rattle.compiled.specs.Bits.{staysOf, goesOf, farOf, lastsOf, marksOf, fitOf, otherFit}
 use Rattle.lookup.specs.Names.{namesOf, chainsOf}
 use Rattle.lookup.specs.Index.{padded}
 
@@ -33,7 +33,9 @@ tablesOf ps =
     ∷ chainsOf (namesOf ps) .head
     ∷ chainsOf (namesOf ps) .next
     ∷ rowsOf ps
-    ∷ descendsOf ps
+    ∷ staysOf ps
+    ∷ goesOf ps
+    ∷ farOf ps
     ∷ lastsOf ps
     ∷ marksOf ps
     ∷ [])

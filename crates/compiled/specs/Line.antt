@@ -10,7 +10,8 @@ use Rattle.paths.specs.Judge.{listAnswer, listPaths}
 use Rattle.paths.specs.declared.ListAnswer.the-variants.{Sound}
 use Rattle.paths.specs.declared.LineEnd.{LineEnd}
 use Rattle.paths.specs.declared.LineEnd.the-variants.{Ends, Fault}
-use Rattle.compiled.specs.Bits.{stepBits, descends, lastBit}
+use Rattle.compiled.specs.Kinds.{stays, goes, far}
+use Rattle.compiled.specs.Bits.{stepBits, lastBit}
 use Rattle.compiled.specs.Built.{Built}
 use Rattle.compiled.specs.declared.build.Line.{Line}
 use Rattle.compiled.specs.declared.build.Tail.{Tail}
@@ -36,7 +37,9 @@ pub record LineDone (d at len head next rows : List ℕ) (p : ℕ) (r : Line) : 
   pub built : Built d at len head next rows (r .names) (here .done ++ here .path ∷ [])
   pub end-is : r .end ≡ length (printList (here .done)) + length (printAll printStep (here .path .steps))
   pub last-is : r .last ≡ lastBit (here .path)
-  pub down-is : r .down ≡ stepBits (λ s. descends (s .kind)) (here .path)
+  pub stays-is : r .stays ≡ stepBits (λ s. stays (s .kind)) (here .path)
+  pub goes-is : r .goes ≡ stepBits (λ s. goes (s .kind)) (here .path)
+  pub far-is : r .far ≡ stepBits (λ s. far (s .kind)) (here .path)
 
 -- a line's end: its mark, and the next line's place; at no line's end no mark and the place itself
 abbrev pub tailOf : LineEnd → ℕ → Tail

@@ -1,18 +1,19 @@
 // The tables of a sound list, entered step by step: a step's name, if it is not there yet, and its bit in the row of its name; for a line
-// the bits of its descendant steps and of its last, and its mark.
+// the bits of the steps that stay, go or go far, the bit of its last, and its mark.
 ghost use mathlib.Core.Path.{_≡_};
 ghost use Prim.Native.Nat.{_+_, _<_, _≤_};
 ghost use lib.ListN.{length};
 ghost use mathlib.Core.Bool.{cond};
 ghost use Rattle.paths.specs.Place.{lineEndAt};
-ghost use Rattle.compiled.specs.Bits.{descends};
 ghost use Rattle.compiled.specs.Line.{AtLine, LineDone, tailOf};
 ghost use Rattle.compiled.specs.Built.{Held, Entered, AtStep, StepDone};
+use crate::kinds::far_bit;
+use crate::kinds::go_bit;
+use crate::kinds::stay_bit;
 use crate::layout;
 use crate::rows::add_bit;
 use lookup::find::find;
 use lookup::hashing::hash;
-use paths::Kind;
 use paths::LineEnd;
 use paths::StepEnd;
 use paths::end_at;
@@ -84,22 +85,15 @@ fn add_step(
     m.names
 }
 
-// The bit of a step, if it descends.
-fn down_bit(kind: Kind, bit: usize) -> usize
-    ensures { λ r. ⌜ (r ≡ cond (descends kind) bit 0) × (r ≤ bit) ⌝ }
-{
-    match kind {
-        Kind::Child => 0,
-        Kind::Descendant => bit,
-    }
-}
-
-// What a line has: how many names there are with its own; the place after its steps; the bit of the last step; those that descend.
+// What a line has: how many names there are with its own; the place after its steps; the bit of the last step; those of the steps that may
+// stay, go below, go far.
 pub struct Line {
     pub names: usize,
     pub end: usize,
     pub last: u16,
-    pub down: u16,
+    pub stays: u16,
+    pub goes: u16,
+    pub far: u16,
 }
 
 // The steps of path p, whose line begins at a place, are entered.
@@ -121,7 +115,9 @@ pub fn enter_line(
     let mut count = names;
     let mut place = from;
     let mut bit: usize = 1;
-    let mut down: usize = 0;
+    let mut stays: usize = 0;
+    let mut goes: usize = 0;
+    let mut far: usize = 0;
     'steps: loop {
         match step_at(list, place) {
             StepEnd::Step {
@@ -131,7 +127,9 @@ pub fn enter_line(
                 end,
             } => {
                 count = add_step(list, at, len, head, next, rows, count, p, bit, name, n);
-                down = down + down_bit(kind, bit);
+                stays = stays + stay_bit(kind, bit);
+                goes = goes + go_bit(kind, bit);
+                far = far + far_bit(kind, bit);
                 bit = bit * 2;
                 place = end;
             }
@@ -142,7 +140,9 @@ pub fn enter_line(
         names: count,
         end: place,
         last: (bit / 2) as u16,
-        down: down as u16,
+        stays: stays as u16,
+        goes: goes as u16,
+        far: far as u16,
     }
 }
 

@@ -18,7 +18,7 @@ use paths::answer;
 
 // One table is laid into all of them, from a place on.
 fn lay(t: &mut Compiled, from: usize, part: &[u16])
-    requires { ⌜ from + length (now part) ≤ 18304 ⌝ }
+    requires { ⌜ from + length (now part) ≤ 18368 ⌝ }
     ensures { λ r. ⌜ now (t .exit) ≡ sets (now (t .entry)) from (now (part .entry)) ⌝ }
 {
     let mut i: usize = 0;
@@ -30,10 +30,12 @@ fn lay(t: &mut Compiled, from: usize, part: &[u16])
 
 // The tables of the paths of a sound list.
 fn compile(list: &[u8], t: &mut Compiled)
-    requires { ⌜ (listAnswer (now list) ≡ Sound) × (length (now t) ≡ 18304) ⌝ }
+    requires { ⌜ (listAnswer (now list) ≡ Sound) × (length (now t) ≡ 18368) ⌝ }
     ensures { λ r. ⌜ now (t .exit) ≡ tablesOf (listPaths (now (list .entry))) ⌝ }
 {
-    let mut descends = [0u16; layout::PATHS];
+    let mut stays = [0u16; layout::PATHS];
+    let mut goes = [0u16; layout::PATHS];
+    let mut far = [0u16; layout::PATHS];
     let mut lasts = [0u16; layout::PATHS];
     let mut marks = [0u16; layout::PATHS];
     let mut at = [0u16; layout::NAMES];
@@ -57,7 +59,9 @@ fn compile(list: &[u8], t: &mut Compiled)
             place,
         );
         let tail = tail_at(list, line.end);
-        descends[p] = line.down;
+        stays[p] = line.stays;
+        goes[p] = line.goes;
+        far[p] = line.far;
         lasts[p] = line.last;
         marks[p] = if_marked(tail.marked, line.last);
         names = line.names;
@@ -70,7 +74,9 @@ fn compile(list: &[u8], t: &mut Compiled)
     lay(t, layout::HEAD, &head);
     lay(t, layout::NEXT, &next);
     lay(t, layout::ROWS, &rows);
-    lay(t, layout::DESCENDS, &descends);
+    lay(t, layout::STAYS, &stays);
+    lay(t, layout::GOES, &goes);
+    lay(t, layout::FAR, &far);
     lay(t, layout::LASTS, &lasts);
     lay(t, layout::MARKS, &marks);
 }

@@ -5,7 +5,9 @@
 //     HEAD      the first name of each chain                     HEADS
 //     NEXT      the name after each name in its chain            NAMES
 //     ROWS      the steps of each path that pass a name          ENTRIES    row 0 for a name that no step has, row k + 1 for name k
-//     DESCENDS  the descendant steps of each path                PATHS
+//     STAYS     the steps of each path that may stay             PATHS      at the place of the step before
+//     GOES      those that may go below it                       PATHS
+//     FAR       those that may go further than right below       PATHS
 //     LASTS     its last step                                    PATHS
 //     MARKS     its last step again, if it is marked             PATHS
 //     LENGTH    the end
@@ -32,9 +34,13 @@ pub const NEXT: usize = HEAD + HEADS;
 
 pub const ROWS: usize = NEXT + NAMES;
 
-pub const DESCENDS: usize = ROWS + ENTRIES;
+pub const STAYS: usize = ROWS + ENTRIES;
 
-pub const LASTS: usize = DESCENDS + PATHS;
+pub const GOES: usize = STAYS + PATHS;
+
+pub const FAR: usize = GOES + PATHS;
+
+pub const LASTS: usize = FAR + PATHS;
 
 pub const MARKS: usize = LASTS + PATHS;
 

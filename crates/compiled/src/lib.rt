@@ -3,6 +3,7 @@
 // stands in its row.
 pub mod compile; // a list, judged and compiled
 pub mod layout; // where each table begins
+mod kinds; // what the kinds of step share
 mod rows; // the rows while they are made
 mod build; // the tables, step by step
 

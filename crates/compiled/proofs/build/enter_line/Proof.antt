@@ -1,18 +1,21 @@
 -- `enter_line` meets its contract. The invariant: the tables are those of the paths before and of the steps read of this path; `bit` is the
--- next step's bit, and `down` has the bits of those that descend. The measure is what is left of the list. proofs/InLine.antt has the laws.
+-- next step's bit, and the sums have the bits of those that may stay, go, go far. The measure is what is left of the list.
+-- proofs/InLine.antt has the laws.
 use Prim.Native.Nat.{_-_}
 use native.Mathlib.Omega.{arith}
 use lib.ListN.{length}
-use Rattle.compiled.proofs.InLine.{line-bit, line-down, lining, InLine}
+use Rattle.compiled.proofs.InLine.{line-bit, line-stays, line-goes, line-far, lining, InLine}
 use Rattle.compiled.proofs.build.enter_line.Statement.{statement}
 use Rattle.compiled.proofs.build.enter_line.Tie as tie
 
 abbrev Inv-steps : tie.InvT-steps
-Inv-steps list at₀ len₀ head₀ next₀ rows₀ names p from count₀ place₀ bit₀ down₀ at len head next rows count place bit down =
-    InLine list at len head next rows count p place bit down
+Inv-steps list at₀ len₀ head₀ next₀ rows₀ names p from count₀ place₀ bit₀ stays₀ goes₀ far₀ at len head next rows count place bit
+    stays goes far =
+    InLine list at len head next rows count p place bit stays goes far
 
 abbrev μ-steps : tie.MeasureT-steps
-μ-steps list at₀ len₀ head₀ next₀ rows₀ names p from count₀ place₀ bit₀ down₀ at len head next rows count place bit down =
+μ-steps list at₀ len₀ head₀ next₀ rows₀ names p from count₀ place₀ bit₀ stays₀ goes₀ far₀ at len head next rows count place bit
+    stays goes far =
     length list - place
 
 steps-holds : tie.Need-steps-holds Inv-steps μ-steps
@@ -27,17 +30,33 @@ enum-known-kind c = search lining
 add-step-requires : tie.Need-add-step-requires Inv-steps μ-steps
 add-step-requires c κs = search lining
 
-down-bit-requires : tie.Need-down-bit-requires Inv-steps μ-steps
-down-bit-requires c κs = search lining
+stay-bit-requires : tie.Need-stay-bit-requires Inv-steps μ-steps
+stay-bit-requires c κs = search lining
 
-add-down : tie.Need-add-down Inv-steps μ-steps
-add-down c =
+add-stays : tie.Need-add-stays Inv-steps μ-steps
+add-stays c =
     let v = c .before .before .before .before .before .before .before .before .before .before .before .steps .inv in
-    omega (arith, line-bit v, line-down v)
+    omega (arith, line-bit v, line-stays v)
+
+go-bit-requires : tie.Need-go-bit-requires Inv-steps μ-steps
+go-bit-requires c κs = search lining
+
+add-goes : tie.Need-add-goes Inv-steps μ-steps
+add-goes c =
+    let v = c .before .before .before .before .before .before .before .before .before .before .before .before .steps .inv in
+    omega (arith, line-bit v, line-goes v)
+
+far-bit-requires : tie.Need-far-bit-requires Inv-steps μ-steps
+far-bit-requires c κs = search lining
+
+add-far : tie.Need-add-far Inv-steps μ-steps
+add-far c =
+    let v = c .before .before .before .before .before .before .before .before .before .before .before .before .before .steps .inv in
+    omega (arith, line-bit v, line-far v)
 
 mul-bit : tie.Need-mul-bit Inv-steps μ-steps
 mul-bit c =
-    omega (arith, line-bit (c .before .before .before .before .before .before .before .before .before .before .before .steps .inv))
+    omega (arith, line-bit (c .before .before .before .before .before .before .before .before .before .before .before .before .before .steps .inv))
 
 steps-less : tie.Need-steps-less Inv-steps μ-steps
 steps-less c = search lining
@@ -48,12 +67,18 @@ steps-again c = search lining
 enum-told : tie.Need-enum-told Inv-steps μ-steps
 enum-told c = search lining
 
-cast-t26 : tie.Need-cast-t26 Inv-steps μ-steps
-cast-t26 c =
+cast-t28 : tie.Need-cast-t28 Inv-steps μ-steps
+cast-t28 c =
     omega (arith, line-bit (c .before .before .before .steps .inv))
 
-cast-t27 : tie.Need-cast-t27 Inv-steps μ-steps
-cast-t27 c = search lining
+cast-t29 : tie.Need-cast-t29 Inv-steps μ-steps
+cast-t29 c = search lining
+
+cast-t30 : tie.Need-cast-t30 Inv-steps μ-steps
+cast-t30 c = search lining
+
+cast-t31 : tie.Need-cast-t31 Inv-steps μ-steps
+cast-t31 c = search lining
 
 returns : tie.Need-returns Inv-steps μ-steps
 returns c = search lining
@@ -68,12 +93,18 @@ enter-line-spec =
     step-at-requires
     enum-known-kind
     add-step-requires
-    down-bit-requires
-    add-down
+    stay-bit-requires
+    add-stays
+    go-bit-requires
+    add-goes
+    far-bit-requires
+    add-far
     mul-bit
     steps-less
     steps-again
     enum-told
-    cast-t26
-    cast-t27
+    cast-t28
+    cast-t29
+    cast-t30
+    cast-t31
     returns)
