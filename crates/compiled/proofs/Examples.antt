@@ -1,12 +1,13 @@
--- Worked examples of the compiled tables, computed: a list of three paths, which steps go and which go far, the last steps and the marks, its distinct names
--- with their places, and what names pass. Expected values are written from document 01's words, bit j for step j + 1.
+-- Worked examples of the compiled tables, computed: a list of four paths, the steps that stay, go and go far, the last steps and the marks,
+-- its distinct names with their places, and what names pass. Expected values are written from the words of documents 01 and 02, bit j for
+-- step j + 1.
 use mathlib.Core.Path.{_≡_, refl}
 use mathlib.Core.Bool.{true, false}
 use mathlib.Core.List.{List, [], _∷_, map}
 use lib.ListN.{take}
 use Rattle.xml.specs.Notation.{bytes}
 use Rattle.paths.specs.Path.{Test, any, named, Step, Path, printStep, printLine, printList}
-use Rattle.paths.specs.declared.Kind.the-variants.{Child, Descendant}
+use Rattle.paths.specs.declared.Kind.the-variants.{Child, Descendant, SelfStep, DescendantOrSelf}
 use Rattle.compiled.specs.Bits.{column, staysOf, goesOf, farOf, lastsOf, marksOf, fitOf, otherFit}
 use Rattle.lookup.specs.Names.{namesOf, placeOf}
 use Rattle.lookup.specs.Index.{padded}
@@ -17,61 +18,68 @@ child x = record { kind = Child; test = x }
 abbrev descendant : Test → Step
 descendant x = record { kind = Descendant; test = x }
 
--- /g//v, //*/v marked, //n
-abbrev three : List Path
-three =
+abbrev self : Test → Step
+self x = record { kind = SelfStep; test = x }
+
+abbrev or-self : Test → Step
+or-self x = record { kind = DescendantOrSelf; test = x }
+
+-- /g//v, //*/v marked, //n, /*/self::g/descendant-or-self::n
+abbrev four : List Path
+four =
     record { steps = child (named (bytes "g")) ∷ descendant (named (bytes "v")) ∷ []; marked = false }
     ∷ record { steps = descendant any ∷ child (named (bytes "v")) ∷ []; marked = true }
     ∷ record { steps = descendant (named (bytes "n")) ∷ []; marked = false }
+    ∷ record { steps = child any ∷ self (named (bytes "g")) ∷ or-self (named (bytes "n")) ∷ []; marked = false }
     ∷ []
 
-pub prints : printList three ≡ bytes "/g//v\n//*/v #\n//n\n"
+pub prints : printList four ≡ bytes "/g//v\n//*/v #\n//n\n/*/self::g/descendant-or-self::n\n"
 unfolding printList printLine printStep
 prints = refl
 
--- the first four of 32
-pub stays : take 4 (staysOf three) ≡ 0 ∷ 0 ∷ 0 ∷ 0 ∷ []
+-- the first five of 32
+pub stays : take 5 (staysOf four) ≡ 0 ∷ 0 ∷ 0 ∷ 6 ∷ 0 ∷ []
 unfolding staysOf column padded
 stays = refl
 
-pub goes : take 4 (goesOf three) ≡ 3 ∷ 3 ∷ 1 ∷ 0 ∷ []
+pub goes : take 5 (goesOf four) ≡ 3 ∷ 3 ∷ 1 ∷ 5 ∷ 0 ∷ []
 unfolding goesOf column padded
 goes = refl
 
-pub far : take 4 (farOf three) ≡ 2 ∷ 1 ∷ 1 ∷ 0 ∷ []
+pub far : take 5 (farOf four) ≡ 2 ∷ 1 ∷ 1 ∷ 4 ∷ 0 ∷ []
 unfolding farOf column padded
 far = refl
 
-pub lasts : take 4 (lastsOf three) ≡ 2 ∷ 2 ∷ 1 ∷ 0 ∷ []
+pub lasts : take 5 (lastsOf four) ≡ 2 ∷ 2 ∷ 1 ∷ 4 ∷ 0 ∷ []
 unfolding lastsOf column padded
 lasts = refl
 
-pub marks : take 4 (marksOf three) ≡ 0 ∷ 2 ∷ 0 ∷ 0 ∷ []
+pub marks : take 5 (marksOf four) ≡ 0 ∷ 2 ∷ 0 ∷ 0 ∷ 0 ∷ []
 unfolding marksOf column padded
 marks = refl
 
 -- g at 1, v at 4 for the first time, n at 16
-pub names : map (λ x. x .name) (namesOf three) ≡ bytes "g" ∷ bytes "v" ∷ bytes "n" ∷ []
+pub names : map (λ x. x .name) (namesOf four) ≡ bytes "g" ∷ bytes "v" ∷ bytes "n" ∷ []
 unfolding namesOf printLine printStep
 names = refl
 
-pub places : map (λ x. x .place) (namesOf three) ≡ 1 ∷ 4 ∷ 16 ∷ []
+pub places : map (λ x. x .place) (namesOf four) ≡ 1 ∷ 4 ∷ 16 ∷ []
 unfolding namesOf printLine printStep
 places = refl
 
-pub found : map (placeOf (namesOf three)) (bytes "g" ∷ bytes "v" ∷ bytes "n" ∷ bytes "x" ∷ []) ≡ 1 ∷ 2 ∷ 3 ∷ 0 ∷ []
+pub found : map (placeOf (namesOf four)) (bytes "g" ∷ bytes "v" ∷ bytes "n" ∷ bytes "x" ∷ []) ≡ 1 ∷ 2 ∷ 3 ∷ 0 ∷ []
 unfolding namesOf printLine printStep
 found = refl
 
--- v passes the last steps of two paths and `*`; x, which no step has, passes `*` alone
-pub fits : take 4 (fitOf three (bytes "v")) ≡ 2 ∷ 3 ∷ 0 ∷ 0 ∷ []
+-- v passes the last steps of two paths and each `*`; x, which no step has, passes `*` alone
+pub fits : take 5 (fitOf four (bytes "v")) ≡ 2 ∷ 3 ∷ 0 ∷ 1 ∷ 0 ∷ []
 unfolding fitOf column padded
 fits = refl
 
-pub fits-none : take 4 (fitOf three (bytes "x")) ≡ 0 ∷ 1 ∷ 0 ∷ 0 ∷ []
+pub fits-none : take 5 (fitOf four (bytes "x")) ≡ 0 ∷ 1 ∷ 0 ∷ 1 ∷ 0 ∷ []
 unfolding fitOf column padded
 fits-none = refl
 
-pub fits-other : take 4 (otherFit three) ≡ 0 ∷ 1 ∷ 0 ∷ 0 ∷ []
+pub fits-other : take 5 (otherFit four) ≡ 0 ∷ 1 ∷ 0 ∷ 1 ∷ 0 ∷ []
 unfolding otherFit column padded
 fits-other = refl

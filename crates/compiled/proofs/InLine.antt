@@ -55,7 +55,7 @@ test-stands d a n x t o e l = rw (e, l) (go x o)
   where
     go : (x : Test) → ProperTest x → testOf (testSize x) (take (testSize x) (printTest x ++ t)) ≡ x
     go any o = refl
-    go (named m) o = rw (take-at m t (length m) refl) (some-name m o)
+    go (named m) o = rw (take-at m t (length m) refl) (some-name m (o .name))
 
 -- ---- what is printed
 
@@ -196,7 +196,8 @@ line-start v =
       far-is = refl;
     }
 
-module _ {d at len head next rows : List ℕ} {names p place bit stays goes far : ℕ} (v : InLine d at len head next rows names p place bit stays goes far) where
+module _ {d at len head next rows : List ℕ} {names p place bit stays goes far : ℕ}
+    (v : InLine d at len head next rows names p place bit stays goes far) where
   steps-few : length (v .read) + length (v .todo) ≤ 16
   steps-few =
       let a = path-good (v .here) .within .steps in

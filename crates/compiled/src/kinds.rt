@@ -1,8 +1,10 @@
 // What the kinds of step share: three tests of a kind, here as the bit of a step that passes them.
 //
-//                  stays   goes   far
-//     child        no      yes    no
-//     descendant   no      yes    yes
+//                          stays   goes   far
+//     child                no      yes    no
+//     descendant           no      yes    yes
+//     self                 yes     no     no
+//     descendant-or-self   yes     yes    yes
 ghost use mathlib.Core.Path.{_≡_};
 ghost use Prim.Native.Nat.{_≤_};
 ghost use mathlib.Core.Bool.{cond};
@@ -16,6 +18,8 @@ pub fn stay_bit(kind: Kind, bit: usize) -> usize
     match kind {
         Kind::Child => 0,
         Kind::Descendant => 0,
+        Kind::SelfStep => bit,
+        Kind::DescendantOrSelf => bit,
     }
 }
 
@@ -26,6 +30,8 @@ pub fn go_bit(kind: Kind, bit: usize) -> usize
     match kind {
         Kind::Child => bit,
         Kind::Descendant => bit,
+        Kind::SelfStep => 0,
+        Kind::DescendantOrSelf => bit,
     }
 }
 
@@ -36,5 +42,7 @@ pub fn far_bit(kind: Kind, bit: usize) -> usize
     match kind {
         Kind::Child => 0,
         Kind::Descendant => bit,
+        Kind::SelfStep => 0,
+        Kind::DescendantOrSelf => bit,
     }
 }

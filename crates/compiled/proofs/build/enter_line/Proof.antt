@@ -56,7 +56,8 @@ add-far c =
 
 mul-bit : tie.Need-mul-bit Inv-steps μ-steps
 mul-bit c =
-    omega (arith, line-bit (c .before .before .before .before .before .before .before .before .before .before .before .before .before .steps .inv))
+    let v = c .before .before .before .before .before .before .before .before .before .before .before .before .before .steps .inv in
+    omega (arith, line-bit v)
 
 steps-less : tie.Need-steps-less Inv-steps μ-steps
 steps-less c = search lining
