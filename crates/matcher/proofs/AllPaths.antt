@@ -1,28 +1,50 @@
--- All paths: entry i of a state is path i's bits, and a hit is one of some path. A path past the last has no step: it selects nothing.
--- Ends in `verdict-carried`: the state of an element's parent and the element's fit give the verdict on it.
+-- All paths: entry i of a state is path i's bits, and a hit is one of path i's, where its steps can be laid, `among-hit`. A path past the
+-- last has no step: it can be laid nowhere. In order: fits; path i; states; hits; one more name.
 use mathlib.Core.Path.{_≡_, refl, sym, ap, ap₂, _∙_}
-use mathlib.Core.Bool.{Bool, true, false, cond, _&&_, _||_, or-assoc, or-false}
+use mathlib.Core.Bool.{Bool, true, false, cond, _&&_, and-false}
 use mathlib.Core.List.{List, [], _∷_, _++_, map}
-use Prim.Native.Nat.{ℕ, zero, suc, _+_, _≤_, _<_}
+use mathlib.Core.Logic.{_↔_}
+use Prim.Native.Nat.{ℕ, zero, suc, _≤_, _<_}
 use native.Mathlib.Nat.{zero-add}
 use native.Mathlib.Omega.{arith}
 use lib.ListN.{length, getD, replicate}
-use lib.Bits.{bitAnd, bitOr, and-zero-l, and-zero-r, or-zero-l, or-add-and, and-le-r}
+use lib.Bits.{bitAnd, and-zero-r}
 use Rattle.paths.specs.Path.{Step, Path, All, more}
-use Rattle.compiled.specs.Bits.{stepBits, lastBit, column, descends, passes, descendsOf, lastsOf, marksOf, fitOf}
+use Rattle.compiled.specs.Bits.{stepBits, lastBit, column, staysOf, goesOf, farOf}
 use Rattle.compiled.proofs.Bits.{column-get}
 use Rattle.compiled.proofs.Listed.{listed-get}
-use Rattle.matcher.specs.Test.{selects}
-use Rattle.matcher.specs.Says.{some, decided, verdictOf}
+use Rattle.matcher.specs.Test.{lays}
 use Rattle.matcher.specs.Fit.{fitFor}
-use Rattle.matcher.specs.State.{carried, carriedAt, freshState, deeperOf, down, stateOf, joined, nonzero, hitAt, anyHit, verdictBy}
+use Rattle.matcher.specs.State.{hitsOf, carried, hitsAt, carriedAt, freshState, deeperOf, down, stateOf, nonzero, hitAt}
+use Rattle.matcher.specs.declared.fit.Fit.{Fit}
 use Rattle.matcher.specs.declared.state.MatchState.{MatchState}
-use Rattle.matcher.proofs.OnePath.{passing, descending, downPath, hit-selects}
+use Rattle.matcher.proofs.Telling.{stayBits, goBits, farBits, fitBits, downPath, pathHits}
+use Rattle.matcher.proofs.Hits.{lays-none, hits-lays}
+
+-- ---- fits
+
+-- of anything that steps may fit, where only the paths `of` can be hit
+abbrev pub fitWith : {A : Type 0} → (Step → A → Bool) → (Path → Bool) → List Path → A → Fit
+fitWith fits of ps x =
+    record {
+      passes = column (stepBits (λ s. fits s x)) ps;
+      stays = staysOf ps;
+      goes = goesOf ps;
+      far = farOf ps;
+      lasts = column (λ p. cond (of p) (lastBit p) 0) ps;
+      marks = column (λ p. cond (of p && p .marked) (lastBit p) 0) ps;
+    }
 
 -- ---- path i
 
-abbrev pathAt : List Path → ℕ → Path
-pathAt ps i = getD ps i (record { steps = []; marked = false })
+abbrev pub noPath : Path
+noPath = record { steps = []; marked = false }
+
+abbrev pub pathAt : List Path → ℕ → Path
+pathAt ps i = getD ps i noPath
+
+abbrev pub stepsAt : List Path → ℕ → List Step
+stepsAt ps i = pathAt ps i .steps
 
 bits-at : (g : Step → Bool) (ps : List Path) (i : ℕ) → getD (column (stepBits g) ps) i 0 ≡ stepBits g (pathAt ps i)
 bits-at g ps i = column-get (stepBits g) ps i ∙ go ps i
@@ -32,156 +54,110 @@ bits-at g ps i = column-get (stepBits g) ps i ∙ go ps i
     go (p ∷ ps) zero = refl
     go (p ∷ ps) (suc i) = go ps i
 
-passes-at : (ps : List Path) (n : List ℕ) (i : ℕ) → getD (fitFor ps n .passes) i 0 ≡ passing n (pathAt ps i .steps)
-unfolding fitFor fitOf
-passes-at ps n i = bits-at (λ s. passes n (s .test)) ps i
+stays-at : (ps : List Path) (i : ℕ) → getD (staysOf ps) i 0 ≡ stayBits (stepsAt ps i)
+unfolding staysOf
+stays-at ps i = bits-at _ ps i
 
-descends-at : (ps : List Path) (n : List ℕ) (i : ℕ) → getD (fitFor ps n .descends) i 0 ≡ descending (pathAt ps i .steps)
-unfolding fitFor descendsOf
-descends-at ps n i = bits-at (λ s. descends (s .kind)) ps i
+goes-at : (ps : List Path) (i : ℕ) → getD (goesOf ps) i 0 ≡ goBits (stepsAt ps i)
+unfolding goesOf
+goes-at ps i = bits-at _ ps i
 
--- ---- states
+far-at : (ps : List Path) (i : ℕ) → getD (farOf ps) i 0 ≡ farBits (stepsAt ps i)
+unfolding farOf
+far-at ps i = bits-at _ ps i
 
-deeper-at : (ps : List Path) (m : MatchState) (n : List ℕ) (i : ℕ) → i < 32
-    → getD (deeperOf m (fitFor ps n) .bits) i 0
-    ≡ carried (getD (m .bits) i 0) (passing n (pathAt ps i .steps)) (descending (pathAt ps i .steps))
-unfolding deeperOf carriedAt
-deeper-at ps m n i l =
-    listed-get (carriedAt (m .bits) (fitFor ps n .passes) (fitFor ps n .descends)) 0 0 32 i l
-    ∙ ap (carriedAt (m .bits) (fitFor ps n .passes) (fitFor ps n .descends)) (zero-add i)
-    ∙ ap₂ (λ (f d : ℕ). carried (getD (m .bits) i 0) f d) (passes-at ps n i) (descends-at ps n i)
+fresh-at : (n i : ℕ) → i < n → _≡_ {A = ℕ} (getD (replicate n 1) i 0) 1
+fresh-at zero i l = absurd (omega arith)
+fresh-at (suc n) zero l = refl
+fresh-at (suc n) (suc i) l = fresh-at n i (omega arith)
 
-down-at : (ps : List Path) (m : MatchState) (names : List (List ℕ)) (i : ℕ) → i < 32
-    → getD (down ps m names .bits) i 0 ≡ downPath (pathAt ps i .steps) (getD (m .bits) i 0) names
-down-at ps m [] i l = refl
-down-at ps m (n ∷ names) i l =
-    down-at ps (deeperOf m (fitFor ps n)) names i l
-    ∙ ap (λ (x : ℕ). downPath (pathAt ps i .steps) x names) (deeper-at ps m n i l)
+module _ {A : Type 0} (fits : Step → A → Bool) (of : Path → Bool) (ps : List Path) where
+  abbrev fit : A → Fit
+  fit x = fitWith fits of ps x
 
-ones : (n i : ℕ) → i < n → _≡_ {A = ℕ} (getD (replicate n 1) i 0) 1
-ones zero i l = absurd (omega arith)
-ones (suc n) zero l = refl
-ones (suc n) (suc i) l = ones n i (omega arith)
+  module _ (state : List ℕ) (x : A) (i : ℕ) where
+    hits-at : hitsAt state (fit x .passes) (fit x .stays) (fit x .goes) i
+        ≡ hitsOf (getD state i 0) (fitBits fits (stepsAt ps i) x) (stayBits (stepsAt ps i)) (goBits (stepsAt ps i))
+    unfolding hitsAt
+    hits-at =
+        ap (λ (u : ℕ). hitsOf (getD state i 0) u (getD (staysOf ps) i 0) (getD (goesOf ps) i 0)) (bits-at (λ s. fits s x) ps i)
+        ∙ ap₂ (hitsOf (getD state i 0) (fitBits fits (stepsAt ps i) x)) (stays-at ps i) (goes-at ps i)
 
-state-at : (ps : List Path) (names : List (List ℕ)) (i : ℕ) → i < 32
-    → getD (stateOf ps names .bits) i 0 ≡ downPath (pathAt ps i .steps) 1 names
-unfolding stateOf freshState
-state-at ps names i l =
-    down-at ps freshState names i l ∙ ap (λ (x : ℕ). downPath (pathAt ps i .steps) x names) (ones 32 i l)
+    carried-at : carriedAt state (fit x .passes) (fit x .stays) (fit x .goes) (fit x .far) i
+        ≡ carried (getD state i 0) (fitBits fits (stepsAt ps i) x) (stayBits (stepsAt ps i)) (goBits (stepsAt ps i))
+        (farBits (stepsAt ps i))
+    unfolding carriedAt
+    carried-at =
+        ap₂ (λ (u v : ℕ). carried (getD state i 0) u v (getD (goesOf ps) i 0) (getD (farOf ps) i 0)) (bits-at (λ s. fits s x) ps i)
+        (stays-at ps i)
+        ∙ ap₂ (carried (getD state i 0) (fitBits fits (stepsAt ps i) x) (stayBits (stepsAt ps i))) (goes-at ps i) (far-at ps i)
 
--- ---- hits
+  -- ---- states
 
--- the bits that a path has among those of `which`, where a path of no step passes nothing
-hit-at : (which : Path → ℕ) (a : ℕ) (ps : List Path) (n : List ℕ) (i : ℕ)
-    → bitAnd (bitAnd a (getD (fitFor ps n .passes) i 0)) (getD (column which ps) i 0)
-    ≡ bitAnd (bitAnd a (passing n (pathAt ps i .steps))) (which (pathAt ps i))
-hit-at which a ps n i = ap₂ (λ (f w : ℕ). bitAnd (bitAnd a f) w) (passes-at ps n i) (column-get which ps i) ∙ go ps i
-  where
-    go : (ps : List Path) (i : ℕ)
-        → bitAnd (bitAnd a (passing n (pathAt ps i .steps))) (getD (map which ps) i 0)
-        ≡ bitAnd (bitAnd a (passing n (pathAt ps i .steps))) (which (pathAt ps i))
-    go [] i =
-        ap (λ (x : ℕ). bitAnd x 0) (and-zero-r a)
-        ∙ sym (ap (λ (x : ℕ). bitAnd x (which (pathAt [] i))) (and-zero-r a) ∙ and-zero-l (which (pathAt [] i)))
-    go (p ∷ ps) zero = refl
-    go (p ∷ ps) (suc i) = go ps i
+  deeper-at : (m : MatchState) (x : A) (i : ℕ) → i < 32
+      → getD (deeperOf m (fit x) .bits) i 0
+      ≡ carried (getD (m .bits) i 0) (fitBits fits (stepsAt ps i) x) (stayBits (stepsAt ps i)) (goBits (stepsAt ps i))
+      (farBits (stepsAt ps i))
+  unfolding deeperOf
+  deeper-at m x i l =
+      let at = carriedAt (m .bits) (fit x .passes) (fit x .stays) (fit x .goes) (fit x .far) in
+      listed-get at 0 0 32 i l ∙ ap at (zero-add i) ∙ carried-at (m .bits) x i
 
-short-at : (ps : List Path) → All (λ p. length (p .steps) ≤ 16) ps → (i : ℕ) → length (pathAt ps i .steps) ≤ 16
-short-at [] a i = omega arith
-short-at (p ∷ ps) (more l a) zero = l
-short-at (p ∷ ps) (more l a) (suc i) = short-at ps a i
+  down-at : (m : MatchState) (xs : List A) (i : ℕ) → i < 32
+      → getD (down fit m xs .bits) i 0 ≡ downPath fits (stepsAt ps i) (getD (m .bits) i 0) xs
+  down-at m [] i l = refl
+  down-at m (x ∷ xs) i l =
+      down-at (deeperOf m (fit x)) xs i l ∙ ap (λ (y : ℕ). downPath fits (stepsAt ps i) y xs) (deeper-at m x i l)
 
-marked-hit : (b : Bool) (h l : ℕ) → nonzero (bitAnd h (cond b l 0)) ≡ b && nonzero (bitAnd h l)
-marked-hit true h l = refl
-marked-hit false h l = ap nonzero (and-zero-r h)
+  state-at : (xs : List A) (i : ℕ) → i < 32 → getD (down fit freshState xs .bits) i 0 ≡ downPath fits (stepsAt ps i) 1 xs
+  unfolding freshState
+  state-at xs i l = down-at freshState xs i l ∙ ap (λ (y : ℕ). downPath fits (stepsAt ps i) y xs) (fresh-at 32 i l)
 
-module _ (ps : List Path) (short : All (λ p. length (p .steps) ≤ 16) ps) (names : List (List ℕ)) (n : List ℕ) where
-  last-hit : (i : ℕ) → i < 32
-      → nonzero (hitAt (stateOf ps names .bits) (fitFor ps n .passes) (fitFor ps n .lasts) i)
-      ≡ selects (pathAt ps i .steps) (names ++ n ∷ [])
-  unfolding hitAt fitFor lastsOf
-  last-hit i l =
-      ap nonzero (hit-at lastBit (getD (stateOf ps names .bits) i 0) ps n i)
-      ∙ ap (λ (x : ℕ). nonzero (bitAnd (bitAnd x (passing n (pathAt ps i .steps))) (lastBit (pathAt ps i)))) (state-at ps names i l)
-      ∙ hit-selects (pathAt ps i .steps) (short-at ps short i) names n
+  -- ---- hits
 
-  mark-hit : (i : ℕ) → i < 32
-      → nonzero (hitAt (stateOf ps names .bits) (fitFor ps n .passes) (fitFor ps n .marks) i)
-      ≡ pathAt ps i .marked && selects (pathAt ps i .steps) (names ++ n ∷ [])
-  unfolding hitAt fitFor marksOf
-  mark-hit i l =
-      let x = getD (stateOf ps names .bits) i 0 in
-      let h = bitAnd (downPath (pathAt ps i .steps) 1 names) (passing n (pathAt ps i .steps)) in
-      ap nonzero (hit-at (λ p. cond (p .marked) (lastBit p) 0) x ps n i)
-      ∙ ap (λ (y : ℕ).
-      nonzero (bitAnd (bitAnd y (passing n (pathAt ps i .steps))) (cond (pathAt ps i .marked) (lastBit (pathAt ps i)) 0)))
-      (state-at ps names i l)
-      ∙ marked-hit (pathAt ps i .marked) h (lastBit (pathAt ps i))
-      ∙ ap (λ (b : Bool). pathAt ps i .marked && b) (hit-selects (pathAt ps i .steps) (short-at ps short i) names n)
+  -- the hits of path i at the element x below those above
+  pub path-hits : (above : List A) (x : A) (i : ℕ) → i < 32
+      → hitsAt (down fit freshState above .bits) (fit x .passes) (fit x .stays) (fit x .goes) i ≡ pathHits fits (stepsAt ps i) above x
+  path-hits above x i l =
+      hits-at (down fit freshState above .bits) x i
+      ∙ ap (λ (y : ℕ). hitsOf y (fitBits fits (stepsAt ps i) x) (stayBits (stepsAt ps i)) (goBits (stepsAt ps i))) (state-at above i l)
 
--- ---- some hit
+some-hit : (b : Bool) (h l : ℕ) → nonzero (bitAnd h (cond b l 0)) ≡ b && nonzero (bitAnd h l)
+some-hit true h l = refl
+some-hit false h l = ap nonzero (and-zero-r h)
 
-abbrev upTo : (ℕ → Bool) → ℕ → Bool
-upTo f zero = false
-upTo f (suc k) = upTo f k || f k
+module _ {A : Type 0} (Fits : Step → A → Type 0) (fits : Step → A → Bool) (decides : (s : Step) (x : A) → Fits s x ↔ (fits s x ≡ true))
+    (of : Path → Bool) (ps : List Path) (short : All (λ p. length (p .steps) ≤ 16) ps) (above : List A) (x : A) where
+  -- a hit of path i's last step, if it is one of `which`
+  pub among-hit : (which : Path → Bool) (i : ℕ) → i < 32
+      → nonzero (hitAt (down (fitWith fits of ps) freshState above .bits) (fitWith fits of ps x .passes) (staysOf ps) (goesOf ps)
+      (column (λ p. cond (which p) (lastBit p) 0) ps) i)
+      ≡ which (pathAt ps i) && lays fits (above ++ x ∷ []) (stepsAt ps i)
+  unfolding hitAt
+  among-hit which i l =
+      ap₂ (λ (h w : ℕ). nonzero (bitAnd h w)) (path-hits fits of ps above x i l) (column-get last ps i)
+      ∙ go ps short i
+    where
+      last : Path → ℕ
+      last p = cond (which p) (lastBit p) 0
 
-nonzero-or : (x y : ℕ) → nonzero (bitOr x y) ≡ nonzero x || nonzero y
-nonzero-or zero y = ap nonzero (or-zero-l y)
-nonzero-or (suc x) y = positive (bitOr (suc x) y) (let a = or-add-and (suc x) y in let b = and-le-r (suc x) y in omega arith)
-  where
-    positive : (z : ℕ) → 0 < z → nonzero z ≡ true
-    positive zero l = absurd (omega arith)
-    positive (suc z) l = refl
-
-nonzero-joined : (h : ℕ → ℕ) (g : ℕ → Bool) (k : ℕ) → ((i : ℕ) → i < k → nonzero (h i) ≡ g i) → nonzero (joined h k) ≡ upTo g k
-nonzero-joined h g zero e = refl
-nonzero-joined h g (suc k) e =
-    nonzero-or (joined h k) (h k) ∙ ap₂ (λ (a b : Bool). a || b) (nonzero-joined h g k (λ i l. e i (omega arith))) (e k (omega arith))
-
--- the first by itself
-upto-first : (g : ℕ → Bool) (k : ℕ) → upTo g (suc k) ≡ (g 0 || upTo (λ i. g (suc i)) k)
-upto-first g zero = sym (or-false (g 0))
-upto-first g (suc k) =
-    ap (λ (b : Bool). b || g (suc k)) (upto-first g k) ∙ or-assoc (g 0) (upTo (λ i. g (suc i)) k) (g (suc k))
-
-upto-none : (k : ℕ) → upTo (λ i. false) k ≡ false
-upto-none zero = refl
-upto-none (suc k) = rw (upto-none k)
-
-upto-some : (f : Path → Bool) → f (record { steps = []; marked = false }) ≡ false → (ps : List Path) (k : ℕ) → length ps ≤ k
-    → upTo (λ i. f (pathAt ps i)) k ≡ some f ps
-upto-some f e [] k l = rw e (upto-none k)
-upto-some f e (p ∷ ps) zero l = absurd (omega arith)
-upto-some f e (p ∷ ps) (suc k) l =
-    upto-first (λ i. f (pathAt (p ∷ ps) i)) k ∙ ap (λ (b : Bool). f p || b) (upto-some f e ps k (omega arith))
-
--- ---- the verdict
-
-selects-none : (names : List (List ℕ)) (n : List ℕ) → selects [] (names ++ n ∷ []) ≡ false
-selects-none [] n = refl
-selects-none (m ∷ names) n = refl
-
-pub verdict-carried : (ps : List Path) → length ps ≤ 32 → All (λ p. length (p .steps) ≤ 16) ps → (names : List (List ℕ)) (n : List ℕ)
-    → verdictBy (stateOf ps names) (fitFor ps n) ≡ verdictOf ps (names ++ n ∷ [])
-unfolding verdictBy verdictOf anyHit
-verdict-carried ps few short names n =
-    let e = selects-none names n in
-    let f = fitFor ps n in
-    let bits = stateOf ps names .bits in
-    ap₂ decided
-    (nonzero-joined (hitAt bits (f .passes) (f .marks))
-    (λ i. pathAt ps i .marked && selects (pathAt ps i .steps) (names ++ n ∷ [])) 32 (mark-hit ps short names n)
-    ∙ upto-some (λ p. p .marked && selects (p .steps) (names ++ n ∷ [])) refl ps 32 few)
-    (nonzero-joined (hitAt bits (f .passes) (f .lasts))
-    (λ i. selects (pathAt ps i .steps) (names ++ n ∷ [])) 32 (last-hit ps short names n)
-    ∙ upto-some (λ p. selects (p .steps) (names ++ n ∷ [])) e ps 32 few)
+      go : (qs : List Path) → All (λ p. length (p .steps) ≤ 16) qs → (i : ℕ)
+          → nonzero (bitAnd (pathHits fits (stepsAt qs i) above x) (getD (map last qs) i 0))
+          ≡ which (pathAt qs i) && lays fits (above ++ x ∷ []) (stepsAt qs i)
+      go [] a i =
+          ap nonzero (and-zero-r (pathHits fits [] above x))
+          ∙ sym (ap (λ (b : Bool). which noPath && b) (lays-none fits above x) ∙ and-false (which noPath))
+      go (p ∷ qs) (more s a) zero =
+          some-hit (which p) (pathHits fits (p .steps) above x) (lastBit p)
+          ∙ ap (λ (b : Bool). which p && b) (hits-lays Fits fits decides (p .steps) s above x)
+      go (p ∷ qs) (more s a) (suc i) = go qs a i
 
 -- ---- one more name
 
-down-deeper : (ps : List Path) (m : MatchState) (names : List (List ℕ)) (n : List ℕ)
-    → down ps m (names ++ n ∷ []) ≡ deeperOf (down ps m names) (fitFor ps n)
-down-deeper ps m [] n = refl
-down-deeper ps m (k ∷ names) n = down-deeper ps (deeperOf m (fitFor ps k)) names n
+down-deeper : {A : Type 0} (fit : A → Fit) (m : MatchState) (xs : List A) (x : A)
+    → down fit m (xs ++ x ∷ []) ≡ deeperOf (down fit m xs) (fit x)
+down-deeper fit m [] x = refl
+down-deeper fit m (y ∷ xs) x = down-deeper fit (deeperOf m (fit y)) xs x
 
 pub state-fresh : (ps : List Path) → stateOf ps [] ≡ freshState
 unfolding stateOf
@@ -190,4 +166,4 @@ state-fresh ps = refl
 pub state-deeper : (ps : List Path) (names : List (List ℕ)) (n : List ℕ)
     → stateOf ps (names ++ n ∷ []) ≡ deeperOf (stateOf ps names) (fitFor ps n)
 unfolding stateOf
-state-deeper ps names n = down-deeper ps freshState names n
+state-deeper ps names n = down-deeper (fitFor ps) freshState names n

@@ -10,7 +10,7 @@ use borrow.Author.Needs.{needs}
 use lib.Bits.{bitAnd, bitOr}
 use lib.ListN.{getD, set, replicate}
 use Rattle.matcher.specs.Says.{decided}
-use Rattle.matcher.specs.State.{carried, carriedAt, deeperOf, joined, nonzero, hitAt, anyHit, verdictBy}
+use Rattle.matcher.specs.State.{hitsOf, carried, hitsAt, carriedAt, deeperOf, joined, nonzero, hitAt, anyHit, verdictBy}
 use Rattle.matcher.specs.declared.Verdict.the-variants.{Unselected, Selected, Marked}
 use Rattle.matcher.specs.declared.fit.Fit.{Fit}
 use Rattle.matcher.specs.declared.state.MatchState.{MatchState}
@@ -18,19 +18,20 @@ use Rattle.matcher.proofs.Fill.{Filled, fill-start, fill-more, fill-end
 
 -- ---- `deeper`
 
-pub record Carried (state passes descends bits : List ℕ) (p : ℕ) : Type 0 where
-  pub filled : Filled (carriedAt state passes descends) bits p
+pub record Carried (state passes stays goes far bits : List ℕ) (p : ℕ) : Type 0 where
+  pub filled : Filled (carriedAt state passes stays goes far) bits p
 
-pub carry-start : (state passes descends : List ℕ) → Carried state passes descends (replicate 32 0) 0
-carry-start state passes descends = record { filled = fill-start (carriedAt state passes descends) }
+pub carry-start : (state passes stays goes far : List ℕ) → Carried state passes stays goes far (replicate 32 0) 0
+carry-start state passes stays goes far = record { filled = fill-start (carriedAt state passes stays goes far) }
 
-pub carry-more : {state passes descends bits : List ℕ} {p : ℕ} → Carried state passes descends bits p → p < 32
-    → {x : ℕ} → x ≡ carried (getD state p 0) (getD passes p 0) (getD descends p 0)
-    → Carried state passes descends (set bits p x) (p + 1)
+pub carry-more : {state passes stays goes far bits : List ℕ} {p : ℕ} → Carried state passes stays goes far bits p → p < 32
+    → {x : ℕ} → x ≡ carried (getD state p 0) (getD passes p 0) (getD stays p 0) (getD goes p 0) (getD far p 0)
+    → Carried state passes stays goes far (set bits p x) (p + 1)
 unfolding carriedAt
 carry-more v l e = record { filled = fill-more (v .filled) l e }
 
-pub carry-end : (m : MatchState) (f : Fit) {bits : List ℕ} {p : ℕ} → Carried (m .bits) (f .passes) (f .descends) bits p → 32 ≤ p
+pub carry-end : (m : MatchState) (f : Fit) {bits : List ℕ} {p : ℕ}
+    → Carried (m .bits) (f .passes) (f .stays) (f .goes) (f .far) bits p → 32 ≤ p
     → _≡_ {A = MatchState} (record { bits = bits }) (deeperOf m f)
 unfolding deeperOf
 carry-end m f v l = rw (fill-end (v .filled) l)
@@ -39,27 +40,29 @@ pub ruleset carrying = (carry-start, carry-more, carry-end, needs)
 
 -- ---- `verdict_on`
 
-pub record Joining (state passes lasts marks : List ℕ) (selected marked p : ℕ) : Type 0 where
+pub record Joining (state passes stays goes lasts marks : List ℕ) (selected marked p : ℕ) : Type 0 where
   pub p-in : p ≤ 32
-  pub selected-is : selected ≡ joined (hitAt state passes lasts) p
-  pub marked-is : marked ≡ joined (hitAt state passes marks) p
+  pub selected-is : selected ≡ joined (hitAt state passes stays goes lasts) p
+  pub marked-is : marked ≡ joined (hitAt state passes stays goes marks) p
 
-pub join-start : (state passes lasts marks : List ℕ) → Joining state passes lasts marks 0 0 0
-join-start state passes lasts marks = record { p-in = omega arith; selected-is = refl; marked-is = refl }
+pub join-start : (state passes stays goes lasts marks : List ℕ) → Joining state passes stays goes lasts marks 0 0 0
+join-start state passes stays goes lasts marks = record { p-in = omega arith; selected-is = refl; marked-is = refl }
 
-module _ {state passes lasts marks : List ℕ} {selected marked p : ℕ} (v : Joining state passes lasts marks selected marked p) where
-  joined-more : (among : List ℕ) {x : ℕ} → x ≡ joined (hitAt state passes among) p
-      → bitOr x (bitAnd (bitAnd (getD state p 0) (getD passes p 0)) (getD among p 0)) ≡ joined (hitAt state passes among) (p + 1)
-  unfolding hitAt
-  joined-more among e = rw (add-one p, e)
+module _ {state passes stays goes lasts marks : List ℕ} {selected marked p : ℕ}
+    (v : Joining state passes stays goes lasts marks selected marked p) where
+  joined-more : (among : List ℕ) {x t : ℕ} → t ≡ hitsOf (getD state p 0) (getD passes p 0) (getD stays p 0) (getD goes p 0)
+      → x ≡ joined (hitAt state passes stays goes among) p
+      → bitOr x (bitAnd t (getD among p 0)) ≡ joined (hitAt state passes stays goes among) (p + 1)
+  unfolding hitAt hitsAt
+  joined-more among d e = rw (add-one p, e, d)
 
-  pub join-more : p < 32
-      → Joining state passes lasts marks
-      (bitOr selected (bitAnd (bitAnd (getD state p 0) (getD passes p 0)) (getD lasts p 0)))
-      (bitOr marked (bitAnd (bitAnd (getD state p 0) (getD passes p 0)) (getD marks p 0)))
+  pub join-more : p < 32 → {t : ℕ} → t ≡ hitsOf (getD state p 0) (getD passes p 0) (getD stays p 0) (getD goes p 0)
+      → Joining state passes stays goes lasts marks
+      (bitOr selected (bitAnd t (getD lasts p 0)))
+      (bitOr marked (bitAnd t (getD marks p 0)))
       (p + 1)
-  join-more l =
-      record { p-in = omega arith; selected-is = joined-more lasts (v .selected-is); marked-is = joined-more marks (v .marked-is) }
+  join-more l d =
+      record { p-in = omega arith; selected-is = joined-more lasts d (v .selected-is); marked-is = joined-more marks d (v .marked-is) }
 
 nonzero-not : (n : ℕ) → (n ≡ 0 → ⊥) → nonzero n ≡ true
 nonzero-not zero h = absurd (h refl)
@@ -70,12 +73,12 @@ nonzero-zero zero h = refl
 nonzero-zero (suc n) h = absurd (omega arith)
 
 module _ (m : MatchState) (f : Fit) {selected marked p : ℕ}
-    (v : Joining (m .bits) (f .passes) (f .lasts) (f .marks) selected marked p) (l : 32 ≤ p) where
-  hit-is : (among : List ℕ) {x : ℕ} → x ≡ joined (hitAt (m .bits) (f .passes) among) p → nonzero x ≡ anyHit (m .bits) (f .passes) among
+    (v : Joining (m .bits) (f .passes) (f .stays) (f .goes) (f .lasts) (f .marks) selected marked p) (l : 32 ≤ p) where
+  hit-is : (among : List ℕ) {x : ℕ} → x ≡ joined (hitAt (m .bits) (f .passes) (f .stays) (f .goes) among) p → nonzero x ≡ anyHit m f among
   unfolding anyHit
   hit-is among e =
       let z : p ≡ 32 = let y = v .p-in in omega arith in
-      ap nonzero (e ∙ ap (joined (hitAt (m .bits) (f .passes) among)) z)
+      ap nonzero (e ∙ ap (joined (hitAt (m .bits) (f .passes) (f .stays) (f .goes) among)) z)
 
   whole : {b c : Bool} → nonzero marked ≡ b → nonzero selected ≡ c → decided b c ≡ verdictBy m f
   unfolding verdictBy

@@ -1,13 +1,14 @@
--- Numbers by their lowest bit: what `and`, `or`, a remainder of a power of two and one level deeper do to it and to the rest. The step of
--- the matcher is stated over the number of bits that it carries, since each step of a path takes one off.
+-- Numbers by their lowest bit: what `and`, `or`, a remainder of a power of two, the flood, the hits and one level deeper do to it and to
+-- the rest. Stated over what is carried in from the bit below, since each step of a path takes one off.
 use mathlib.Core.Path.{_≡_, refl, ap, ap₂, _∙_}
-use mathlib.Core.Bool.{Bool, true, false, _&&_, _||_}
-use Prim.Native.Nat.{ℕ, zero, suc, _+_, _*_, _/_, _%_, _^_, _<_, min, max}
+use mathlib.Core.Bool.{Bool, true, false, not, _&&_, _||_}
+use Prim.Native.Nat.{ℕ, zero, suc, _+_, _-_, _*_, _/_, _%_, _^_, _≤_, _<_, min, max}
 use native.Mathlib.Omega.{arith}
-use lib.Bits.{bitAnd, bitOr, and-step, or-step}
+use lib.Bits.{bitAnd, bitOr, and-step, or-step, and-le-l}
 use lib.Pow.{mod-pow-add}
 use lib.Dec.{eqb}
 use Rattle.compiled.specs.Bits.{bit}
+use Rattle.matcher.specs.State.{flood, hitsOf, carried}
 
 -- the lowest bit
 abbrev pub odd : ℕ → Bool
@@ -20,6 +21,10 @@ low x = go (x % 2) (omega arith)
     go zero l = refl
     go (suc zero) l = refl
     go (suc (suc r)) l = absurd (omega arith)
+
+-- a number by its lowest bit and the rest
+split : (x : ℕ) → x ≡ bit (odd x) + 2 * (x / 2)
+split x = let z = low x in omega arith
 
 pub bit-half : (b : Bool) (y : ℕ) → (bit b + 2 * y) / 2 ≡ y
 bit-half true y = omega arith
@@ -56,6 +61,11 @@ and-bit x b y =
     ∙ ap (λ (u : ℕ). bitAnd (x / 2) y * 2 + u) (min-bit (odd x) b)
     ∙ turned (bitAnd (x / 2) y) (bit (odd x && b))
 
+-- both by their lowest bit
+pub and-bits : (a : Bool) (x : ℕ) (b : Bool) (y : ℕ) → bitAnd (bit a + 2 * x) (bit b + 2 * y) ≡ bit (a && b) + 2 * bitAnd x y
+and-bits a x b y =
+    and-bit (bit a + 2 * x) b y ∙ ap₂ (λ (u : Bool) (v : ℕ). bit (u && b) + 2 * bitAnd v y) (bit-odd a x) (bit-half a x)
+
 pub or-bit : (a : Bool) (x : ℕ) (b : Bool) (y : ℕ) → bitOr (bit a + 2 * x) (bit b + 2 * y) ≡ bit (a || b) + 2 * bitOr x y
 or-bit a x b y =
     or-step (bit a + 2 * x) (bit b + 2 * y)
@@ -70,25 +80,104 @@ mod-bit b y w =
     ∙ ap₂ (λ (u v : ℕ). (u % 2 ^ w) * 2 + v) (bit-half b y) (bit-low b y)
     ∙ turned (y % 2 ^ w) (bit b)
 
+-- ---- the flood
+
+-- c is carried in
+abbrev pub floodIn : Bool → ℕ → ℕ → ℕ
+floodIn c s on = bitOr s (on - bitAnd on (bit c + (s + bitOr s on)))
+
+-- a full adder: the lowest bit of the sum; what is carried on is a || (p && c), which is the flood's lowest bit, too
+abbrev sumBit : Bool → Bool → Bool → Bool
+sumBit true p c = c
+sumBit false true c = not c
+sumBit false false c = c
+
+sum-bit : (c a p : Bool) (s o : ℕ)
+    → bit c + ((bit a + 2 * s) + (bit (a || p) + 2 * o)) ≡ bit (sumBit a p c) + 2 * (bit (a || (p && c)) + (s + o))
+sum-bit true true p s o = omega arith
+sum-bit false true p s o = omega arith
+sum-bit true false true s o = omega arith
+sum-bit false false true s o = omega arith
+sum-bit true false false s o = omega arith
+sum-bit false false false s o = omega arith
+
+rest-bit : (p t : Bool) (g z : ℕ) → z ≤ g → (bit p + 2 * g) - (bit (p && t) + 2 * z) ≡ bit (p && not t) + 2 * (g - z)
+rest-bit true true g z l = omega arith
+rest-bit true false g z l = omega arith
+rest-bit false t g z l = omega arith
+
+flood-low : (a p c : Bool) → (a || (p && not (sumBit a p c))) ≡ (a || (p && c))
+flood-low true p c = refl
+flood-low false true true = refl
+flood-low false true false = refl
+flood-low false false c = refl
+
+module _ (c a : Bool) (s : ℕ) (p : Bool) (g : ℕ) where
+  abbrev carry : Bool
+  carry = a || (p && c)
+
+  pub flood-bit : floodIn c (bit a + 2 * s) (bit p + 2 * g) ≡ bit carry + 2 * floodIn carry s g
+  flood-bit =
+      let t = sumBit a p c in
+      let y = bit carry + (s + bitOr s g) in
+      ap (λ (z : ℕ). bitOr (bit a + 2 * s) ((bit p + 2 * g) - bitAnd (bit p + 2 * g) (bit c + ((bit a + 2 * s) + z)))) (or-bit a s p g)
+      ∙ ap (λ (z : ℕ). bitOr (bit a + 2 * s) ((bit p + 2 * g) - bitAnd (bit p + 2 * g) z)) (sum-bit c a p s (bitOr s g))
+      ∙ ap (λ (z : ℕ). bitOr (bit a + 2 * s) ((bit p + 2 * g) - z)) (and-bits p g t y)
+      ∙ ap (bitOr (bit a + 2 * s)) (rest-bit p t g (bitAnd g y) (and-le-l g y))
+      ∙ or-bit a s (p && not t) (g - bitAnd g y)
+      ∙ ap (λ (b : Bool). bit b + 2 * floodIn carry s g) (flood-low a p c)
+
+-- ---- the steps that take a place
+
+-- c is carried in: the step before takes it
+abbrev pub hitsIn : Bool → ℕ → ℕ → ℕ → ℕ → ℕ
+hitsIn c x f st go = floodIn c (bitAnd (bitAnd x go) f) (bitAnd st f)
+
+-- a step takes it: x says that it may from above, f that it passes
+abbrev pub isHit : Bool → Bool → Bool → Bool → Bool → Bool
+isHit c x f st go = ((x && go) && f) || ((st && f) && c)
+
+pub hits-bit : (c : Bool) (x : ℕ) (p : Bool) (f : ℕ) (a : Bool) (st : ℕ) (g : Bool) (go : ℕ)
+    → hitsIn c x (bit p + 2 * f) (bit a + 2 * st) (bit g + 2 * go)
+    ≡ bit (isHit c (odd x) p a g) + 2 * hitsIn (isHit c (odd x) p a g) (x / 2) f st go
+hits-bit c x p f a st g go =
+    ap₂ (floodIn c)
+    (ap (λ (z : ℕ). bitAnd z (bit p + 2 * f)) (and-bit x g go) ∙ and-bits (odd x && g) (bitAnd (x / 2) go) p f)
+    (and-bits a st p f)
+    ∙ flood-bit c ((odd x && g) && p) (bitAnd (bitAnd (x / 2) go) f) (a && p) (bitAnd st f)
+
+pub hits-in : (x f st go : ℕ) → hitsOf x f st go ≡ hitsIn false x f st go
+unfolding hitsOf flood
+hits-in x f st go =
+    let from = bitAnd (bitAnd x go) f in
+    let on = bitAnd st f in
+    let e : from + bitOr from on ≡ 0 + (from + bitOr from on) = omega arith in
+    ap (λ (z : ℕ). bitOr from (on - bitAnd on z)) e
+
 -- ---- one level deeper
 
--- w bits are carried, and c is carried in
+-- w bits of the hits are carried, and c is carried in: the step before takes the place
 abbrev pub carriedIn : ℕ → Bool → ℕ → ℕ → ℕ → ℕ
-carriedIn w c x f d = bitOr (bit c + 2 * (bitAnd x f % 2 ^ w)) (bitAnd x d)
+carriedIn w c h x d = bitOr (bit c + 2 * (h % 2 ^ w)) (bitAnd x d)
 
-module _ (c : Bool) (x : ℕ) (p : Bool) (f : ℕ) (q : Bool) (d : ℕ) where
+module _ (c : Bool) (h x : ℕ) (q : Bool) (d : ℕ) where
   pub carried-bit : (w : ℕ)
-      → carriedIn (w + 1) c x (bit p + 2 * f) (bit q + 2 * d)
-      ≡ bit (c || (odd x && q)) + 2 * carriedIn w (odd x && p) (x / 2) f d
+      → carriedIn (w + 1) c h x (bit q + 2 * d) ≡ bit (c || (odd x && q)) + 2 * carriedIn w (odd h) (h / 2) (x / 2) d
   carried-bit w =
       ap₂ (λ (u v : ℕ). bitOr (bit c + 2 * u) v)
-      (ap (λ (u : ℕ). u % 2 ^ (w + 1)) (and-bit x p f) ∙ mod-bit (odd x && p) (bitAnd (x / 2) f) w)
+      (ap (λ (u : ℕ). u % 2 ^ (w + 1)) (split h) ∙ mod-bit (odd h) (h / 2) w)
       (and-bit x q d)
-      ∙ or-bit c (bit (odd x && p) + 2 * (bitAnd (x / 2) f % 2 ^ w)) (odd x && q) (bitAnd (x / 2) d)
+      ∙ or-bit c (bit (odd h) + 2 * (h / 2 % 2 ^ w)) (odd x && q) (bitAnd (x / 2) d)
 
   -- no bit is carried: the lowest is as above
-  pub carried-none : odd (carriedIn 0 c x (bit p + 2 * f) (bit q + 2 * d)) ≡ c || (odd x && q)
+  pub carried-none : odd (carriedIn 0 c h x (bit q + 2 * d)) ≡ c || (odd x && q)
   carried-none =
-      ap (λ (v : ℕ). odd (bitOr (bit c + 2 * (bitAnd x (bit p + 2 * f) % 1)) v)) (and-bit x q d)
-      ∙ ap odd (or-bit c (bitAnd x (bit p + 2 * f) % 1) (odd x && q) (bitAnd (x / 2) d))
-      ∙ bit-odd (c || (odd x && q)) (bitOr (bitAnd x (bit p + 2 * f) % 1) (bitAnd (x / 2) d))
+      ap (λ (v : ℕ). odd (bitOr (bit c + 2 * (h % 1)) v)) (and-bit x q d)
+      ∙ ap odd (or-bit c (h % 1) (odd x && q) (bitAnd (x / 2) d))
+      ∙ bit-odd (c || (odd x && q)) (bitOr (h % 1) (bitAnd (x / 2) d))
+
+pub carried-in : (x f st go d : ℕ) → carried x f st go d ≡ carriedIn 15 false (hitsOf x f st go) x d
+unfolding carried
+carried-in x f st go d =
+    let h = hitsOf x f st go in
+    ap (λ (z : ℕ). bitOr z (bitAnd x d)) (let y : h % 32768 * 2 ≡ 0 + 2 * (h % 32768) = omega arith in y)

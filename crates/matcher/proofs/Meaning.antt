@@ -18,7 +18,7 @@ use Rattle.matcher.specs.State.{stateOf, verdictBy}
 use Rattle.matcher.specs.declared.Verdict.{Verdict}
 use Rattle.matcher.specs.declared.Verdict.the-variants.{Unselected, Selected, Marked}
 use Rattle.matcher.proofs.Places.{selects-iff}
-use Rattle.matcher.proofs.AllPaths.{verdict-carried}
+use Rattle.matcher.proofs.Verdicts.{verdict-carried}
 
 module _ {A : Type 0} (P : A → Type 0) (f : A → Bool) (same : (x : A) → P x ↔ (f x ≡ true)) where
   some-true : (xs : List A) → some f xs ≡ true → Some P xs

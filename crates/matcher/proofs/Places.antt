@@ -1,20 +1,22 @@
--- The test decides the definition, `selects-iff`: places can be chosen exactly where the test holds. Names are taken from the root on:
--- under one more name every place is one further down, and places can be chosen just as before.
-use mathlib.Core.Path.{_≡_, refl}
-use mathlib.Core.Bool.{Bool, true, false, false≢true, _&&_, _||_}
-use mathlib.Core.List.{List, [], _∷_, map}
-use mathlib.Core.Logic.{_↔_}
-use Prim.Native.Nat.{ℕ, _+_, _<_}
+-- The test decides the definition, `lays-iff` and on names `selects-iff`: places can be chosen exactly where the test holds. The list stays
+-- as it is, and the test is at what is left of it behind a place. In order: at the same place; the places below; all.
+use mathlib.Core.Path.{_≡_, refl, sym, ap, _∙_, subst}
+use mathlib.Core.Bool.{Bool, true, false, false≢true, true≢false, _&&_, _||_}
+use mathlib.Core.List.{List, [], _∷_, _++_, append-assoc, append-nil}
+use mathlib.Core.Logic.{_↔_, _⊎_, inl, inr}
+use Prim.Native.Nat.{ℕ, zero, suc, _+_, _-_, _≤_, _<_}
 use native.Mathlib.Omega.{arith}
-use lib.ListN.{length}
-use Rattle.xml.proofs.Bools.{and-left, and-right, and-both, or-left, or-right}
-use Rattle.paths.specs.Path.{Test, any, named, Step}
-use Rattle.paths.specs.declared.Kind.{Kind}
-use Rattle.paths.specs.declared.Kind.the-variants.{Child, Descendant}
-use Rattle.compiled.specs.Bits.{descends, passes}
+use lib.ListN.{length, length-append}
+use Rattle.xml.proofs.Bools.{and-left, and-right, and-both, or-left, or-right, or-either}
 use Rattle.xml.proofs.Same.{same-equal, same-refl}
-use Rattle.matcher.specs.Select.{Below, Passes, At, root, under, Stands, Laid, all, next, Selects}
-use Rattle.matcher.specs.Test.{selects}
+use Rattle.paths.specs.Path.{Test, any, named, Step}
+use Rattle.compiled.specs.Kinds.{stays, goes, far}
+use Rattle.compiled.specs.Bits.{passes}
+use Rattle.matcher.specs.Select.{At, root, under, Stands, Laid, all, next, Reaches, Passes, PassesName, Selects}
+use Rattle.matcher.specs.Moves.{Moves, same, down}
+use Rattle.matcher.specs.Test.{staying, lays, passesName, selects}
+use Rattle.matcher.proofs.Moving.{below-moves}
+use Rattle.matcher.proofs.Laying.{at-positive, at-behind, at-one}
 
 -- ---- tests of a name
 
@@ -26,127 +28,202 @@ true-passes : (x : Test) (n : List ℕ) → Passes x n → passes n x ≡ true
 true-passes any n h = refl
 true-passes (named m) n h = rw h (same-refl n)
 
--- ---- where a step stands, one name further down
+pub passes-decides : (s : Step) (n : List ℕ) → PassesName s n ↔ (passesName s n ≡ true)
+passes-decides s n = (true-passes (s .test) n, passes-true (s .test) n)
 
-below-under : (k : Kind) (b p : ℕ) → Below k b p → Below k (b + 1) (p + 1)
-below-under Child b p h = omega arith
-below-under Descendant b p h = omega arith
+-- ---- places
 
-below-over : (k : Kind) (b p : ℕ) → Below k (b + 1) (p + 1) → Below k b p
-below-over Child b p h = omega arith
-below-over Descendant b p h = omega arith
+at-inside : {A : Type 0} {xs : List A} {p : ℕ} {x : A} → At xs p x → p ≤ length xs
+at-inside root = omega arith
+at-inside (under a) = let z = at-inside a in omega arith
 
-below-least : (k : Kind) (b p : ℕ) → Below k b p → b < p
-below-least Child b p h = omega arith
-below-least Descendant b p h = omega arith
+split : (k p : ℕ) → k < p → (p ≡ k + 1) ⊎ (k + 1 < p)
+split k p l = go (p - (k + 1)) refl
+  where
+    go : (d : ℕ) → p - (k + 1) ≡ d → (p ≡ k + 1) ⊎ (k + 1 < p)
+    go zero e = inl (omega arith)
+    go (suc d) e = inr (omega arith)
 
--- the first place
-below-first : (k : Kind) → Below k 0 1
-below-first Child = refl
-below-first Descendant = omega arith
+module _ {A : Type 0} (Fits : Step → A → Type 0) (xs : List A) where
+  laid-end : {b e : ℕ} {ps : List ℕ} → Laid Fits xs b [] ps e → b ≡ e
+  laid-end all = refl
 
--- a place past the first is for a step that descends, and such a step may as well begin after the first
-below-past : (k : Kind) (p : ℕ) → 0 < p → Below k 0 (p + 1) → (descends k ≡ true) × Below k 1 (p + 1)
-below-past Child p l h = absurd (omega arith)
-below-past Descendant p l h = (refl, omega arith)
+  -- the steps can be laid to the end, where the step before stands at k
+  abbrev From : ℕ → List Step → Type 0
+  From k ss = (ps : List ℕ) × Laid Fits xs k ss ps (length xs)
 
-below-further : (k : Kind) (p : ℕ) → descends k ≡ true → Below k 1 p → Below k 0 p
-below-further Child p e h = absurd (false≢true e)
-below-further Descendant p e h = omega arith
+  -- and the first of them below k
+  record Lower (k : ℕ) (s : Step) (ss : List Step) : Type 0 where
+    place : ℕ
+    may : goes (s .kind) ≡ true
+    lower : k < place
+    near : far (s .kind) ≡ false → place ≡ k + 1
+    what : A
+    there : At xs place what
+    fits : Fits s what
+    rest : From place ss
 
-at-least : {ns : List (List ℕ)} {p : ℕ} {n : List ℕ} → At ns p n → 0 < p
-at-least root = omega arith
-at-least (under a) = omega arith
+  abbrev Under : ℕ → List Step → Type 0
+  Under k [] = k ≡ length xs
+  Under k (s ∷ ss) = Lower k s ss
 
-at-some : {ns : List (List ℕ)} {p : ℕ} {n : List ℕ} → At ns p n → 0 < length ns
-at-some root = omega arith
-at-some (under a) = omega arith
+  from-none : (k : ℕ) → Under k [] ↔ From k []
+  from-none k = (λ e. ([], subst (λ (u : ℕ). Laid Fits xs k [] [] u) e all), λ r. laid-end (r .1))
 
--- ---- places, one name further down
-
-laid-under : (m : List ℕ) (ns : List (List ℕ)) (b : ℕ) (ss : List Step) (ps : List ℕ) → Laid ns b ss ps
-    → Laid (m ∷ ns) (b + 1) ss (map (λ p. p + 1) ps)
-laid-under m ns b [] [] (all e) = all {before = b + 1} (omega arith)
-laid-under m ns b (s ∷ ss) (p ∷ ps) (next h l) =
+  from-lower : (k : ℕ) (s : Step) (ss : List Step) → Lower k s ss → From k (s ∷ ss)
+  from-lower k s ss r = (
+    r .place ∷ r .rest .0,
     next
-    (record { below = below-under (s .kind) b p (h .below); name = h .name; there = under (h .there); passes = h .passes })
-    (laid-under m ns p ss ps l)
+        (record {
+          below = below-moves (s .kind) k (r .place) .1 (down (r .may) (r .lower) (r .near));
+          what = r .what;
+          there = r .there;
+          fits = r .fits;
+        })
+        (r .rest .1),
+  )
 
-module _ (m : List ℕ) (ns : List (List ℕ)) where
-  stands-over : (b : ℕ) (s : Step) (p : ℕ) → Stands (m ∷ ns) (b + 1) s p → (q : ℕ) × (p ≡ q + 1) × Stands ns b s q
-  stands-over b s p h = go p (h .name) (h .below) (h .there) (h .passes)
+  -- a step stands: it has not moved, or it has gone below
+  from-moves : (C : Type 0) (k : ℕ) (s : Step) (ss : List Step)
+      → ((h : Stands Fits xs k s k) → stays (s .kind) ≡ true → 0 < k → From k ss → C) → (Lower k s ss → C) → From k (s ∷ ss) → C
+  from-moves C k s ss stay go (p ∷ ps, next h l) = step p h (below-moves (s .kind) k p .0 (h .below)) (ps, l)
     where
-      go : (p : ℕ) (n : List ℕ) → Below (s .kind) (b + 1) p → At (m ∷ ns) p n → Passes (s .test) n → (q : ℕ) × (p ≡ q + 1) × Stands ns b s q
-      go p n l root h = absurd (let z = below-least (s .kind) (b + 1) p l in omega arith)
-      go p n l (under {p = q} a) h =
-          (q, refl, record { below = below-over (s .kind) b q l; name = n; there = a; passes = h })
+      step : (p : ℕ) → Stands Fits xs k s p → Moves (stays (s .kind)) (goes (s .kind)) (far (s .kind)) k p → From p ss → C
+      step p h (same q e z) r =
+          stay (subst (Stands Fits xs k s) e h) q (omega arith) (subst (λ (u : ℕ). From u ss) e r)
+      step p h (down q l n) r =
+          go (record { place = p; may = q; lower = l; near = n; what = h .what; there = h .there; fits = h .fits; rest = r })
 
-  laid-over : (b : ℕ) (ss : List Step) (ps : List ℕ) → Laid (m ∷ ns) (b + 1) ss ps → (qs : List ℕ) × Laid ns b ss qs
-  laid-over b [] [] (all e) = ([], all {before = b} (omega arith))
-  laid-over b (s ∷ ss) (p ∷ ps) (next h l) =
-      let w = stands-over b s p h in
-      let r = laid-over (w .0) ss ps (rw (← w .1) l) in
-      (w .0 ∷ r .0, next (w .2) (r .1))
+  module _ (test : Step → A → Bool) (decides : (s : Step) (x : A) → Fits s x ↔ (test s x ≡ true)) where
+    -- ---- at the same place
 
--- ---- the test gives places
+    module _ (k : ℕ) (n : A) (here : At xs k n) (f : List Step → Bool) (behind : (ss : List Step) → (f ss ≡ true) ↔ Under k ss) where
+      stay-lays : (ss : List Step) → (staying test n f ss ≡ true) ↔ From k ss
+      stay-lays [] = (λ e. from-none k .0 (behind [] .0 e), λ r. behind [] .1 (from-none k .1 r))
+      stay-lays (s ∷ ss) = go (staying test n f ss) (stay-lays ss)
+        where
+          go : (b : Bool) → ((b ≡ true) ↔ From k ss)
+              → ((stays (s .kind) && (test s n && b)) || f (s ∷ ss) ≡ true) ↔ From k (s ∷ ss)
+          go b same-place = (λ e. into (or-either (stays (s .kind) && (test s n && b)) (f (s ∷ ss)) e), from-moves _ k s ss stay below)
+            where
+              into : ((stays (s .kind) && (test s n && b)) ≡ true) ⊎ (f (s ∷ ss) ≡ true) → From k (s ∷ ss)
+              into (inl e) =
+                  let w = and-right (stays (s .kind)) (test s n && b) e in
+                  let r = same-place .0 (and-right (test s n) b w) in
+                  let m = same (and-left (stays (s .kind)) (test s n && b) e) refl (at-positive here) in (
+                    k ∷ r .0,
+                    next
+                        (record {
+                          below = below-moves (s .kind) k k .1 m;
+                          what = n;
+                          there = here;
+                          fits = decides s n .1 (and-left (test s n) b w);
+                        })
+                        (r .1),
+                  )
+              into (inr e) = from-lower k s ss (behind (s ∷ ss) .0 e)
 
-either : {C : Type 0} (a b : Bool) → (a || b) ≡ true → (a ≡ true → C) → (b ≡ true → C) → C
-either true b e f g = f refl
-either false b e f g = g e
+              stay : (h : Stands Fits xs k s k) → stays (s .kind) ≡ true → 0 < k → From k ss
+                  → (stays (s .kind) && (test s n && b)) || f (s ∷ ss) ≡ true
+              stay h q z r =
+                  let v = decides s n .0 (subst (Fits s) (at-one (h .there) here refl) (h .fits)) in
+                  or-left (stays (s .kind) && (test s n && b)) (f (s ∷ ss))
+                  (and-both (stays (s .kind)) (test s n && b) q (and-both (test s n) b v (same-place .1 r)))
 
--- a step that descends past the first name
-laid-further : (n : List ℕ) (ns : List (List ℕ)) (s : Step) (ss : List Step) (ps : List ℕ) → descends (s .kind) ≡ true
-    → Laid (n ∷ ns) 1 (s ∷ ss) ps → Laid (n ∷ ns) 0 (s ∷ ss) ps
-laid-further n ns s ss (p ∷ ps) e (next h l) =
-    next (record { below = below-further (s .kind) p e (h .below); name = h .name; there = h .there; passes = h .passes }) l
+              below : Lower k s ss → (stays (s .kind) && (test s n && b)) || f (s ∷ ss) ≡ true
+              below r = or-right (stays (s .kind) && (test s n && b)) (f (s ∷ ss)) (behind (s ∷ ss) .1 r)
 
-test-selects : (ns : List (List ℕ)) (ss : List Step) → selects ss ns ≡ true → Selects ss ns
-test-selects [] [] e = ([], all {before = 0} refl)
-test-selects [] (s ∷ ss) e = absurd (false≢true e)
-test-selects (n ∷ ns) [] e = absurd (false≢true e)
-test-selects (n ∷ ns) (s ∷ ss) e =
-    either (passes n (s .test) && selects ss ns) (descends (s .kind) && selects (s ∷ ss) ns) e
-    (λ h. let r = test-selects ns ss (and-right (passes n (s .test)) _ h) in (
-      1 ∷ map (λ p. p + 1) (r .0),
-      next
+    -- ---- the places below
+
+    module _ (k : ℕ) (n : A) (here : At xs (k + 1) n) (s : Step) (ss : List Step) (b c : Bool)
+        (first : (b ≡ true) ↔ From (k + 1) ss) (further : (c ≡ true) ↔ Under (k + 1) (s ∷ ss)) where
+      into-lower : goes (s .kind) ≡ true → ((test s n && b) ≡ true) ⊎ ((far (s .kind) && c) ≡ true) → Lower k s ss
+      into-lower g (inl e) =
+          record {
+            place = k + 1;
+            may = g;
+            lower = omega arith;
+            near = λ q. refl;
+            what = n;
+            there = here;
+            fits = decides s n .1 (and-left (test s n) b e);
+            rest = first .0 (and-right (test s n) b e);
+          }
+      into-lower g (inr e) =
+          let r = further .0 (and-right (far (s .kind)) c e) in
+          let l = r .lower in
+          record {
+            place = r .place;
+            may = g;
+            lower = omega arith;
+            near = λ q. absurd (true≢false (sym (and-left (far (s .kind)) c e) ∙ q));
+            what = r .what;
+            there = r .there;
+            fits = r .fits;
+            rest = r .rest;
+          }
+
+      from-there : (r : Lower k s ss) → (r .place ≡ k + 1) ⊎ (k + 1 < r .place) → (test s n && b) || (far (s .kind) && c) ≡ true
+      from-there r (inl e) =
+          let v = decides s n .0 (subst (Fits s) (at-one (r .there) here e) (r .fits)) in
+          or-left (test s n && b) (far (s .kind) && c)
+          (and-both (test s n) b v (first .1 (subst (λ (u : ℕ). From u ss) e (r .rest))))
+      from-there r (inr l) =
+          let w = wide (far (s .kind)) refl in
+          or-right (test s n && b) (far (s .kind) && c)
+          (and-both (far (s .kind)) c w
+          (further .1
           (record {
-            below = below-first (s .kind);
-            name = n;
-            there = root;
-            passes = passes-true (s .test) n (and-left (passes n (s .test)) _ h);
-          })
-          (laid-under n ns 0 ss (r .0) (r .1)),
-    ))
-    (λ h. let r = test-selects ns (s ∷ ss) (and-right (descends (s .kind)) _ h) in (
-      map (λ p. p + 1) (r .0),
-      laid-further n ns s ss (map (λ p. p + 1) (r .0)) (and-left (descends (s .kind)) _ h)
-          (laid-under n ns 0 (s ∷ ss) (r .0) (r .1)),
-    ))
+            place = r .place;
+            may = r .may;
+            lower = l;
+            near = λ q. absurd (true≢false (sym w ∙ q));
+            what = r .what;
+            there = r .there;
+            fits = r .fits;
+            rest = r .rest;
+          })))
+        where
+          wide : (f : Bool) → far (s .kind) ≡ f → f ≡ true
+          wide true q = refl
+          wide false q = absurd (let z = r .near q in omega arith)
 
--- ---- places give the test
+      lower-iff : (goes (s .kind) && ((test s n && b) || (far (s .kind) && c)) ≡ true) ↔ Lower k s ss
+      lower-iff = (
+        λ e. into-lower (and-left (goes (s .kind)) _ e)
+            (or-either (test s n && b) (far (s .kind) && c) (and-right (goes (s .kind)) _ e)),
+        λ r. and-both (goes (s .kind)) ((test s n && b) || (far (s .kind) && c)) (r .may)
+            (from-there r (split k (r .place) (r .lower))),
+      )
 
-module _ (n : List ℕ) (ns : List (List ℕ)) (s : Step) (ss : List Step)
-    (first : (qs : List ℕ) → Laid ns 0 ss qs → selects ss ns ≡ true)
-    (past : (qs : List ℕ) → Laid ns 0 (s ∷ ss) qs → selects (s ∷ ss) ns ≡ true) where
-  step-test : (p : ℕ) (ps : List ℕ) (m : List ℕ) → Below (s .kind) 0 p → At (n ∷ ns) p m → Passes (s .test) m → Laid (n ∷ ns) p ss ps
-      → selects (s ∷ ss) (n ∷ ns) ≡ true
-  step-test p ps m b root h l =
-      or-left (passes n (s .test) && selects ss ns) (descends (s .kind) && selects (s ∷ ss) ns)
-      (and-both (passes n (s .test)) (selects ss ns) (true-passes (s .test) n h)
-      (let over = laid-over n ns 0 ss ps l in first (over .0) (over .1)))
-  step-test p ps m b (under {p = q} a) h l =
-      let w = below-past (s .kind) q (at-least a) b in
-      let over = laid-over n ns 0 (s ∷ ss) ((q + 1) ∷ ps)
-      (next (record { below = w .1; name = m; there = under a; passes = h }) l) in
-      or-right (passes n (s .test) && selects ss ns) (descends (s .kind) && selects (s ∷ ss) ns)
-      (and-both (descends (s .kind)) (selects (s ∷ ss) ns) (w .0) (past (over .0) (over .1)))
+    under-iff : (ys zs : List A) → xs ≡ zs ++ ys → (k : ℕ) → k ≡ length zs → (ss : List Step) → (lays test ys ss ≡ true) ↔ Under k ss
+    under-iff [] zs e k p [] = (λ q. p ∙ sym (ap length (e ∙ append-nil zs)), λ q. refl)
+    under-iff [] zs e k p (s ∷ ss) = (
+      λ q. absurd (false≢true q),
+      λ r. absurd (let z = at-inside (r .there) in let y : length xs ≡ k = ap length (e ∙ append-nil zs) ∙ sym p in
+          let x = r .lower in omega arith),
+    )
+    under-iff (y ∷ ys) zs e k p [] = (
+      λ q. absurd (false≢true q),
+      λ q. absurd (let z : length xs ≡ length zs + length (y ∷ ys) = ap length e ∙ length-append zs (y ∷ ys) in omega arith),
+    )
+    under-iff (y ∷ ys) zs e k p (s ∷ ss) =
+        let here : At xs (k + 1) y = rw (e, p) (at-behind zs y ys) in
+        let far-on = under-iff ys (zs ++ y ∷ []) (e ∙ sym (append-assoc zs (y ∷ []) ys)) (k + 1)
+        (rw (length-append zs (y ∷ [])) (omega arith)) in
+        lower-iff k y here s ss (staying test y (lays test ys) ss) (lays test ys (s ∷ ss))
+        (stay-lays (k + 1) y here (lays test ys) far-on ss) (far-on (s ∷ ss))
 
-laid-test : (ns : List (List ℕ)) (ss : List Step) (ps : List ℕ) → Laid ns 0 ss ps → selects ss ns ≡ true
-laid-test [] [] ps l = refl
-laid-test [] (s ∷ ss) (p ∷ ps) (next h l) = absurd (let z = at-some (h .there) in omega arith)
-laid-test (n ∷ ns) [] [] (all e) = absurd (omega arith)
-laid-test (n ∷ ns) (s ∷ ss) (p ∷ ps) (next h l) =
-    step-test n ns s ss (laid-test ns ss) (laid-test ns (s ∷ ss)) p ps (h .name) (h .below) (h .there) (h .passes) l
+    -- ---- all
+
+    from-first : (ss : List Step) → Under 0 ss ↔ From 0 ss
+    from-first [] = from-none 0
+    from-first (s ∷ ss) = (from-lower 0 s ss, from-moves (Lower 0 s ss) 0 s ss (λ h q z r. absurd (omega arith)) (λ r. r))
+
+    pub lays-iff : (ss : List Step) → Reaches Fits xs ss (length xs) ↔ (lays test xs ss ≡ true)
+    lays-iff ss =
+        let u = under-iff xs [] refl 0 refl ss in
+        (λ r. u .1 (from-first ss .1 r), λ e. from-first ss .0 (u .0 e))
 
 pub selects-iff : (ss : List Step) (names : List (List ℕ)) → Selects ss names ↔ (selects ss names ≡ true)
-selects-iff ss names = (λ h. laid-test names ss (h .0) (h .1), test-selects names ss)
+selects-iff ss names = lays-iff PassesName names passesName passes-decides ss

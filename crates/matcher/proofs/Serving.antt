@@ -7,9 +7,9 @@ use lib.ListN.{take, drop}
 use Rattle.paths.specs.Judge.{listPaths}
 use Rattle.lookup.specs.Names.{namesOf, placeOf}
 use Rattle.lookup.specs.Index.{Indexed, Tables, Found}
-use Rattle.compiled.specs.Bits.{fitOf, descendsOf, lastsOf, marksOf}
+use Rattle.compiled.specs.Bits.{fitOf, staysOf, goesOf, farOf, lastsOf, marksOf}
 use Rattle.compiled.specs.Compiled.{tablesOf}
-use Rattle.compiled.proofs.Lookup.{lookup-indexed, lookup-tables, row-in, row-part, descends-part, lasts-part, marks-part}
+use Rattle.compiled.proofs.Lookup.{lookup-indexed, lookup-tables, row-in, row-part, stays-part, goes-part, far-part, lasts-part, marks-part}
 use Rattle.compiled.proofs.OverLines.{sound-sized}
 use Rattle.matcher.specs.Fit.{fitFor, Serves}
 use Rattle.matcher.specs.declared.fit.Fit.{Fit}
@@ -38,11 +38,13 @@ module _ {d t : List ℕ} (v : Serves d t) where
     pub serves-row : k ≤ 512
     serves-row = rw (f .is (namesOf (listPaths d)) indexed) (row-in (listPaths d) (sound-sized d (v .sound)) n)
 
-    pub serves-fit : {passes descends lasts marks : List ℕ} → passes ≡ take 32 (drop (1792 + 32 * k) t)
-        → descends ≡ take 32 (drop 18208 t) → lasts ≡ take 32 (drop 18240 t) → marks ≡ take 32 (drop 18272 t)
-        → _≡_ {A = Fit} (record { passes = passes; descends = descends; lasts = lasts; marks = marks }) (fitFor (listPaths d) n)
+    pub serves-fit : {passes stays goes far lasts marks : List ℕ} → passes ≡ take 32 (drop (1792 + 32 * k) t)
+        → stays ≡ take 32 (drop 18208 t) → goes ≡ take 32 (drop 18240 t) → far ≡ take 32 (drop 18272 t)
+        → lasts ≡ take 32 (drop 18304 t) → marks ≡ take 32 (drop 18336 t)
+        → _≡_ {A = Fit} (record { passes = passes; stays = stays; goes = goes; far = far; lasts = lasts; marks = marks })
+        (fitFor (listPaths d) n)
     unfolding fitFor
-    serves-fit {passes} {descends} {lasts} {marks} a b c e =
+    serves-fit {passes} {stays} {goes} {far} {lasts} {marks} a b c e g h =
         let ps = listPaths d in
         let s = sound-sized d (v .sound) in
         let k-is = f .is (namesOf ps) indexed in
@@ -53,7 +55,9 @@ module _ {d t : List ℕ} (v : Serves d t) where
         ∙ ap (λ (j : ℕ). take 32 (drop (1792 + 32 * j) t)) k-is
         ∙ column (1792 + 32 * placeOf (namesOf ps) n)
         ∙ row-part ps s n in
-        let q : descends ≡ descendsOf ps = b ∙ column 18208 ∙ descends-part ps s in
-        let r : lasts ≡ lastsOf ps = c ∙ column 18240 ∙ lasts-part ps s in
-        let w : marks ≡ marksOf ps = e ∙ column 18272 ∙ marks-part ps s in
-        rw (p, q, r, w)
+        let q : stays ≡ staysOf ps = b ∙ column 18208 ∙ stays-part ps s in
+        let r : goes ≡ goesOf ps = c ∙ column 18240 ∙ goes-part ps s in
+        let u : far ≡ farOf ps = e ∙ column 18272 ∙ far-part ps s in
+        let w : lasts ≡ lastsOf ps = g ∙ column 18304 ∙ lasts-part ps s in
+        let x : marks ≡ marksOf ps = h ∙ column 18336 ∙ marks-part ps s in
+        rw (p, q, r, u, w, x)

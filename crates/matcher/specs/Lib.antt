@@ -1,6 +1,7 @@
--- Definitions, in the order to read them: what a path selects; a test of it; what a list says of an element. Then the matcher on numbers:
--- an element's fit, states, the verdict.
+-- Definitions, in the order to read them: what a path selects, and what the kinds of step share; a test of it; what a list says of an
+-- element. Then the matcher on numbers: an element's fit, states, the verdict.
 pub mod Select
+pub mod Moves
 pub mod Test
 pub mod Says
 pub mod Fit

@@ -10,10 +10,13 @@ use compiled::Compiled;
 use compiled::layout;
 use lookup::find::find;
 
-// For each path: the steps that pass the name; those that descend; the last one; and the last one again if the path is marked.
+// For each path: the steps that pass the name; those that may stay, go below, go far; the last one; and the last one again if the path is
+// marked.
 pub struct Fit {
     pub passes: [u16; MatchState::PATHS],
-    pub descends: [u16; MatchState::PATHS],
+    pub stays: [u16; MatchState::PATHS],
+    pub goes: [u16; MatchState::PATHS],
+    pub far: [u16; MatchState::PATHS],
     pub lasts: [u16; MatchState::PATHS],
     pub marks: [u16; MatchState::PATHS],
 }
@@ -47,12 +50,16 @@ pub fn fit_of(list: &[u8], t: &Compiled, name: &[u8]) -> Fit
         name,
     );
     let passes = numbers(s, layout::ROWS + layout::PATHS * k);
-    let descends = numbers(s, layout::DESCENDS);
+    let stays = numbers(s, layout::STAYS);
+    let goes = numbers(s, layout::GOES);
+    let far = numbers(s, layout::FAR);
     let lasts = numbers(s, layout::LASTS);
     let marks = numbers(s, layout::MARKS);
     Fit {
         passes,
-        descends,
+        stays,
+        goes,
+        far,
         lasts,
         marks,
     }

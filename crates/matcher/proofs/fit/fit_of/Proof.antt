@@ -66,11 +66,21 @@ numbers-requires-3 c κs = search needs
 numbers-requires-4 : tie.Need-numbers-requires-4
 numbers-requires-4 c κs = search needs
 
+numbers-requires-5 : tie.Need-numbers-requires-5
+numbers-requires-5 c κs = search needs
+
+numbers-requires-6 : tie.Need-numbers-requires-6
+numbers-requires-6 c κs = search needs
+
 returns : tie.Need-returns
 returns c =
-    serves-fit (c .before .before .before .before .before .before .before .before .before .before .before .before .pre) (c .before
-    .before .before .before .find .ensures) (c .before .before .before .numbers .ensures) (c .before .before .numbers2 .ensures) (c
-    .before .numbers3 .ensures) (c .numbers4 .ensures)
+    let c₅ = c .before in
+    let c₄ = c₅ .before in
+    let c₃ = c₄ .before in
+    let c₂ = c₃ .before in
+    let c₁ = c₂ .before in
+    serves-fit (c₁ .before .before .before .before .before .before .before .before .before .pre) (c₁ .before .find .ensures) (c₁ .numbers
+    .ensures) (c₂ .numbers2 .ensures) (c₃ .numbers3 .ensures) (c₄ .numbers4 .ensures) (c₅ .numbers5 .ensures) (c .numbers6 .ensures)
 
 pub fit-of-spec : {M : Type 1} → statement M
 fit-of-spec =
@@ -95,4 +105,6 @@ fit-of-spec =
     numbers-requires-2
     numbers-requires-3
     numbers-requires-4
+    numbers-requires-5
+    numbers-requires-6
     returns)

@@ -6,25 +6,41 @@ use Rattle.matcher.proofs.state.MatchState.verdict_on.Statement.{statem
 use Rattle.matcher.proofs.state.MatchState.verdict_on.Tie as tie
 
 abbrev Inv-loop : tie.InvT-loop
-Inv-loop state passes lasts marks selected₀ marked₀ p₀ selected marked p = Joining state passes lasts marks selected marked p
+Inv-loop state passes stays goes lasts marks selected₀ marked₀ p₀ selected marked p =
+    Joining state passes stays goes lasts marks selected marked p
 
 abbrev μ-loop : tie.MeasureT-loop
-μ-loop state passes lasts marks selected₀ marked₀ p₀ selected marked p = 32 - p
+μ-loop state passes stays goes lasts marks selected₀ marked₀ p₀ selected marked p = 32 - p
 
 loop-holds : tie.Need-loop-holds Inv-loop μ-loop
 loop-holds c = search joining
 
-mul-hit : tie.Need-mul-hit Inv-loop μ-loop
-mul-hit c = search joining
+mul-hits : tie.Need-mul-hits Inv-loop μ-loop
+mul-hits c = search joining
 
-array-read-hit : tie.Need-array-read-hit Inv-loop μ-loop
-array-read-hit c = search joining
+array-read-hits : tie.Need-array-read-hits Inv-loop μ-loop
+array-read-hits c = search joining
 
-mul-hit-2 : tie.Need-mul-hit-2 Inv-loop μ-loop
-mul-hit-2 c = search joining
+mul-hits-2 : tie.Need-mul-hits-2 Inv-loop μ-loop
+mul-hits-2 c = search joining
 
-array-read-hit-2 : tie.Need-array-read-hit-2 Inv-loop μ-loop
-array-read-hit-2 c = search joining
+array-read-hits-2 : tie.Need-array-read-hits-2 Inv-loop μ-loop
+array-read-hits-2 c = search joining
+
+mul-hits-3 : tie.Need-mul-hits-3 Inv-loop μ-loop
+mul-hits-3 c = search joining
+
+array-read-hits-3 : tie.Need-array-read-hits-3 Inv-loop μ-loop
+array-read-hits-3 c = search joining
+
+mul-hits-4 : tie.Need-mul-hits-4 Inv-loop μ-loop
+mul-hits-4 c = search joining
+
+array-read-hits-4 : tie.Need-array-read-hits-4 Inv-loop μ-loop
+array-read-hits-4 c = search joining
+
+hits-requires : tie.Need-hits-requires Inv-loop μ-loop
+hits-requires c κs = search joining
 
 mul-selected : tie.Need-mul-selected Inv-loop μ-loop
 mul-selected c = search joining
@@ -63,10 +79,15 @@ verdict-on-spec =
     Inv-loop
     μ-loop
     loop-holds
-    mul-hit
-    array-read-hit
-    mul-hit-2
-    array-read-hit-2
+    mul-hits
+    array-read-hits
+    mul-hits-2
+    array-read-hits-2
+    mul-hits-3
+    array-read-hits-3
+    mul-hits-4
+    array-read-hits-4
+    hits-requires
     mul-selected
     array-read-selected
     mul-marked
