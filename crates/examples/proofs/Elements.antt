@@ -1,5 +1,5 @@
--- Worked examples, a table under one statement: lists, elements by the names from the root down, and the verdicts by document 01. antt
--- computes the verdicts by states and fits (`computed`), and so each is the one that matcher/specs/Says says (`meant`).
+-- Worked examples, a table under one statement: lists, elements by the names from the root down, and the verdicts by documents 01 and 02.
+-- antt computes the verdicts by states and fits (`computed`), and so each is the one that matcher/specs/Says says (`meant`).
 use mathlib.Core.Path.{_≡_, refl}
 use mathlib.Core.List.{List, [], _∷_, _++_, map, head-eq-of-cons-eq, tail-eq-of-cons-eq}
 use Prim.Native.Nat.{ℕ, zero, suc}
@@ -14,10 +14,10 @@ use Rattle.paths.specs.Reader.{readAll, kindAt, testAt, stepAt, steps, endAt, l
 use Rattle.paths.specs.Judge.{within, soundAt, lines, judge, listAnswer, listPaths}
 use Rattle.paths.specs.declared.ListAnswer.the-variants.{Sound}
 use Rattle.lookup.specs.Index.{padded}
-use Rattle.compiled.specs.Bits.{column, descendsOf, lastsOf, marksOf, fitOf}
+use Rattle.compiled.specs.Bits.{column, staysOf, goesOf, farOf, lastsOf, marksOf, fitOf}
 use Rattle.matcher.specs.Says.{Says}
 use Rattle.matcher.specs.Fit.{fitFor}
-use Rattle.matcher.specs.State.{carried, carriedAt, freshState, deeperOf, stateOf, hitAt, anyHit, verdictBy}
+use Rattle.matcher.specs.State.{flood, hitsOf, carried, hitsAt, carriedAt, freshState, deeperOf, stateOf, hitAt, anyHit, verdictBy}
 use Rattle.matcher.specs.declared.Verdict.{Verdict}
 use Rattle.matcher.specs.declared.Verdict.the-variants.{Unselected, Selected, Marked}
 use Rattle.matcher.proofs.Meaning.{told}
@@ -42,6 +42,12 @@ b = bytes "b"
 
 abbrev c : List ℕ
 c = bytes "c"
+
+abbrev g : List ℕ
+g = bytes "g"
+
+abbrev h : List ℕ
+h = bytes "h"
 
 -- n times w
 abbrev times : ℕ → List ℕ → List ℕ
@@ -107,6 +113,57 @@ rows =
     ∷ (bytes "/" ++ composed ++ bytes "\n" at decomposed under [] gives Unselected)
     ∷ (bytes "/" ++ decomposed ++ bytes "\n" at composed under [] gives Unselected)
     ∷ (bytes "/" ++ decomposed ++ bytes "\n" at decomposed under [] gives Selected)
+    -- a self step takes the place of the step before
+    ∷ (bytes "/g/self::g\n" at g under [] gives Selected)
+    ∷ (bytes "/g/self::g\n" at g under (g ∷ []) gives Unselected)
+    ∷ (bytes "/g/self::h\n" at g under [] gives Unselected)
+    ∷ (bytes "/g/self::h\n" at h under (g ∷ []) gives Unselected)
+    ∷ (bytes "/*/self::b\n" at b under [] gives Selected)
+    ∷ (bytes "/*/self::b\n" at a under [] gives Unselected)
+    ∷ (bytes "/*/self::b\n" at b under (b ∷ []) gives Unselected)
+    ∷ (bytes "//a/self::*/self::a/b\n" at b under (c ∷ a ∷ []) gives Selected)
+    ∷ (bytes "//a/self::*/self::a/b\n" at b under (a ∷ c ∷ []) gives Unselected)
+    ∷ (bytes "//a/self::*/self::a/b\n" at a under [] gives Unselected)
+    ∷ (bytes "//*/self::b/c\n" at c under (a ∷ b ∷ []) gives Selected)
+    -- "/self:::p is a self step with the name :p"
+    ∷ (bytes "/*/self:::p\n" at bytes ":p" under [] gives Selected)
+    ∷ (bytes "/*/self:::p\n" at bytes "p" under [] gives Unselected)
+    -- "place 0 is no element, so no step takes it": a first step self selects nothing, a first step descendant-or-self is as //
+    ∷ (bytes "/self::g\n" at g under [] gives Unselected)
+    ∷ (bytes "/self::g\n" at g under (g ∷ []) gives Unselected)
+    ∷ (bytes "/self::*/g\n" at g under [] gives Unselected)
+    ∷ (bytes "/self::*//g\n" at g under (g ∷ g ∷ []) gives Unselected)
+    ∷ (bytes "/descendant-or-self::g\n" at g under [] gives Selected)
+    ∷ (bytes "/descendant-or-self::g\n" at g under (h ∷ g ∷ []) gives Selected)
+    ∷ (bytes "/descendant-or-self::g\n" at h under (g ∷ []) gives Unselected)
+    ∷ (bytes "/descendant-or-self::*/g\n" at g under [] gives Unselected)
+    -- a descendant-or-self step takes that place or any below
+    ∷ (bytes "//a/descendant-or-self::a\n" at a under [] gives Selected)
+    ∷ (bytes "//a/descendant-or-self::a\n" at a under (a ∷ b ∷ c ∷ []) gives Selected)
+    ∷ (bytes "//a/descendant-or-self::a\n" at b under (nested 1) gives Unselected)
+    ∷ (bytes "/a/descendant-or-self::b\n" at a under [] gives Unselected)
+    ∷ (bytes "/a/descendant-or-self::b\n" at b under (a ∷ c ∷ []) gives Selected)
+    ∷ (bytes "/a/descendant-or-self::a/b\n" at b under (nested 1) gives Selected)
+    ∷ (bytes "/a/descendant-or-self::a/b\n" at b under (a ∷ c ∷ a ∷ []) gives Selected)
+    ∷ (bytes "/a/descendant-or-self::a/b\n" at b under (a ∷ c ∷ []) gives Unselected)
+    ∷ (bytes "/a/descendant-or-self::a/descendant-or-self::a\n" at a under [] gives Selected)
+    ∷ (bytes "/a/descendant-or-self::a/descendant-or-self::a\n" at a under (nested 1) gives Selected)
+    ∷ (bytes "/a/descendant-or-self::a/descendant-or-self::a\n" at a under (nested 63) gives Selected)
+    ∷ (bytes "/a/descendant-or-self::a/descendant-or-self::a\n" at a under (b ∷ a ∷ []) gives Unselected)
+    ∷ (bytes "//a//a/descendant-or-self::a\n" at a under [] gives Unselected)
+    ∷ (bytes "//a//a/descendant-or-self::a\n" at a under (nested 1) gives Selected)
+    -- 16 steps at one place
+    ∷ (bytes "/a" ++ times 15 (bytes "/self::a") ++ bytes "\n" at a under [] gives Selected)
+    ∷ (bytes "/a" ++ times 15 (bytes "/self::a") ++ bytes "\n" at a under (nested 1) gives Unselected)
+    ∷ (bytes "/a" ++ times 14 (bytes "/self::*") ++ bytes "/self::b\n" at a under [] gives Unselected)
+    ∷ (bytes "/a" ++ times 14 (bytes "/self::*") ++ bytes "/b\n" at b under (nested 1) gives Selected)
+    ∷ (bytes "/a" ++ times 15 (bytes "/descendant-or-self::a") ++ bytes "\n" at a under [] gives Selected)
+    ∷ (bytes "/a" ++ times 15 (bytes "/descendant-or-self::a") ++ bytes "\n" at a under (nested 63) gives Selected)
+    -- the mark is that of the path, of whatever kind its last step is
+    ∷ (bytes "//a/self::a #\n//a\n" at a under (b ∷ []) gives Marked)
+    ∷ (bytes "/a/self::a #\n//a\n" at a under (b ∷ []) gives Selected)
+    ∷ (bytes "/b/descendant-or-self::* #\n" at a under (b ∷ []) gives Marked)
+    ∷ (bytes "/b/descendant-or-self::* #\n" at b under [] gives Marked)
     -- the empty list
     ∷ ([] at a under [] gives Unselected)
     ∷ ([] at a under (nested 63) gives Unselected)
@@ -124,7 +181,7 @@ sound = refl
 pub computed : map verdictIn rows ≡ map (λ r. r .verdict) rows
 unfolding rows listPaths listAnswer judge lines soundAt within lineAt steps readAll endAt stepAt testAt kindAt printStep printLine
     nameOf run starts character guess valueOf utf8 isScalar isNameStart isNameMore isName verdictBy anyHit hitAt stateOf deeperOf freshState
-    carriedAt carried fitFor fitOf descendsOf lastsOf marksOf column padded
+    carriedAt carried hitsAt hitsOf flood fitFor fitOf staysOf goesOf farOf lastsOf marksOf column padded
 computed = refl
 
 all-meant : (rs : List Row) → map (λ r. listAnswer (r .list)) rs ≡ map (λ r. Sound) rs → map verdictIn rs ≡ map (λ r. r .verdict) rs
