@@ -3,6 +3,7 @@
 use crate::draw::below;
 use crate::mode::Mode;
 use crate::names::name_of;
+use paths::Kind;
 use std::num::wrapping_add_usize;
 
 // Puts a byte at a place, if the slice has it, and gives the place after it.
@@ -22,24 +23,39 @@ fn put_if(s: &mut [u8], at: usize, test: bool, b: u8) -> usize {
     at
 }
 
-// Puts name k.
-fn put_name(s: &mut [u8], at: usize, k: usize) -> usize {
-    let name = name_of(k);
-    let bytes = name.bytes;
-    let len = name.len;
+// Puts a text.
+fn put_text(s: &mut [u8], at: usize, text: &[u8]) -> usize {
     let mut i = at;
     let mut j: usize = 0;
-    while j < len {
-        i = put(s, i, bytes[j]);
+    while j < text.len() {
+        i = put(s, i, text[j]);
         j += 1;
     }
     i
 }
 
-// Puts a step: `/` or `//`, then `*` or a name.
+// Puts name k.
+fn put_name(s: &mut [u8], at: usize, k: usize) -> usize {
+    let name = name_of(k);
+    let bytes = name.bytes;
+    let len = name.len;
+    put_text(s, at, &bytes[0..len])
+}
+
+// Puts what a step of a kind begins with.
+fn put_kind(s: &mut [u8], at: usize, kind: Kind) -> usize {
+    match kind {
+        Kind::Child => put_text(s, at, b"/"),
+        Kind::Descendant => put_text(s, at, b"//"),
+        Kind::SelfStep => put_text(s, at, b"/self::"),
+        Kind::DescendantOrSelf => put_text(s, at, b"/descendant-or-self::"),
+    }
+}
+
+// Puts a step: its kind, then `*` or a name.
 fn put_step(s: &mut [u8], at: usize, seed: &mut usize, m: Mode) -> usize {
-    let slash = put(s, at, b'/');
-    let i = put_if(s, slash, below(seed, 8) < m.descends, b'/');
+    let kind = m.kind(below(seed, 8));
+    let i = put_kind(s, at, kind);
     if below(seed, 8) < m.any {
         return put(s, i, b'*');
     }

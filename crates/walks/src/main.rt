@@ -1,7 +1,7 @@
 // Tries the matcher on random lists and on random walks through trees of names, round by round. Prints of each round its number; the list's
 // bytes and their sum; how deep the walk went and the sum of the names' numbers; how many elements are not selected, selected and marked,
 // and the sum of the verdicts. The file `stdout` has what is right: ordinary Rust in docs/src/expected makes it, with the same draws, by
-// trying places for the steps of each path as document 01 words it.
+// trying places for the steps of each path as documents 01 and 02 word it.
 
 mod draw; // numbers drawn, and sums
 mod mode; // what a round is like

@@ -1,7 +1,7 @@
 // Random lists, and random walks through trees of names: what each list says of each element. The draws are those that the program
 // crates/walks makes; the verdicts are those of plain/select.rs, from the names that are open.
 use crate::plain::paths;
-use crate::plain::select::{verdict, Path, Step, Verdict};
+use crate::plain::select::{verdict, Kind, Path, Step, Verdict};
 
 /// Numbers drawn one after the other.
 struct Draw(u64);
@@ -18,9 +18,10 @@ fn sum(numbers: impl Iterator<Item = u64>) -> u64 {
     numbers.fold(0, |sum, x| (sum * 31 + x) % (1 << 32))
 }
 
-/// What a round is like. A list has `lines` lines and a number more, drawn below `more_lines`; the steps of a line likewise. Of 8 steps
-/// `descends` descend and `any` are `*`; names are drawn below `listed` in a list and below `met` in a walk; of 16 events `starts` are
-/// start tags.
+/// What a round is like. A list has `lines` lines and a number more, drawn below `more_lines`; the steps of a line likewise. A step has a
+/// number drawn below 8: below `descendants` it is a descendant step, else below `selves` a self step, else below `or_selves` a
+/// descendant-or-self step. Of 8 tests `any` are `*`. Names are drawn below `listed` in a list and below `met` in a walk; of 16 events
+/// `starts` are start tags.
 struct Mode {
     lines: u64,
     more_lines: u64,
@@ -28,24 +29,39 @@ struct Mode {
     more_steps: u64,
     listed: u64,
     met: u64,
-    descends: u64,
+    descendants: u64,
+    selves: u64,
+    or_selves: u64,
     any: u64,
     starts: u64,
 }
 
-/// In the order of the fields: few names in deep trees; many names; long paths; many lines; an empty list.
-const MODES: [[u64; 9]; 5] = [
-    [1, 7, 1, 5, 2, 3, 4, 1, 10],
-    [1, 32, 1, 3, 200, 220, 5, 1, 9],
-    [1, 8, 12, 5, 1, 2, 3, 4, 12],
-    [29, 4, 2, 4, 5, 7, 4, 1, 10],
-    [0, 0, 0, 0, 0, 3, 0, 0, 9],
+/// In the order of the fields: few names in deep trees; many names; long paths; many lines; self steps; descendant-or-self steps; many
+/// steps at few places; an empty list.
+const MODES: [[u64; 11]; 8] = [
+    [1, 7, 1, 5, 2, 3, 4, 4, 4, 1, 10],
+    [1, 32, 1, 3, 200, 220, 5, 5, 5, 1, 9],
+    [1, 8, 12, 5, 1, 2, 3, 3, 3, 4, 12],
+    [29, 4, 2, 4, 5, 7, 4, 5, 6, 1, 10],
+    [1, 7, 2, 5, 2, 3, 3, 6, 6, 3, 10],
+    [1, 7, 1, 5, 3, 4, 2, 2, 6, 1, 10],
+    [1, 8, 12, 5, 1, 2, 1, 4, 7, 4, 12],
+    [0, 0, 0, 0, 0, 3, 0, 0, 0, 0, 9],
 ];
 
 /// Four rounds of each mode, and one with an empty list.
 fn mode(round: u64) -> Mode {
-    let [lines, more_lines, steps, more_steps, listed, met, descends, any, starts] = MODES[(round % 17 / 4) as usize];
-    Mode { lines, more_lines, steps, more_steps, listed, met, descends, any, starts }
+    let [lines, more_lines, steps, more_steps, listed, met, descendants, selves, or_selves, any, starts] = MODES[(round % 29 / 4) as usize];
+    Mode { lines, more_lines, steps, more_steps, listed, met, descendants, selves, or_selves, any, starts }
+}
+
+fn kind(drawn: u64, m: &Mode) -> Kind {
+    match drawn {
+        k if k < m.descendants => Kind::Descendant,
+        k if k < m.selves => Kind::SelfStep,
+        k if k < m.or_selves => Kind::DescendantOrSelf,
+        _ => Kind::Child,
+    }
 }
 
 /// Short names, an accented letter in two spellings, the letter by itself; then pairs of letters from c to v.
@@ -62,9 +78,9 @@ fn list(draw: &mut Draw, m: &Mode) -> Vec<Path> {
     for _ in 0..m.lines + draw.below(m.more_lines) {
         let mut steps = Vec::new();
         for _ in 0..m.steps + draw.below(m.more_steps) {
-            let descends = draw.below(8) < m.descends;
+            let kind = kind(draw.below(8), m);
             let any = draw.below(8) < m.any;
-            steps.push(Step { descends, name: if any { None } else { Some(name(draw.below(m.listed))) } });
+            steps.push(Step { kind, name: if any { None } else { Some(name(draw.below(m.listed))) } });
         }
         list.push(Path { steps, marked: draw.below(4) == 0 });
     }
@@ -75,7 +91,12 @@ fn text(list: &[Path]) -> Vec<u8> {
     let mut text = Vec::new();
     for path in list {
         for step in &path.steps {
-            text.extend_from_slice(if step.descends { b"//" } else { b"/" });
+            text.extend_from_slice(match step.kind {
+                Kind::Child => b"/",
+                Kind::Descendant => b"//",
+                Kind::SelfStep => b"/self::",
+                Kind::DescendantOrSelf => b"/descendant-or-self::",
+            });
             text.extend_from_slice(step.name.as_deref().unwrap_or(b"*"));
         }
         text.extend_from_slice(if path.marked { b" #\n" } else { b"\n" });

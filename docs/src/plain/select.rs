@@ -1,9 +1,30 @@
 // What a list says of an element in ordinary Rust, by trying places for the steps of each path, from the words of document 01, "What a path
-// selects". It shares nothing with the Rattle source.
+// selects", and of document 02, Q-6. It shares nothing with the Rattle source.
+use std::ops::Range;
 
-/// A step: whether it descends, and its name (nothing for `*`).
+#[derive(Clone, Copy)]
+pub enum Kind {
+    Child,
+    Descendant,
+    SelfStep,
+    DescendantOrSelf,
+}
+
+impl Kind {
+    /// Where the step before may stand: exactly one place above, at least one, at the same place, at that place or any above.
+    fn before(self, place: usize) -> Range<usize> {
+        match self {
+            Kind::Child => place - 1..place,
+            Kind::Descendant => 0..place,
+            Kind::SelfStep => place..place + 1,
+            Kind::DescendantOrSelf => 0..place + 1,
+        }
+    }
+}
+
+/// A step: its kind, and its name (nothing for `*`).
 pub struct Step {
-    pub descends: bool,
+    pub kind: Kind,
     pub name: Option<Vec<u8>>,
 }
 
@@ -20,8 +41,8 @@ pub enum Verdict {
     Marked,
 }
 
-/// Places can be chosen for the steps, the last of which has this place: it passes the name there, and the step before it stands exactly
-/// one place above, or at least one if it descends. Before the first step is place 0. What was tried in vain is not tried again.
+/// Places can be chosen for the steps, the last of which has this place: it passes the name there, and the step before it stands where the
+/// kind wants it. Before the first step is place 0, which no step takes. What was tried in vain is not tried again.
 fn placed(steps: &[Step], names: &[Vec<u8>], place: usize, vain: &mut Vec<Vec<bool>>) -> bool {
     let (last, before) = match steps.split_last() {
         None => return place == 0,
@@ -31,8 +52,7 @@ fn placed(steps: &[Step], names: &[Vec<u8>], place: usize, vain: &mut Vec<Vec<bo
         return false;
     }
     let passes = last.name.as_ref().map_or(true, |name| *name == names[place - 1]);
-    let highest = if last.descends { 0 } else { place - 1 };
-    let found = passes && (highest..place).any(|p| placed(before, names, p, vain));
+    let found = passes && last.kind.before(place).any(|p| placed(before, names, p, vain));
     vain[before.len()][place] = !found;
     found
 }

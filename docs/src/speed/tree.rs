@@ -1,7 +1,7 @@
 // A cut in ordinary Rust, from the words of document 01, "What is written": the elements that expat tells, as a tree, with the verdicts of
 // plain/select.rs. It shares nothing with the Rattle source, and is made to be compared with, not timed.
 use crate::expat::{events, Event};
-use crate::plain::select::{verdict, Path, Step, Verdict};
+use crate::plain::select::{verdict, Kind, Path, Step, Verdict};
 use crate::steps;
 use std::collections::HashMap;
 use std::ops::Range;
@@ -15,7 +15,8 @@ struct Element {
 }
 
 fn path(path: &steps::Path) -> Path {
-    let step = |step: &steps::Step| Step { descends: step.descends, name: step.test.map(<[u8]>::to_vec) };
+    let kind = |step: &steps::Step| if step.descends { Kind::Descendant } else { Kind::Child };
+    let step = |step: &steps::Step| Step { kind: kind(step), name: step.test.map(<[u8]>::to_vec) };
     Path { steps: path.steps.iter().map(step).collect(), marked: path.marked }
 }
 
