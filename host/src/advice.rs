@@ -10,9 +10,14 @@ pub struct Advice {
     pub hint: String,
 }
 
-const STEP: &str = "a step is / or // and then * or a name";
+const STEP: &str = "a step is /, //, /self:: or /descendant-or-self::, then * or a name";
+const TEST: &str = "behind an axis stands * or a name";
+const ONLY: &str = "the axes are self:: and descendant-or-self::, behind one slash, and no others";
 const MARK: &str = "one space and # mark a line, at its end";
 const ELEMENTS: &str = "a path names elements alone: no attributes, conditions or functions";
+
+/// What may stand between one slash and a name test.
+const AXES: [&[u8]; 2] = [b"self::", b"descendant-or-self::"];
 
 fn advice(at: usize, hint: &str) -> Advice {
     Advice { at, hint: hint.to_string() }
@@ -73,21 +78,39 @@ pub fn bytes(some: &[u8]) -> String {
     each.join(" ")
 }
 
-/// Where the step that begins at a slash ends.
-fn step(line: &[u8], at: usize) -> Result<usize, Advice> {
+/// How long the axis is that stands there, or 0.
+fn axis(rest: &[u8]) -> usize {
+    AXES.iter().find(|axis| rest.starts_with(axis)).map_or(0, |axis| axis.len())
+}
+
+/// Where the step that begins at a slash has its name test: behind its slashes, and behind an axis if it has one slash.
+fn test(line: &[u8], at: usize) -> usize {
     let slashes = line[at..].iter().take_while(|&&b| b == b'/').count();
-    let name = at + slashes;
-    match line.get(name) {
-        _ if slashes > 2 => Err(advice(at + 2, "at most two slashes stand before a name")),
-        None => Err(advice(name, STEP)),
-        Some(b'*') => Ok(name + 1),
-        Some(b'[' | b'@' | b'(') => Err(advice(name, ELEMENTS)),
-        Some(_) => name_end(line, name),
+    let behind = at + slashes;
+    if slashes == 1 {
+        behind + axis(&line[behind..])
+    } else {
+        behind
     }
 }
 
-/// Where a name ends. There is a byte at its place.
-fn name_end(line: &[u8], name: usize) -> Result<usize, Advice> {
+/// Where the step that begins at a slash ends.
+fn step(line: &[u8], at: usize) -> Result<usize, Advice> {
+    let test = test(line, at);
+    let slashes = line[at..test].iter().filter(|&&b| b == b'/').count();
+    let missing = if at + slashes < test { TEST } else { STEP };
+    match line.get(test) {
+        _ if slashes > 2 => Err(advice(at + 2, "at most two slashes stand before a name")),
+        _ if axis(&line[test..]) > 0 && slashes == 2 => Err(advice(at + 1, ONLY)),
+        None => Err(advice(test, missing)),
+        Some(b'*') => Ok(test + 1),
+        Some(b'[' | b'@' | b'(') => Err(advice(test, ELEMENTS)),
+        Some(_) => name_end(line, test, missing),
+    }
+}
+
+/// Where a name ends. There is a byte at its place; if it begins no name, what is missing is said.
+fn name_end(line: &[u8], name: usize, missing: &str) -> Result<usize, Advice> {
     if let Some(bad) = character(&line[name..], name) {
         return Err(bad);
     }
@@ -101,9 +124,20 @@ fn name_end(line: &[u8], name: usize) -> Result<usize, Advice> {
     }
     match shown::front(&line[name..]) {
         Ok(c) if end == name && names::within(c) => Err(Advice { at: name, hint: format!("a name can't begin with {c}") }),
-        _ if end == name => Err(advice(name, STEP)),
-        _ => Ok(end),
+        _ if end == name => Err(advice(name, missing)),
+        _ => colons(&line[name..end], name).map_or(Ok(end), Err),
     }
+}
+
+/// What to say of a name with two colons side by side: what stands before them may be an axis of XPath that a list has otherwise or not.
+fn colons(name: &[u8], at: usize) -> Option<Advice> {
+    let before = name.windows(2).position(|pair| pair == b"::")?;
+    let (at, why) = match &name[..before] {
+        b"child" => (at, "child:: is written / here"),
+        b"descendant" => (at, "descendant:: is written // here"),
+        _ => (at + before, "a name in a list has no ::"),
+    };
+    Some(Advice { at, hint: format!("{why}; {ONLY}") })
 }
 
 /// Advice on a line that is sound but too large, or stands past the last that a list may have.
@@ -117,9 +151,9 @@ pub fn too_large(line: &[u8], number: usize) -> Advice {
         if steps > 16 {
             return advice(at, "over 16 steps");
         }
-        let name = at + line[at..].iter().take_while(|&&b| b == b'/').count();
+        let test = test(line, at);
         match step(line, at) {
-            Ok(end) if end - name > 255 => return advice(name, "a name over 255 bytes"),
+            Ok(end) if end - test > 255 => return advice(test, "a name over 255 bytes"),
             Ok(end) => at = end,
             Err(_) => break,
         }

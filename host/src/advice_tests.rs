@@ -39,6 +39,41 @@ fn steps() {
 }
 
 #[test]
+fn axes() {
+    says(b"//self::p", 1, ONLY);
+    says(b"/a//descendant-or-self::p", 3, ONLY);
+    says(b"/self::", 7, TEST);
+    says(b"/a/self:: #", 9, TEST);
+    says(b"/self::/p", 7, TEST);
+    says(b"/descendant-or-self::", 21, TEST);
+    says(b"/self::-p", 7, "a name can't begin with -");
+    says(b"/self::@k", 7, ELEMENTS);
+    says(b"/self::node()", 11, ELEMENTS);
+    says(b"/self::*p", 8, STEP);
+    says(b"///self::p", 2, "at most two slashes stand before a name");
+    // Sound as far as the blank.
+    says(b"/self:::p/self:q/descendant-or-self::* b", 38, STEP);
+}
+
+#[test]
+fn names_with_two_colons() {
+    let says = |line: &[u8], at: usize, why: &str| says(line, at, &format!("{why}; {ONLY}"));
+    let name = "a name in a list has no ::";
+    says(b"/a::b", 2, name);
+    says(b"//a/bc:::d", 6, name);
+    says(b"/::", 1, name);
+    says(b"/p::", 2, name);
+    says(b"/Self::p", 5, name);
+    says(b"/self::::p", 7, name);
+    says(b"/self::a::b", 8, name);
+    says(b"/self::self::p", 11, name);
+    says("/\u{E9}::b".as_bytes(), 3, name);
+    says(b"/a/child::p", 3, "child:: is written / here");
+    says(b"/child::*", 1, "child:: is written / here");
+    says(b"/a//descendant::p", 4, "descendant:: is written // here");
+}
+
+#[test]
 fn marks_and_ends() {
     says(b"/a#", 2, MARK);
     says(b"/a  #", 2, MARK);
@@ -58,5 +93,9 @@ fn large_lines() {
     assert_eq!(too_large("/*".repeat(17).as_bytes(), 2), advice(32, "over 16 steps"));
     assert_eq!(too_large(format!("/g//{}", "a".repeat(256)).as_bytes(), 1), advice(4, "a name over 255 bytes"));
     assert_eq!(too_large(format!("/{}é", "a".repeat(254)).as_bytes(), 1), advice(1, "a name over 255 bytes"));
+    assert_eq!(too_large(format!("/g/self::{}", "a".repeat(256)).as_bytes(), 1), advice(9, "a name over 255 bytes"));
+    let long = format!("/self::{}/descendant-or-self::{}", "a".repeat(255), "b".repeat(256));
+    assert_eq!(too_large(long.as_bytes(), 1), advice(283, "a name over 255 bytes"));
+    assert_eq!(too_large("/self::*".repeat(17).as_bytes(), 1), advice(128, "over 16 steps"));
     assert_eq!(too_large(b"/a", 1), advice(0, "a line has at most 16 steps, a name at most 255 bytes"));
 }

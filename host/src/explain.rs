@@ -37,9 +37,11 @@ not the document. Else shorten it: // and * stand for many paths.
 
 const TWO: &str = "\
 2: a line of the list is malformed; the second number is the line, from 1.
-A line is one or more steps, then perhaps one space and #. A step is / (child) or
-// (descendant) and then * or a name. There are no other blanks, no empty lines and no
-comments, and every line ends in a line feed, the last too, with no carriage return.
+A line is one or more steps, then perhaps one space and #. A step is / (child),
+// (descendant), /self:: (the element itself) or /descendant-or-self:: (it or any under
+it), and then * or a name. A name has no :: in it, since there are no other axes. There
+are no other blanks, no empty lines and no comments, and every line ends in a line feed,
+the last too, with no carriage return.
 ";
 
 const THREE: &str = "\

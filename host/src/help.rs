@@ -11,8 +11,10 @@ choughbell cuts XML by a list of paths, by a filter that is proved.
 
 A file that is not named, or named -, is the standard input or output.
 
-  -l, --list LIST      the paths, one to a line: / or // and then * or a name, again and
-                       again; one space and # at the end keep the whole entry
+  -l, --list LIST      the paths, one to a line: / (child), // (descendant), /self:: (the
+                       element itself) or /descendant-or-self:: (it or any under it) and
+                       then * or a name, again and again; one space and # at the end keep
+                       the whole entry
   -o, --output OUTPUT  is replaced when the cut is there, and else stays as it was
       --count          print only: kept, the elements selected, the length of the cut
   -q, --quiet          no message, only the exit status

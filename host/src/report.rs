@@ -134,8 +134,8 @@ mod tests {
     #[test]
     fn a_line_has_a_caret() {
         let report = said(b"/a\n/b\n/a b\n", b"<g/>");
-        let line = "a.lst:3: 2: malformed line: \"/a b\": a step is / or // and then * or a name\n    /a b\n      ^";
-        assert_eq!(report.message(), line);
+        let hint = "a step is /, //, /self:: or /descendant-or-self::, then * or a name";
+        assert_eq!(report.message(), format!("a.lst:3: 2: malformed line: \"/a b\": {hint}\n    /a b\n      ^"));
     }
 
     #[test]

@@ -20,6 +20,24 @@ try 'numbers only, quiet' 0 cut --count --quiet -l v.lst b.xml
 prints '<g><p><v></v></p></g>'
 try 'a cut, quiet' 0 cut --quiet -l v.lst b.xml
 
+# Self and descendant-or-self steps, and names with two colons side by side.
+printf '/g/self::g/p/descendant-or-self::v\n' > axes.lst
+prints '<g><p><v></v></p></g>'
+try 'self and descendant-or-self' 0 cut -l axes.lst b.xml
+printf '//*/self::v #\n' > axes.lst
+prints '<g><p><v/></p></g>'
+try 'self, marked' 0 cut -l axes.lst b.xml
+printf '/descendant-or-self::*\n' > axes.lst
+lines 'kept 3 21'
+try 'descendant-or-self first' 0 cut --count -l axes.lst b.xml
+printf '/self::g\n' > axes.lst
+lines 'kept 0 7'
+try 'self first' 0 cut --count -l axes.lst b.xml
+printf '/g/*\n/g/self::p\n' > axes.lst
+printf '<g><a::b/><self::p><:p/></self::p></g>' > colons.xml
+prints '<g><a::b></a::b><self::p></self::p></g>'
+try 'names with two colons in a document' 0 cut -l axes.lst colons.xml
+
 # 1
 repeat 8193 / > long.lst
 says 'long.lst: 1: list over 8,192 bytes'
@@ -40,7 +58,8 @@ malformed() {
     says "atlas.lst:3: 2: malformed line: \"$2\": $3" "    $2" "    $4"
     try "$1" 2 cut -l atlas.lst b.xml
 }
-malformed 'blank' '/a b' 'a step is / or // and then * or a name' '  ^'
+step='a step is /, //, /self:: or /descendant-or-self::, then * or a name'
+malformed 'blank' '/a b' "$step" '  ^'
 malformed 'empty line' '' 'an empty line' '^'
 malformed 'no slash' 'v' 'a line begins with / or //' '^'
 malformed 'three slashes' '/a///b' 'at most two slashes stand before a name' '    ^'
@@ -50,8 +69,15 @@ malformed 'blank after #' '/a # ' 'one space and # mark a line, at its end' '  ^
 malformed 'digit' '/a/1b' "a name can't begin with 1" '   ^'
 malformed 'attribute' '/a/@id' 'a path names elements alone: no attributes, conditions or functions' '   ^'
 malformed 'comment' '# lakes' 'a list has no comments; one space and # mark a line, at its end' '^'
-malformed 'accents, composed' '/préf é' 'a step is / or // and then * or a name' '     ^'
-malformed 'accents, decomposed' "$(printf '/pre\314\201f e\314\201')" 'a step is / or // and then * or a name' '     ^'
+axes='the axes are self:: and descendant-or-self::, behind one slash, and no others'
+malformed 'two slashes before an axis' '//self::p' "$axes" ' ^'
+malformed 'an axis alone' '/a/self::' 'behind an axis stands * or a name' '         ^'
+malformed 'the child axis' '/child::p' "child:: is written / here; $axes" ' ^'
+malformed 'the descendant axis' '/a/descendant::p' "descendant:: is written // here; $axes" '   ^'
+malformed 'two colons in a name' '/a::b' "a name in a list has no ::; $axes" '  ^'
+malformed 'two axes' '/self::self::p #' "a name in a list has no ::; $axes" '           ^'
+malformed 'accents, composed' '/préf é' "$step" '     ^'
+malformed 'accents, decomposed' "$(printf '/pre\314\201f e\314\201')" "$step" '     ^'
 
 printf '/a\r\n' > crlf.lst
 says 'crlf.lst:1: 2: malformed line: "/a\r": a line ends in a line feed alone, without a carriage return' '    /a\r' '      ^'
@@ -66,10 +92,10 @@ printf '\357\273\277/a\n' > bom.lst
 says 'bom.lst:1: 2: malformed line: "\u{FEFF}/a": a list has no byte order mark' '    \u{FEFF}/a' '    ^'
 try 'byte order mark' 2 cut -l bom.lst b.xml
 printf '/a\0\n' > null.lst
-says 'null.lst:1: 2: malformed line: "/a\u{0}": a step is / or // and then * or a name' '    /a\u{0}' '      ^'
+says 'null.lst:1: 2: malformed line: "/a\u{0}": '"$step" '    /a\u{0}' '      ^'
 try 'a null byte' 2 cut -l null.lst b.xml
 printf '/%s b\n' "$(repeat 100 x)" > wide.lst
-says "wide.lst:1: 2: malformed line: \"/$(repeat 39 x)...\": a step is / or // and then * or a name" \
+says "wide.lst:1: 2: malformed line: \"/$(repeat 39 x)...\": $step" \
     "    ...$(repeat 50 x) b" "       $(repeat 50 ' ')^"
 try 'a long line' 2 cut -l wide.lst b.xml
 try 'malformed, quiet' 2 cut -q -l atlas.lst b.xml
@@ -88,6 +114,13 @@ try '17 steps' 3 cut -l steps.lst b.xml
 printf '//%s\n' "$(repeat 256 a)" > name.lst
 says "name.lst:1: 3: line too large: \"//$(repeat 38 a)...\": a name over 255 bytes" "    //$(repeat 40 a | cut -c 1-40)..." '      ^'
 try 'a name of 256 bytes' 3 cut -l name.lst b.xml
+printf '/a/self::%s\n' "$(repeat 256 a)" > name.lst
+says "name.lst:1: 3: line too large: \"/a/self::$(repeat 31 a)...\": a name over 255 bytes" \
+    "    /a/self::$(repeat 40 a)..." '             ^'
+try 'a name of 256 bytes behind an axis' 3 cut -l name.lst b.xml
+printf '/a/self::%s\n' "$(repeat 255 a)" > name.lst
+prints '<g></g>'
+try 'a name of 255 bytes behind an axis' 0 cut -l name.lst b.xml
 repeat 33 '/a
 ' > many.lst
 says 'many.lst:33: 3: line too large: "/a": line 33: a list has at most 32 lines' '    /a' '    ^'

@@ -36,7 +36,7 @@ json 'a list too long' 1 '{"number":1,"second":0,"third":0,"meaning":"list over 
 refusal() {
     printf '{"number":%s,"second":%s,"third":0,"meaning":"%s","file":"%s",%s,"there":"%s","hint":"%s"}' "$@"
 }
-step='a step is / or // and then * or a name'
+step='a step is /, //, /self:: or /descendant-or-self::, then * or a name'
 tag='a tag is <, a name, attributes as name=\"value\", none twice, and > or />; a value has no <'
 open='<g> of line 1 is open'
 printf '/a\n/b "\\\n' > quote.lst
