@@ -53,11 +53,11 @@ piece-is {s} {n} {t} x e h = rw (name-is s t x h, before-is n t e)
 
 -- ---- one attribute
 
-eq-off-name : Off isName Eq
+pub eq-off-name : Off isName Eq
 unfolding isName isNameStart isNameMore
 eq-off-name = off-opt (off-space space-name) (off-then (off-lit _ _ (lit< tt) refl))
 
-value-off-space : Off isSpace AttValue
+pub value-off-space : Off isSpace AttValue
 unfolding isSpace
 value-off-space = off-either (off-then (off-lit _ _ (lit< tt) refl)) (off-then (off-lit _ _ (lit< tt) refl))
 

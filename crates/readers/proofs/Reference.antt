@@ -1,6 +1,7 @@
 -- References, each with the character that it says, on every byte string. In order: digits of a class, then `;`; what is read is a
 -- reference that says so (`said-refers`), and each that says something is read (`refers-said`), so one says one character; references that
--- say something are those of [67]; what is left is a shorter end. None of it goes by what is left being characters.
+-- say something are those of [67]; what is said is a scalar value; what is left is a shorter end. None of it goes by what is left being
+-- characters.
 use mathlib.Core.Path.{_≡_, refl, sym, ap, _∙_}
 use mathlib.Core.Bool.{Bool, true, false, cond, _&&_, _||_, or-true, false≢true}
 use mathlib.Core.List.{List, [], _∷_, _++_, append-assoc, append-cancel-right}
@@ -8,17 +9,17 @@ use mathlib.Core.Logic.{_⊎_, inl, inr}
 use mathlib.Core.Option.{Option, none, some, Option·none-ne-some, Option·some-injective}
 use Prim.Native.Nat.{ℕ, _+_, _*_, _<_}
 use native.Mathlib.Omega.{arith}
-use lib.Dec.{eqb, ltb}
-use borrow.Author.Tests.{eqb-true, ne-eqb, ltb-true}
+use lib.Dec.{eqb, leb, ltb}
+use borrow.Author.Tests.{eqb-true, ne-eqb, leb-true, ltb-true}
 use Rattle.xml.specs.Notation.{Reads, Star, done, more, char, such, plus, text, bytes}
-use Rattle.xml.specs.Range.{Range, _to_, inside, within}
+use Rattle.xml.specs.Range.{Range, _to_, _–_, only, inside, within}
 use Rattle.xml.specs.Utf8.{utf8, isScalar}
 use Rattle.xml.specs.Character.{character, guess, valueOf as characterValue}
 use Rattle.xml.specs.Computes.{after, each, keep, member, repeat, rests, derives}
 use Rattle.xml.specs.Productions.{isChar, digitOf, number, legal, same, declared, isNameStart, isNameMore, isName, Name, Reference}
 use Rattle.xml.specs.Sign.{Predefined, amp, lt, gt, apos, quot, Refers, entity, decimal, hexadecimal}
 use Rattle.xml.proofs.Bools.{and-left, and-right, or-either, inside-bounds}
-use Rattle.xml.proofs.Utf8.{utf8-low, scalar-ascii}
+use Rattle.xml.proofs.Utf8.{utf8-low, scalar-low, scalar-high, scalar-ascii}
 use Rattle.xml.proofs.Computes.{derives-language}
 use Rattle.xml.proofs.Same.{same-equal}
 use Rattle.xml.proofs.Language.{language-reads, reads-suffix}
@@ -329,6 +330,52 @@ reference-decides =
 
 pub reference-ascii : Ascii Reference
 reference-ascii = ((refl, ((tt, tt), refl)), ((refl, ((tt, tt), refl)), (refl, ((tt, tt), refl))))
+
+-- ---- what a reference says is a Char, and so a scalar value
+
+abbrev scalars : List Range → Bool
+scalars [] = true
+scalars (r ∷ rs) = (ltb (r .high) 0xD800 || leb 0xE000 (r .low) && ltb (r .high) 0x110000) && scalars rs
+
+ranges-scalar : (rs : List Range) (c : ℕ) → scalars rs ≡ true → within rs c ≡ true → isScalar c ≡ true
+ranges-scalar [] c h e = absurd (false≢true e)
+ranges-scalar (r ∷ rs) c h e =
+    let here = ltb (r .high) 0xD800 || leb 0xE000 (r .low) && ltb (r .high) 0x110000 in
+    go (or-either (inside r c) _ e) (or-either (ltb (r .high) 0xD800) _ (and-left here _ h)) (ranges-scalar rs c (and-right here _ h))
+  where
+    go : (inside r c ≡ true) ⊎ (within rs c ≡ true) → (ltb (r .high) 0xD800 ≡ true) ⊎ (leb 0xE000 (r .low) && ltb (r .high) 0x110000 ≡ true)
+        → (within rs c ≡ true → isScalar c ≡ true) → isScalar c ≡ true
+    go (inr q) b f = f q
+    go (inl q) (inl b) f = scalar-low c (omega (arith, inside-bounds r c q, ltb-true (r .high) 0xD800 b))
+    go (inl q) (inr b) f =
+        let l = leb-true 0xE000 (r .low) (and-left (leb 0xE000 (r .low)) _ b) in
+        let m = ltb-true (r .high) 0x110000 (and-right (leb 0xE000 (r .low)) _ b) in
+        scalar-high c (omega (arith, inside-bounds r c q)) (omega (arith, inside-bounds r c q))
+
+char-scalar : (c : ℕ) → isChar c ≡ true → isScalar c ≡ true
+unfolding isChar
+char-scalar c =
+    ranges-scalar (only 0x9 ∷ only 0xA ∷ only 0xD ∷ 0x20 – 0xD7FF ∷ 0xE000 – 0xFFFD ∷ 0x10000 – 0x10FFFF ∷ []) c refl
+
+number-scalar : (base : ℕ) {c : ℕ} {a : List ℕ} (w u b : List ℕ) → a ≡ u ++ b → legal base u ≡ true → a ≡ w ++ b → c ≡ number base 0 w
+    → isScalar c ≡ true
+unfolding legal
+number-scalar base w u b q h e i =
+    let j : u ≡ w = append-cancel-right u w b (sym q ∙ e) in
+    rw (i, ← j) (char-scalar (number base 0 u) h)
+
+predefined-scalar : {w : List ℕ} {c : ℕ} → Predefined w c → isScalar c ≡ true
+unfolding isScalar
+predefined-scalar amp = refl
+predefined-scalar lt = refl
+predefined-scalar gt = refl
+predefined-scalar apos = refl
+predefined-scalar quot = refl
+
+pub refers-scalar : {c : ℕ} {s t : List ℕ} → Refers c s t → isScalar c ≡ true
+refers-scalar (entity e r q i z) = predefined-scalar i
+refers-scalar (decimal w {b = b} e (u, q, h, r) i c z) = number-scalar 10 w u b q h i c
+refers-scalar (hexadecimal w {b = b} e (u, q, h, r) i c z) = number-scalar 16 w u b q h i c
 
 -- ---- every reference begins with &, and leaves a shorter end
 

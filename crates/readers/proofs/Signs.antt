@@ -31,13 +31,14 @@ use Rattle.readers.proofs.Left.{Shorter, shorter-length}
 use Rattle.readers.proofs.Many.{Shrinks, many-stop, many-step}
 use Rattle.readers.proofs.Plain.{begins-other, seek-found, seek-char, past, upto-first, section-decides}
 use Rattle.readers.proofs.Plain.{Plain, Stops, text-pass, text-never, past-end, text-sound, text-complete}
-use Rattle.readers.proofs.Reference.{refers-said, said-refers, reads-refers, refers-reads, refers-first, refers-shorter}
+use Rattle.readers.proofs.Reference.{refers-said, said-refers, reads-refers, refers-reads, refers-scalar}
+use Rattle.readers.proofs.Reference.{refers-first, refers-shorter}
 use Rattle.readers.proofs.Value.{value-decides}
 
 -- ---- the next character
 
 -- what is left after the first byte and the rest of what is read
-shorter-rest : (b : ℕ) (s t : List ℕ) → Shorter (b ∷ s) t → drop (length s - length t) s ≡ t
+pub shorter-rest : (b : ℕ) (s t : List ℕ) → Shorter (b ∷ s) t → drop (length s - length t) s ≡ t
 shorter-rest b s t ([], q, h) = absurd (let z : 0 < 0 = h in omega arith)
 shorter-rest b s t (y ∷ w, q, h) =
     let r : s ≡ w ++ t = ap (λ (l : List ℕ). drop 1 l) q in
@@ -92,6 +93,11 @@ next-itself : (w : Where) (c : ℕ) (t : List ℕ) → isScalar c ≡ true → p
 unfolding nextOf
 next-itself w c t k p o = rw (no-amp w c t k p, character-utf8 c t k, p, o, drop-append-seam (utf8 c) t)
 
+-- the code point, without its origin
+abbrev pub codeOf : Sign → ℕ
+codeOf (literal c) = c
+codeOf (referred c) = c
+
 module _ (w : Where) where
   pub comes-next : {x : Sign} {s t : List ℕ} → Comes w x s t → nextOf w s ≡ some (record { sign = x; rest = t })
   comes-next {t = t} (itself {c = c} {s = s} k p f e) =
@@ -134,6 +140,10 @@ module _ (w : Where) where
   comes-shorter (itself {c = c} k p f e) = (utf8 c, e, utf8-long c)
   comes-shorter (said h r) = refers-shorter r
 
+  pub comes-scalar : {x : Sign} {s t : List ℕ} → Comes w x s t → isScalar (codeOf x) ≡ true
+  comes-scalar (itself k p f e) = k
+  comes-scalar (said h r) = refers-scalar r
+
   -- all that come one after the other
 
   next-end : {s t : List ℕ} → nextEnd w s ≡ some t → (x : Sign) × Comes w x s t
@@ -153,7 +163,7 @@ module _ (w : Where) where
   signs-skip zero (b ∷ s) = refl
   signs-skip (suc k) (b ∷ s) = signs-skip k s
 
-  signs-step : (s : List ℕ) {x : Sign} {m : List ℕ} → Comes w x s m → signsIn w 0 s ≡ x ∷ signsIn w 0 m
+  pub signs-step : (s : List ℕ) {x : Sign} {m : List ℕ} → Comes w x s m → signsIn w 0 s ≡ x ∷ signsIn w 0 m
   unfolding signsIn
   signs-step [] {x} {m} c = absurd (let h : length m < 0 = shorter-length (comes-shorter c) in omega arith)
   signs-step (b ∷ s) {x} {m} c =
@@ -161,7 +171,7 @@ module _ (w : Where) where
       (ap (λ (l : List Sign). x ∷ l)
       (signs-skip (length s - length m) s ∙ ap (signsIn w 0) (shorter-rest b s m (comes-shorter c))))
 
-  signs-stop : (s : List ℕ) → nextOf w s ≡ none → signsIn w 0 s ≡ []
+  pub signs-stop : (s : List ℕ) → nextOf w s ≡ none → signsIn w 0 s ≡ []
   unfolding signsIn
   signs-stop [] e = refl
   signs-stop (b ∷ s) e = rw e
@@ -182,7 +192,7 @@ module _ (w : Where) where
       (sym a ∙ c, sym b ∙ d)
 
   -- where nothing comes
-  nothing-comes : {s : List ℕ} → ((x : Sign) (t : List ℕ) → Comes w x s t → ⊥) → nextOf w s ≡ none
+  pub nothing-comes : {s : List ℕ} → ((x : Sign) (t : List ℕ) → Comes w x s t → ⊥) → nextOf w s ≡ none
   nothing-comes {s} f = go (nextOf w s) refl
     where
       go : (o : Option Next) → nextOf w s ≡ o → o ≡ none
@@ -223,11 +233,11 @@ pub valued-reads : {xs : List Sign} {s t : List ℕ} → Valued xs s t → Reads
 valued-reads (double {a = a} {b = b} e x z) = inl (a, e, (b, signs-star inDouble "<&\"" refl refl (λ s. tt) x, z))
 valued-reads (single {a = a} {b = b} e x z) = inr (a, e, (b, signs-star inSingle "<&'" refl refl (λ s. tt) x, z))
 
-double-ends : (t : List ℕ) → nextOf inDouble (0x22 ∷ t) ≡ none
+pub double-ends : (t : List ℕ) → nextOf inDouble (0x22 ∷ t) ≡ none
 unfolding except isChar
 double-ends t = low-ends inDouble 0x22 t (lit< tt) refl (omega arith)
 
-single-ends : (t : List ℕ) → nextOf inSingle (0x27 ∷ t) ≡ none
+pub single-ends : (t : List ℕ) → nextOf inSingle (0x27 ∷ t) ≡ none
 unfolding except isChar
 single-ends t = low-ends inSingle 0x27 t (lit< tt) refl (omega arith)
 
