@@ -6,7 +6,7 @@ use mathlib.Core.Option.{Option, none, some}
 use Prim.Native.Nat.{ℕ, _+_}
 use lib.Dec.{ltb, leb}
 use lib.ListN.{length}
-use Rattle.paths.specs.Path.{Step, Path, testSize, printLine}
+use Rattle.paths.specs.Path.{Step, AttributeTest, Path, testSize, printLine}
 use Rattle.paths.specs.Reader.{Run, readAll, lineAt}
 use Rattle.paths.specs.declared.ListAnswer.{ListAnswer}
 use Rattle.paths.specs.declared.ListAnswer.the-variants.{Sound, TooLong, Malformed, TooLarge}
@@ -15,8 +15,12 @@ abbrev pub smallNames : List Step → Bool
 smallNames [] = true
 smallNames (x ∷ xs) = leb (testSize (x .test)) 255 && smallNames xs
 
+abbrev pub smallTest : Option AttributeTest → Bool
+smallTest none = true
+smallTest (some x) = leb (length (x .name)) 255 && leb (length (x .value)) 255
+
 unfoldable pub within : Path → Bool
-within p = leb (length (p .steps)) 16 && smallNames (p .steps)
+within p = leb (length (p .steps)) 16 && (smallNames (p .steps) && smallTest (p .test))
 
 -- a line that is neither malformed nor too large
 abbrev pub smallOnly : Option Path → Option Path
