@@ -1,30 +1,32 @@
 -- What the functions find at places is what the definitions say.
--- In order: a text that ends inside; a test, whose name is looked through for two colons; a step; a line's end.
+-- In order: a text that ends inside; a name; a test, whose name is looked through for two colons; a step.
 use mathlib.Core.Path.{_≡_, refl, sym, ap, _∙_}
-use mathlib.Core.Bool.{Bool, true, false}
+use mathlib.Core.Bool.{Bool, true, false, not}
 use mathlib.Core.List.{List, _++_}
 use mathlib.Core.Option.{Option, none, some}
 use Prim.Native.Nat.{ℕ, _+_, _-_, _≤_, _<_}
 use native.Mathlib.Omega.{arith}
 use borrow.Author.Needs.{needs}
+use borrow.Author.Tests.{not-false}
 use lib.ListN.{length, take, drop, length-append, length-drop}
-use lib.Seq.{drop-drop, length-take-le}
+use lib.Seq.{drop-drop, drop-append-seam, length-take-le}
 use Rattle.xml.specs.Notation.{bytes}
 use Rattle.xml.specs.Character.{begins}
+use Rattle.xml.specs.Productions.{Name}
 use Rattle.xml.proofs.Character.{begins-split}
+use Rattle.xml.proofs.Language.{reads-suffix}
 use Rattle.utf8.specs.Place.{endsAt}
 use Rattle.chars.specs.Name.{nameOf, nameAt, readingAt}
 use Rattle.chars.specs.declared.name.Reading.{Reading}
 use Rattle.chars.specs.declared.name.Reading.the-variants.{Ends, Fault}
-use Rattle.chars.proofs.Meaning.{name-says}
+use Rattle.chars.proofs.Meaning.{name-found, name-says}
 use Rattle.paths.specs.Path.{Test, testSize, printKind, printTest, printStep}
-use Rattle.paths.specs.Reader.{kindAt, twoColons, nameBefore, testAt, withKind, stepAt, endAt}
-use Rattle.paths.specs.Place.{testPlaced, testEndAt, stepPlaced, stepEndAt, lineEndAt}
+use Rattle.paths.specs.Reader.{kindAt, twoColons, nameBefore, testAt, withKind, stepAt}
+use Rattle.paths.specs.Place.{testPlaced, testEndAt, stepPlaced, stepEndAt}
 use Rattle.paths.specs.declared.Kind.{Kind}
 use Rattle.paths.specs.declared.Kind.the-variants.{Child, Descendant, SelfStep, DescendantOrSelf}
 use Rattle.paths.specs.declared.StepEnd.{StepEnd}
 use Rattle.paths.specs.declared.StepEnd.the-variants.{Step as StepTo, Fault as NoStep}
-use Rattle.paths.specs.declared.LineEnd.the-variants.{Ends as LineEnds, Fault as NoEnd}
 
 -- a text that stands at a place ends inside
 pub room : (d : List ℕ) (at : ℕ) (w : List ℕ) {x : Bool} → x ≡ begins w (drop at d) → x ≡ true → 0 < length w → at + length w ≤ length d
@@ -32,17 +34,23 @@ room d at w q y n =
     let e : begins w (drop at d) ≡ true = sym q ∙ y in
     omega (arith, length-drop at d, ap length (begins-split w (drop at d) e) ∙ length-append w (drop (length w) (drop at d)))
 
+-- the same where the test was whether it does not stand there
+pub room-else : (d : List ℕ) (at : ℕ) (w : List ℕ) {x : Bool} → x ≡ begins w (drop at d) → not x ≡ false → 0 < length w
+    → at + length w ≤ length d
+room-else d at w {x} q n l = room d at w q (not-false x n) l
+
 -- ---- a name
 
 -- from at to e stands a name, and what follows it is left
-record NameHere (d : List ℕ) (at e : ℕ) : Type 0 where
+pub record NameHere (d : List ℕ) (at e : ℕ) : Type 0 where
   pub left : List ℕ
   pub found : nameOf (drop at d) ≡ some left
   pub size : length (drop at d) - length left ≡ e - at
+  pub rest : left ≡ drop e d
   pub on : at ≤ e
 
 module _ (d : List ℕ) (at : ℕ) {r : Reading} {e : ℕ} (f : r ≡ nameAt d at) (g : r ≡ Ends e) where
-  name-here : NameHere d at e
+  pub name-here : NameHere d at e
   unfolding nameAt endsAt
   name-here = go (nameOf (drop at d)) refl (sym g ∙ f)
     where
@@ -50,7 +58,11 @@ module _ (d : List ℕ) (at : ℕ) {r : Reading} {e : ℕ} (f : r ≡ nameAt d a
       go none h z = absurd (let z : _≡_ {A = ℕ} 0 1 = cc in omega arith)
       go (some t) h z =
           let w : e ≡ at + (length (drop at d) - length t) = cc in
-          record { left = t; found = h; size = omega arith; on = omega arith }
+          let (n, q) = reads-suffix Name (drop at d) t (name-found (drop at d) t h .0) in
+          let l : at + length n ≡ e = omega (arith, ap length q ∙ length-append n t) in
+          let r : drop e d ≡ t =
+          ap (λ (k : ℕ). drop k d) (sym l) ∙ sym (drop-drop (length n) at d) ∙ ap (drop (length n)) q ∙ drop-append-seam n t in
+          record { left = t; found = h; size = omega arith; rest = sym r; on = omega arith }
 
   pub name-on : at ≤ e
   name-on = name-here .on
@@ -131,21 +143,3 @@ module _ (d : List ℕ) (at : ℕ) {x : Bool} (q : x ≡ begins (bytes "//") (dr
         step-fault t = sym (rw (sym q ∙ n, sym f ∙ m, sym g ∙ l, sym h ∙ t))
 
 pub ruleset stepping = (step-descends, step-stays, step-anywhere, step-child, step-fault, needs)
-
--- ---- a line's end
-
-module _ (d : List ℕ) (at : ℕ) {x : Bool} (q : x ≡ begins (bytes " #\n") (drop at d)) where
-  pub end-marked : x ≡ true → LineEnds true (at + 3) ≡ lineEndAt d at
-  unfolding lineEndAt endAt
-  end-marked y = sym (rw (sym q ∙ y))
-
-  module _ (n : x ≡ false) {z : Bool} (f : z ≡ begins (bytes "\n") (drop at d)) where
-    pub end-plain : z ≡ true → LineEnds false (at + 1) ≡ lineEndAt d at
-    unfolding lineEndAt endAt
-    end-plain y = sym (rw (sym q ∙ n, sym f ∙ y))
-
-    pub end-fault : z ≡ false → NoEnd ≡ lineEndAt d at
-    unfolding lineEndAt endAt
-    end-fault m = sym (rw (sym q ∙ n, sym f ∙ m))
-
-pub ruleset ending = (end-marked, end-plain, end-fault, needs)

@@ -7,7 +7,7 @@ use mathlib.Core.Option.{Option, none, some, Option·none-ne-some, Option·some-
 use Prim.Native.Nat.{ℕ, _+_, _-_, _<_}
 use native.Mathlib.Omega.{arith}
 use lib.Dec.{eqb}
-use lib.ListN.{length, take, drop, length-append}
+use lib.ListN.{length, drop, length-append}
 use lib.Seq.{take-at, drop-append-seam}
 use Rattle.xml.specs.Notation.{bytes}
 use Rattle.xml.specs.Productions.{Name, isName, isNameStart, isNameMore}
@@ -18,7 +18,7 @@ use Rattle.xml.proofs.Character.{begins-split}
 use Rattle.xml.proofs.Language.{reads-language, language-reads}
 use Rattle.chars.specs.Name.{nameOf}
 use Rattle.paths.specs.Path.{Test, any, named, Step, printKind, printTest, printStep, ProperTest, Proper}
-use Rattle.paths.specs.Reader.{kindAt, twoColons, nameBefore, testAt, withKind, withTest, stepAt, steps}
+use Rattle.paths.specs.Reader.{kindAt, twoColons, before, nameBefore, testAt, withKind, withTest, stepAt, steps}
 use Rattle.paths.specs.declared.Kind.{Kind}
 use Rattle.paths.specs.declared.Kind.the-variants.{Child, Descendant, SelfStep, DescendantOrSelf}
 use Rattle.paths.proofs.Print.{Printed, Undoes, Found, run-found, run-none}
@@ -112,7 +112,7 @@ unfolding isName isNameStart isNameMore
 star-ends t = name-ends 0x2A t (omega arith) refl
 
 -- what stands before t in n ++ t
-take-before : (s n t : List ℕ) → s ≡ n ++ t → take (length s - length t) s ≡ n
+pub take-before : (s n t : List ℕ) → s ≡ n ++ t → before s t ≡ n
 take-before s n t q = rw q (take-at n t (length (n ++ t) - length t) (let z = length-append n t in omega arith))
 
 pub test-undoes : Undoes printTest ProperTest AfterTest testAt

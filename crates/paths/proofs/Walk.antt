@@ -12,8 +12,8 @@ use borrow.Author.Tests.{not-true, not-false}
 use lib.Dec.{leb}
 use lib.ListN.{length, drop}
 use Rattle.paths.specs.Path.{Step, Path, printLine}
-use Rattle.paths.specs.Reader.{Run, cons, steps, endAt, withEnd, lineAt}
-use Rattle.paths.specs.Judge.{smallNames, within, soundAt, lines, listAnswer}
+use Rattle.paths.specs.Reader.{Run, cons, steps, Ending, endAt, pathOf, withEnd, lineAt}
+use Rattle.paths.specs.Judge.{smallNames, smallTest, within, soundAt, lines, listAnswer}
 use Rattle.paths.specs.Place.{stepEndAt, lineEndAt}
 use Rattle.paths.specs.declared.Kind.{Kind}
 use Rattle.paths.specs.declared.ListAnswer.the-variants.{Malformed, TooLarge}
@@ -66,6 +66,11 @@ module _ {d : List ℕ} {from line at count : ℕ} {small : Bool} (w : Walking d
 
 -- ---- a line that was read
 
+sizes-within : (xs : List Step) (y : Ending) (count : ℕ) (small fine : Bool) → count ≡ length xs → small ≡ smallNames xs
+    → fine ≡ smallTest (y .test) → within (pathOf xs y) ≡ leb count 16 && (small && fine)
+unfolding within
+sizes-within xs y count small fine a b c = rw (a, b, c)
+
 module _ {d : List ℕ} {from line at count : ℕ} {small : Bool} (w : Walking d from line at count small) {r : StepEnd}
     (q : r ≡ stepEndAt d at) (f : r ≡ NoStep) where
   abbrev xs : List Step
@@ -110,24 +115,27 @@ module _ {d : List ℕ} {from line at count : ℕ} {small : Bool} (w : Walking d
         nothing [] = refl
         nothing (y ∷ ys) = refl
 
-    module _ {m : Bool} {next : ℕ} (g : k ≡ LineEnds m next) (n : count ≡ 0 → ⊥) where
-      abbrev path : Path
-      path = record { steps = xs; marked = m }
-
-      end-is : EndHere d at m next
+    module _ {name len value size : ℕ} {m : Bool} {next : ℕ} (g : k ≡ LineEnds name len value size m next) (n : count ≡ 0 → ⊥) where
+      end-is : EndHere d at name len value size m next
       end-is = end-here d at e g
 
-      line-found : lineAt (drop from d) ≡ some path
-      line-found = line-is ∙ ap (withEnd xs) (end-is .found) ∙ with-end xs m (rw (← count-is) (pos-of-ne-zero n))
+      abbrev path : Path
+      path = pathOf xs (end-is .ending)
 
-      within-is : within path ≡ leb count 16 && small
-      unfolding within
-      within-is = rw (count-is, small-names)
+      -- the sizes of the steps and of the test
+      abbrev fits : Bool
+      fits = leb count 16 && (small && (leb len 255 && leb size 255))
+
+      line-found : lineAt (drop from d) ≡ some path
+      line-found = line-is ∙ ap (withEnd xs) (end-is .found) ∙ with-end xs (end-is .ending) (rw (← count-is) (pos-of-ne-zero n))
+
+      within-is : within path ≡ fits
+      within-is = sizes-within xs (end-is .ending) count small (leb len 255 && leb size 255) count-is small-names (end-is .small)
 
       next-is : next ≡ from + length (printLine path)
       next-is =
           let b = w .passing .begun in
-          end-is .ends ∙ sym (line-ends d from at m (omega arith) (w .passing .inside) rest-is)
+          end-is .ends ∙ sym (line-ends d from at (end-is .ending) (omega arith) (w .passing .inside) rest-is)
 
       line-on : from < next
       line-on = let b = w .passing .begun in let l = end-is .on in omega arith
@@ -135,13 +143,13 @@ module _ {d : List ℕ} {from line at count : ℕ} {small : Bool} (w : Walking d
       pub line-less : length d - next < length d - from
       line-less = let l = line-on in let i = end-is .inside in omega arith
 
-      pub line-large : not (leb count 16 && small) ≡ true → TooLarge line ≡ listAnswer d
+      pub line-large : not fits ≡ true → TooLarge line ≡ listAnswer d
       unfolding soundAt
       line-large y =
           let o : within path ≡ false = within-is ∙ not-true _ y in
           line-fault (w .front) (w .some) (w .few) (rw (line-found, o)) (some path) line-found
 
-      pub line-next : not (leb count 16 && small) ≡ false → AtLine d next (line + 1)
+      pub line-next : not fits ≡ false → AtLine d next (line + 1)
       unfolding soundAt lines
       line-next y =
           let s : soundAt (drop from d) ≡ some path = rw (line-found, within-is ∙ not-false _ y) in

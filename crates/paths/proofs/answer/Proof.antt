@@ -1,9 +1,10 @@
 -- `answer` meets its contract. At a line's front the lines before are sound. Within a line its steps so far are counted, and `small` says
 -- that none of their names is too long. Both measures are what is left of the list. proofs/Front.antt and proofs/Walk.antt have the laws.
 use Prim.Native.Nat.{_-_}
+use borrow.Author.Needs.{needs}
 use lib.ListN.{length}
 use Rattle.paths.proofs.Front.{AtLine}
-use Rattle.paths.proofs.Walk.{Walking, walk}
+use Rattle.paths.proofs.Walk.{Walking, line-next, walk}
 use Rattle.paths.proofs.answer.Statement.{statement}
 use Rattle.paths.proofs.answer.Tie as tie
 
@@ -49,8 +50,8 @@ enum-told c = search walk
 end-at-requires : tie.Need-end-at-requires Inv-steps μ-steps Inv-lines μ-lines
 end-at-requires c κs = search walk
 
-enum-known-next : tie.Need-enum-known-next Inv-steps μ-steps Inv-lines μ-lines
-enum-known-next c = search walk
+enum-known-len-2 : tie.Need-enum-known-len-2 Inv-steps μ-steps Inv-lines μ-lines
+enum-known-len-2 c = search walk
 
 enum-told-2 : tie.Need-enum-told-2 Inv-steps μ-steps Inv-lines μ-lines
 enum-told-2 c = search walk
@@ -62,7 +63,11 @@ lines-less : tie.Need-lines-less Inv-steps μ-steps Inv-lines μ-lines
 lines-less c = search walk
 
 lines-again : tie.Need-lines-again Inv-steps μ-steps Inv-lines μ-lines
-lines-again c = search walk
+lines-again c =
+    let ended = c .before .before .before .before in
+    let stopped = ended .before .before .before .before in
+    line-next (stopped .before .steps .inv) (stopped .step-at .ensures) (search needs) (ended .end-at .ensures)
+    (c .before .before .len2 .given .1) (search needs) (c .if5 .left)
 
 returns-2 : tie.Need-returns-2 Inv-steps μ-steps Inv-lines μ-lines
 returns-2 c = search walk
@@ -97,7 +102,7 @@ answer-spec =
     steps-again
     enum-told
     end-at-requires
-    enum-known-next
+    enum-known-len-2
     enum-told-2
     add-line
     lines-less
