@@ -69,8 +69,19 @@ fn colons() {
     lines(13, b"/self:::", b"n", 252, b"\n");
 }
 
+// In order: bytes of a test's name, and of its value; two and three bytes each of a value; a value with `<` at its end; steps and a test.
+fn tests() {
+    lines(14, b"/a[@", b"n", 253, b"=\"x\"]\n");
+    lines(15, b"/a[@k=\"", b"n", 253, b"\"]\n");
+    lines(16, b"/a[@k=\"n", b"\xC3\xA9", 125, b"\"] #\n");
+    lines(17, b"/*[@k=\"", b"\xE2\x82\xAC", 83, b"\"]\n");
+    lines(18, b"/a[@k=\"", b"n", 253, b"<\"]\n");
+    lines(19, b"", b"/a", 14, b"[@k=\"x\"]\n");
+}
+
 pub fn print() {
     out::text(b"list, how often its piece stands there, and what is answered\n");
     plain();
     colons();
+    tests();
 }

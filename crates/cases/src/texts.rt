@@ -9,7 +9,7 @@ use crate::parts;
 use chars::space::after_space;
 
 // Bytes that stand for each byte in turn.
-const OTHERS: [u8; 17] = [
+const OTHERS: [u8; 27] = [
     b'/',
     b'*',
     b' ',
@@ -27,6 +27,16 @@ const OTHERS: [u8; 17] = [
     0xCC,
     0x80,
     0xFF,
+    b'[',
+    b'@',
+    b'=',
+    b'"',
+    b']',
+    b'<',
+    b'&',
+    b'\'',
+    0x1F,
+    0x7F,
 ];
 
 // All answers on a text, folded into a sum.
@@ -44,9 +54,9 @@ fn replaced(text: [u8; 256], n: usize) -> usize
 {
     let mut h: usize = 0;
     let mut k: usize = 0;
-    while k < 17 * n {
+    while k < 27 * n {
         let mut s = text;
-        s[k / 17] = OTHERS[k % 17];
+        s[k / 27] = OTHERS[k % 27];
         h = fold_all(h, answers::front(&s, n));
         k += 1;
     }
@@ -85,7 +95,8 @@ pub fn show(s: &[u8]) {
 
 // A line of the list each: ASCII; U+E9 and the same as a letter and U+301, U+300 first, U+B7, U+D7, U+F7, U+37E; U+2C00, U+3000, U+3001,
 // U+203F, U+10000 and U+EFFFF, U+F0000; nothing, bytes that begin nothing, sequences that are cut off; overlong forms of a letter, a
-// surrogate, U+FFFE, a code point past the last; white space, and what is none: U+B, U+C, U+A0, U+2003; path lists in five lines.
+// surrogate, U+FFFE, a code point past the last; white space, and what is none: U+B, U+C, U+A0, U+2003; path lists in eight lines, the last
+// three with tests of an attribute.
 pub fn print() {
     out::text(
         b"bytes; name ends from 0, 1; space ends from 0, 100; as a list; replaced, cut off\n",
@@ -101,7 +112,10 @@ pub fn print() {
         //b/*//c #\n/d\n|/g/p/v\n//n #\n//v//n\n|\
         /\xC3\xA9/e\xCC\x81\n|/:a/_b-1.2\n//*/x #\n|\
         /self::p\n|/self:::p #\n|/descendant-or-self::*/a\n|/a/descendant-or-self::b:c/self::*\n|//self:p/self\n|\
-        /self::self::p\n|//self::p\n|/a\n/b::c\n|/child::p/Self::p\n|/self::\xC3\xA9:e\xCC\x81::\n|",
+        /self::self::p\n|//self::p\n|/a\n/b::c\n|/child::p/Self::p\n|/self::\xC3\xA9:e\xCC\x81::\n|\
+        /a[@k=\"x\"]\n|//place[@type=\"village\"] #\n|/*[@a::b=\"\"]\n|/a/self::*[@k=\" #\"] #\n/b\n|\
+        /descendant-or-self::\xC3\xA9[@e\xCC\x81=\"\xC3\xA9 e\xCC\x81\x7F\xC2\x85\"]\n|/a\n//b[@k=\"]'[@l='>/\"]\n|\
+        /a[@k=\"x\"]/b\n|/a[@k=\"x\"][@l=\"y\"]\n|/a[@k='x']\n|/a[@k=\"a<b\"]\n|/a[@k=\"&amp;\"] #\n|",
         false,
     );
 }

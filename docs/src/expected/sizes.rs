@@ -11,7 +11,8 @@ fn sizes(row: usize, first: &[u8], piece: &[u8], n: usize, last: &[u8]) {
 
 /// In order: lines, from 0 and from 30 on; lines and a malformed one; steps; steps, malformed; bytes of a name; two bytes each of a name;
 /// bytes after a line. Then bytes of a name behind the two longer kinds of step; steps of these kinds; a name with two colons; a name that
-/// begins with one.
+/// begins with one. Then bytes of a test's name, and of its value; two and three bytes each of a value; a value with `<` at its end; steps
+/// and a test.
 pub fn print() {
     println!("list, how often its piece stands there, and what is answered");
     sizes(0, b"", b"/a\n", 0, b"");
@@ -28,4 +29,10 @@ pub fn print() {
     sizes(11, b"//b", b"/descendant-or-self::*", 13, b"\n");
     sizes(12, b"/", b"n", 252, b"::\n");
     sizes(13, b"/self:::", b"n", 252, b"\n");
+    sizes(14, b"/a[@", b"n", 253, b"=\"x\"]\n");
+    sizes(15, b"/a[@k=\"", b"n", 253, b"\"]\n");
+    sizes(16, b"/a[@k=\"n", "é".as_bytes(), 125, b"\"] #\n");
+    sizes(17, b"/*[@k=\"", "€".as_bytes(), 83, b"\"]\n");
+    sizes(18, b"/a[@k=\"", b"n", 253, b"<\"]\n");
+    sizes(19, b"", b"/a", 14, b"[@k=\"x\"]\n");
 }

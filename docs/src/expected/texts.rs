@@ -4,7 +4,7 @@ use crate::chars::{checked, hex, sum};
 use crate::plain::{chars, paths};
 
 /// Bytes that stand for each byte of a list in turn.
-const OTHERS: &[u8] = b"/* #\na1-:.\r\x00\xC3\xA9\xCC\x80\xFF";
+const OTHERS: &[u8] = b"/* #\na1-:.\r\x00\xC3\xA9\xCC\x80\xFF[@=\"]<&'\x1F\x7F";
 
 /// The end of the name at a place, 0 where there is none.
 fn named(s: &[u8], at: usize) -> usize {
@@ -41,7 +41,7 @@ fn show(s: &[u8]) {
 
 pub fn print() {
     println!("bytes; name ends from 0, 1; space ends from 0, 100; as a list; replaced, cut off");
-    let texts: [&[u8]; 63] = [
+    let texts: [&[u8]; 74] = [
         b"a", b"report", b"_1.2-3", b":", b"a:b:c", b"-a", b".a", b"1a", b"a b", b"a=", b"a/>", b"a\x00b", b"a@[`{",
         "été".as_bytes(), "e\u{301}te".as_bytes(), "\u{300}a".as_bytes(), "a\u{B7}b".as_bytes(), "\u{B7}".as_bytes(),
         "a\u{D7}b".as_bytes(), "a\u{F7}b".as_bytes(), "a\u{37E}b".as_bytes(), "\u{2C00}".as_bytes(), "\u{3000}a".as_bytes(),
@@ -53,6 +53,9 @@ pub fn print() {
         b"/g/p/v\n//n #\n//v//n\n", b"/\xC3\xA9/e\xCC\x81\n", b"/:a/_b-1.2\n//*/x #\n",
         b"/self::p\n", b"/self:::p #\n", b"/descendant-or-self::*/a\n", b"/a/descendant-or-self::b:c/self::*\n", b"//self:p/self\n",
         b"/self::self::p\n", b"//self::p\n", b"/a\n/b::c\n", b"/child::p/Self::p\n", "/self::é:e\u{301}::\n".as_bytes(),
+        b"/a[@k=\"x\"]\n", b"//place[@type=\"village\"] #\n", b"/*[@a::b=\"\"]\n", b"/a/self::*[@k=\" #\"] #\n/b\n",
+        "/descendant-or-self::é[@e\u{301}=\"é e\u{301}\u{7F}\u{85}\"]\n".as_bytes(), b"/a\n//b[@k=\"]'[@l='>/\"]\n",
+        b"/a[@k=\"x\"]/b\n", b"/a[@k=\"x\"][@l=\"y\"]\n", b"/a[@k='x']\n", b"/a[@k=\"a<b\"]\n", b"/a[@k=\"&amp;\"] #\n",
     ];
     texts.iter().for_each(|s| show(s));
 }

@@ -11,9 +11,34 @@ fn test(rest: &str) -> Option<&str> {
     Some(longer.unwrap_or(behind))
 }
 
-/// How many steps a line has and how long its longest name is; or nothing where it is malformed.
-fn steps(line: &str) -> Option<(usize, usize)> {
-    let mut rest = line.strip_suffix(" #").unwrap_or(line);
+/// "is UTF-8 of Char, and has no `"`, `<`, `&` or character below U+0020"
+fn is_value(value: &str) -> bool {
+    value.chars().all(|c| chars::is_char(c) && c >= ' ' && !['"', '<', '&'].contains(&c))
+}
+
+/// The test of an attribute at the end of a line without its mark: what stands before it, its name and its value; nothing of the two where
+/// there is none. It is looked for from the end: no value has a quote, so the last `="` is its own, and no name has `[`.
+fn tested(line: &str) -> Option<(&str, &str, &str)> {
+    let inside = match line.strip_suffix("\"]") {
+        None => return Some((line, "", "")),
+        Some(inside) => inside,
+    };
+    let (front, value) = inside.rsplit_once("=\"")?;
+    let (steps, name) = front.rsplit_once("[@")?;
+    let is_name = !name.is_empty() && chars::name(name.as_bytes(), 0) == name.len();
+    (is_name && is_value(value)).then_some((steps, name, value))
+}
+
+/// How many steps a line has and how long its longest name or value is; or nothing where it is malformed.
+fn judged(line: &str) -> Option<(usize, usize)> {
+    let (before, name, value) = tested(line.strip_suffix(" #").unwrap_or(line))?;
+    let (count, longest) = steps(before)?;
+    Some((count, longest.max(name.len()).max(value.len())))
+}
+
+/// How many steps there are and how long their longest name is; or nothing where they are malformed.
+fn steps(steps: &str) -> Option<(usize, usize)> {
+    let mut rest = steps;
     let (mut count, mut longest) = (0, 0);
     while !rest.is_empty() {
         rest = test(rest)?;
@@ -49,7 +74,7 @@ pub fn answer(list: &[u8]) -> (usize, usize) {
             Some(end) => end,
             None => return (2, line),
         };
-        match std::str::from_utf8(&rest[..end]).ok().and_then(steps) {
+        match std::str::from_utf8(&rest[..end]).ok().and_then(judged) {
             None => return (2, line),
             Some((count, longest)) if count > 16 || longest > 255 => return (3, line),
             Some(_) => rest = &rest[end + 1..],

@@ -6,10 +6,10 @@ use Rattle.cases.proofs.texts.replaced.Statement.{statement}
 use Rattle.cases.proofs.texts.replaced.Tie as tie
 
 abbrev Inv-loop : tie.InvT-loop
-Inv-loop text n h₀ k₀ h k = k ≤ 17 * n
+Inv-loop text n h₀ k₀ h k = k ≤ 27 * n
 
 abbrev μ-loop : tie.MeasureT-loop
-μ-loop text n h₀ k₀ h k = 17 * n - k
+μ-loop text n h₀ k₀ h k = 27 * n - k
 
 loop-holds : tie.Need-loop-holds Inv-loop μ-loop
 loop-holds c = search needs
