@@ -48,7 +48,9 @@ fn is_too_large(kind: &Kind, place: &Place) -> bool {
 }
 
 fn is_tag_too_large(tag: &Tag) -> bool {
-    tag.name.len() > NAME_BYTES || tag.attributes.len() > TAG_ATTRIBUTES || tag.attributes.iter().any(|name| name.len() > NAME_BYTES)
+    tag.name.len() > NAME_BYTES
+        || tag.attributes.len() > TAG_ATTRIBUTES
+        || tag.attributes.iter().any(|attribute| attribute.name.len() > NAME_BYTES)
 }
 
 /// "One root. Outside it only comments, instructions and white-space text. End tags match."
@@ -66,7 +68,7 @@ fn is_out_of_place(kind: &Kind, place: &Place) -> bool {
 fn has_repeated_attribute(kind: &Kind) -> bool {
     match kind {
         Kind::StartOrEmpty(tag) => {
-            let names = &tag.attributes;
+            let names: Vec<&str> = tag.attributes.iter().map(|attribute| attribute.name).collect();
             (0..names.len()).any(|later| names[..later].contains(&names[later]))
         }
         _ => false,

@@ -1,8 +1,8 @@
-//! The filter of document 01 with the requests of document 02, written a second time from these pages alone,
+//! The filter of document 01 with the requests of document 02, written a second time from these pages alone,
 //! slow and obvious. Here: the numbers handed back and the three public questions. The list is in `list`, the characters in
 //! `chars`, the productions in `declaration`, `markup`, `reference` and `tag` over `reader`, the items in `items`, their
-//! faults in `faults`, the tree in `tree` and `document`, the choice of places in `select`, the bytes in `write`, what
-//! the program prints in `program`.
+//! faults in `faults`, the tree in `tree` and `document`, the choice of places in `select`, what an attribute's value means
+//! in `value`, the bytes in `write`, what the program prints in `program`.
 
 mod chars;
 mod declaration;
@@ -20,6 +20,7 @@ mod tag;
 #[cfg(test)]
 mod tests;
 mod tree;
+mod value;
 mod write;
 
 /// Document 01's answer: the number, the second number and the third.

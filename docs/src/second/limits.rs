@@ -1,11 +1,12 @@
-//! The sizes of document 01, under "Sizes" and "The program `cut`". "The limit itself is accepted, one more is
-//! refused", so every comparison with one of these is `>`.
+//! The sizes of document 01, under "Sizes" and "The program `cut`", and that of a value in a list, document 02, Q-4. "The
+//! limit itself is accepted, one more is refused", so every comparison with one of these is `>`.
 
 pub const LIST_BYTES: usize = 8_192;
 pub const LIST_LINES: usize = 32;
 pub const LINE_STEPS: usize = 16;
 pub const DOCUMENT_BYTES: usize = 16_777_216;
 pub const NAME_BYTES: usize = 255;
+pub const VALUE_BYTES: usize = 255;
 pub const DEPTH: usize = 64;
 pub const TAG_ATTRIBUTES: usize = 32;
 

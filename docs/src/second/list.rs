@@ -1,7 +1,9 @@
 //! The path list: lines of steps, each line perhaps marked. "Lines are judged in order: the first line with a fault
-//! decides." Within a line, malformed (2) comes before too large (3). Two of the four kinds of step are document 02's, Q-6.
+//! decides." Within a line, malformed (2) comes before too large (3). Two of the four kinds of step are document 02's, Q-6,
+//! and so is the test of an attribute behind the last step, Q-4.
 
-use crate::limits::{LINE_STEPS, LIST_BYTES, LIST_LINES, NAME_BYTES};
+use crate::chars::is_char;
+use crate::limits::{LINE_STEPS, LIST_BYTES, LIST_LINES, NAME_BYTES, VALUE_BYTES};
 use crate::reader::Reader;
 use crate::{refusal, Numbers};
 
@@ -22,8 +24,16 @@ pub struct Step<'a> {
     pub test: Test<'a>,
 }
 
+/// `[@name="value"]`
+pub struct AttributeTest<'a> {
+    pub name: &'a str,
+    pub value: &'a str,
+}
+
 pub struct Path<'a> {
     pub steps: Vec<Step<'a>>,
+    /// The last step's.
+    pub attribute: Option<AttributeTest<'a>>,
     pub is_marked: bool,
 }
 
@@ -48,7 +58,8 @@ pub fn paths(list: &[u8]) -> Result<Vec<Path<'_>>, Numbers> {
     Ok(found)
 }
 
-/// "A line is one or more steps, then optionally one space and `#`", "each ended by LF, the last also".
+/// "A line is one or more steps, then optionally one space and `#`", "each ended by LF, the last also". Q-4: "The last step
+/// of a line, and only the last, may carry one such test, before the space and #."
 fn path(line: &[u8]) -> Option<Path<'_>> {
     let text = std::str::from_utf8(line).ok()?;
     let mut reader = Reader::new(text.strip_suffix('\n')?);
@@ -56,11 +67,12 @@ fn path(line: &[u8]) -> Option<Path<'_>> {
     while reader.sees("/") {
         steps.push(step(&mut reader)?);
     }
+    let attribute = if reader.sees("[") { Some(attribute_test(&mut reader)?) } else { None };
     let is_marked = reader.take(" #");
     if !reader.is_at_end() {
         return None;
     }
-    Some(Path { steps, is_marked })
+    Some(Path { steps, attribute, is_marked })
 }
 
 /// "A step is `/` (child) or `//` (descendant), then `*` or a Name", or it has another axis "before a test".
@@ -90,8 +102,29 @@ fn tested<'a>(reader: &mut Reader<'a>) -> Option<&'a str> {
     reader.name().filter(|name| !name.contains("::"))
 }
 
+/// Without blanks and in these quotes alone (reading R-10). Its name may have two colons side by side: it is no name test of
+/// a step (reading R-14).
+fn attribute_test<'a>(reader: &mut Reader<'a>) -> Option<AttributeTest<'a>> {
+    reader.want("[@")?;
+    let name = reader.name()?;
+    reader.want("=\"")?;
+    let value = reader.run(is_of_value);
+    reader.want("\"]")?;
+    Some(AttributeTest { name, value })
+}
+
+/// Q-4: "UTF-8 of Char, and has no `"`, `<`, `&` or character below U+0020".
+fn is_of_value(c: char) -> bool {
+    is_char(c) && c >= '\u{20}' && c != '"' && c != '<' && c != '&'
+}
+
 fn is_too_large(path: &Path) -> bool {
-    path.steps.len() > LINE_STEPS || path.steps.iter().any(is_name_too_large)
+    path.steps.len() > LINE_STEPS || path.steps.iter().any(is_name_too_large) || path.attribute.as_ref().map_or(false, is_test_too_large)
+}
+
+/// Q-4: "a name or value over 255 bytes is 3".
+fn is_test_too_large(test: &AttributeTest) -> bool {
+    test.name.len() > NAME_BYTES || test.value.len() > VALUE_BYTES
 }
 
 fn is_name_too_large(step: &Step) -> bool {

@@ -1,14 +1,17 @@
 //! What a path selects, by trying every choice of places for its steps, as the definition in document 01 reads, with the
-//! two steps that Q-6 of document 02 adds. The choices are tried one by one and nothing is remembered between them, so a
-//! path of many `//` or `/descendant-or-self::` steps on a deep chain of names that nearly fit takes very long.
+//! two steps that Q-6 of document 02 adds and the test of Q-4. The choices are tried one by one and nothing is remembered
+//! between them, so a path of many `//` or `/descendant-or-self::` steps on a deep chain of names that nearly fit takes very
+//! long.
 
-use crate::list::{Axis, Path, Step, Test};
+use crate::list::{AttributeTest, Axis, Path, Step, Test};
+use crate::tag::Attribute;
 use crate::tree::{Element, Selection};
+use crate::value::normal;
 
 /// Notes on every element of the tree how the paths select it. `above` holds the names from the root to its parent.
 pub fn mark<'a>(element: &mut Element<'a>, above: &mut Vec<&'a str>, paths: &[Path]) {
     above.push(element.name);
-    element.selection = selection(above, paths);
+    element.selection = selection(above, &element.attributes, paths);
     for child in &mut element.children {
         mark(child, above, paths);
     }
@@ -22,19 +25,26 @@ pub fn count(element: &Element) -> u64 {
 }
 
 /// How the paths select the element whose names from the root down are `names`. A marked path wins over a plain one.
-fn selection(names: &[&str], paths: &[Path]) -> Selection {
-    if paths.iter().any(|path| path.is_marked && selects(path, names)) {
+fn selection(names: &[&str], attributes: &[Attribute], paths: &[Path]) -> Selection {
+    if paths.iter().any(|path| path.is_marked && selects(path, names, attributes)) {
         Selection::Marked
-    } else if paths.iter().any(|path| selects(path, names)) {
+    } else if paths.iter().any(|path| selects(path, names, attributes)) {
         Selection::Plain
     } else {
         Selection::No
     }
 }
 
-/// "A path of m steps selects it if places can be chosen for its steps so that: the last step has place k".
-fn selects(path: &Path, names: &[&str]) -> bool {
-    can_be_laid(&path.steps, names, names.len())
+/// "A path of m steps selects it if places can be chosen for its steps so that: the last step has place k". The test is the
+/// last step's, so it is of the element itself.
+fn selects(path: &Path, names: &[&str], attributes: &[Attribute]) -> bool {
+    path.attribute.as_ref().map_or(true, |test| passes(test, attributes)) && can_be_laid(&path.steps, names, names.len())
+}
+
+/// Q-4: "The element passes if it has that attribute and the value ... equals it byte for byte." One that is not there equals
+/// no value, the empty one neither (reading R-15).
+fn passes(test: &AttributeTest, attributes: &[Attribute]) -> bool {
+    attributes.iter().any(|attribute| attribute.name == test.name && normal(attribute.value) == test.value)
 }
 
 /// Can places be chosen for these steps so that the last of them has this place? Places count from 1; "before the first

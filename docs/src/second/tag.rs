@@ -1,14 +1,20 @@
 //! Tags: productions [10], [40] to [42] and [44] of XML 1.0. Names and attributes are handed on as they stand; how
-//! large they may be and whether one comes twice is judged in `faults`.
+//! large they may be and whether one comes twice is judged in `faults`, what a value means in `value`.
 
 use crate::declaration::equals;
 use crate::reader::Reader;
 use crate::reference::reference;
 
+/// An attribute, its value as it stands between the quotes.
+pub struct Attribute<'a> {
+    pub name: &'a str,
+    pub value: &'a str,
+}
+
 /// A start tag or an empty tag.
 pub struct Tag<'a> {
     pub name: &'a str,
-    pub attributes: Vec<&'a str>,
+    pub attributes: Vec<Attribute<'a>>,
     pub is_empty: bool,
 }
 
@@ -33,27 +39,28 @@ pub fn start_or_empty_tag<'a>(reader: &mut Reader<'a>) -> Option<Tag<'a>> {
 }
 
 /// [41] Attribute ::= Name Eq AttValue
-fn attribute<'a>(reader: &mut Reader<'a>) -> Option<&'a str> {
+fn attribute<'a>(reader: &mut Reader<'a>) -> Option<Attribute<'a>> {
     let name = reader.name()?;
     equals(reader)?;
-    attribute_value(reader)?;
-    Some(name)
+    let value = attribute_value(reader)?;
+    Some(Attribute { name, value })
 }
 
 /// [10] AttValue ::= '"' ([^<&"] | Reference)* '"' | "'" ([^<&'] | Reference)* "'"
-fn attribute_value(reader: &mut Reader) -> Option<()> {
+fn attribute_value<'a>(reader: &mut Reader<'a>) -> Option<&'a str> {
     let quote = reader.one()?;
     if quote != '"' && quote != '\'' {
         return None;
     }
+    let from = reader.rest();
     loop {
         reader.run(|c| c != '<' && c != '&' && c != quote);
         if reader.sees("&") {
             reference(reader)?;
-        } else if reader.one()? == quote {
-            return Some(());
+        } else if reader.take(&quote.to_string()) {
+            return Some(&from[..from.len() - reader.rest().len() - quote.len_utf8()]);
         } else {
-            // It was `<`: "no `<` in an attribute value".
+            // It is `<`, "no `<` in an attribute value", or the end.
             return None;
         }
     }

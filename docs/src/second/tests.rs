@@ -1,6 +1,7 @@
-//! Tests of the filter against document 01 and of document 02. Every expected value is worked out by hand from
-//! these pages. Here are the questions that the tests ask; each of them checks every byte of the lent output.
+//! Tests of the filter against document 01 and of document 02. Every expected value is worked out by hand
+//! from these pages. Here are the questions that the tests ask; each of them checks every byte of the lent output.
 
+mod attributes;
 mod axes;
 mod characters;
 mod declaration;
@@ -12,12 +13,14 @@ mod lists;
 mod markup;
 mod names;
 mod order;
+mod passing;
 mod program;
 mod readings;
 mod references;
 mod same_place;
 mod selection;
 mod tags;
+mod values;
 mod written;
 
 use crate::{cut, judge, whole, Numbers};

@@ -1,11 +1,11 @@
-//! The tree of a sound document: its elements, each with its name, the bytes of its tags and its children. Text,
-//! comments, instructions and the rest leave nothing in the tree, since "everything else is dropped".
+//! The tree of a sound document: its elements, each with its name, its attributes, the bytes of its tags and its children.
+//! Text, comments, instructions and the rest leave nothing in the tree, since "everything else is dropped".
 
 use std::ops::Range;
 
 use crate::faults::{fault, Place};
 use crate::items::{Item, Kind};
-use crate::tag::Tag;
+use crate::tag::{Attribute, Tag};
 
 /// How the paths select an element.
 #[derive(Clone, Copy, PartialEq, Eq)]
@@ -18,6 +18,7 @@ pub enum Selection {
 
 pub struct Element<'a> {
     pub name: &'a str,
+    pub attributes: Vec<Attribute<'a>>,
     /// The bytes of the start tag or of the empty tag.
     pub start: Range<usize>,
     /// The bytes of the end tag; "an empty tag is its own end".
@@ -60,8 +61,8 @@ pub fn tree<'a>(items: Vec<Item<'a>>, length: usize) -> Result<Element<'a>, Faul
 fn ended_by<'a>(item: Item<'a>, open: &mut Vec<Element<'a>>) -> Option<Element<'a>> {
     match item.kind {
         Kind::StartOrEmpty(tag) => {
-            let element = begun(&tag, item.bytes);
-            if tag.is_empty {
+            let element = begun(tag, item.bytes);
+            if element.is_empty {
                 return Some(element);
             }
             open.push(element);
@@ -77,6 +78,7 @@ fn ended_by<'a>(item: Item<'a>, open: &mut Vec<Element<'a>>) -> Option<Element<'
 }
 
 /// An element as its first tag gives it. The end of one that is not empty is set when its end tag comes.
-fn begun<'a>(tag: &Tag<'a>, bytes: Range<usize>) -> Element<'a> {
-    Element { name: tag.name, start: bytes.clone(), end: bytes, is_empty: tag.is_empty, children: Vec::new(), selection: Selection::No }
+fn begun<'a>(tag: Tag<'a>, bytes: Range<usize>) -> Element<'a> {
+    let Tag { name, attributes, is_empty } = tag;
+    Element { name, attributes, start: bytes.clone(), end: bytes, is_empty, children: Vec::new(), selection: Selection::No }
 }
