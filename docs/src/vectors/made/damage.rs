@@ -3,7 +3,7 @@
 
 use super::random::Random;
 
-const TELLING: &[u8] = b"<>&/!-]?'\"= \t\n\r\0#;*:x0\x7f\x80\xbf\xc0\xe0\xed\xef\xf4\xff";
+const TELLING: &[u8] = b"<>&/!-[]@?'\"= \t\n\r\0#;*:x0\x7f\x80\xbf\xc0\xe0\xed\xef\xf4\xff";
 
 #[rustfmt::skip]
 const IN_DOCUMENTS: &[&[u8]] = &[
@@ -12,6 +12,7 @@ const IN_DOCUMENTS: &[&[u8]] = &[
     b"&nbsp;", b"&#X41;", b" xmlns:a='1'", b" k='1'", b" k='1' k='2'", b" k=1", b" k", b"<a>", b"</a>", b"<a/>", b"</ a>", b"<a / >",
     b"</>", b"<>", b"/>", b"\xef\xbb\xbf", b"\xef\xbf\xbe", b"\xed\xa0\x80", b"\xc0\x80", b"\xe0\x80\x80", b"\xf0\x90\x80",
     b"\xf4\x90\x80\x80", b"\xc3\xa9", b"e\xcc\x81", b"\xf0\x90\x80\x80", b"\xc2\x85", b"\xe2\x80\xa8", b"\x0b", b"Aar", b"\n",
+    b"\r", b"\r\n", b"\t", b"&#9;", b"&#10;", b"&#13;", b"&#32;", b"&#x31;", b" k='a\r\nb'", b" k=\"a&#10;b\"", b" l='&#49;'", b" k = ''",
 ];
 
 /// Sound and unsound declarations, and what may stand outside the root or not.
@@ -34,6 +35,9 @@ const IN_LISTS: &[&[u8]] = &[
     b"/a\n", b"/1", b"\xc3\xa9", b"e\xcc\x81", b"\xcc\x81", b"\xc3", b"\xef\xbb\xbf", b"\xff", b"\xf0\x90\x80\x80", b"/\xc3\x97", b"\0",
     b"/a[1]", b"/@k", b"/..", b"/x:y", b"|", b";", b"::", b":", b"self::", b"/self::", b"/self::a", b"/self::*", b"/self:::a", b"/self:a",
     b"//self::a", b"/Self::a", b"/child::a", b"/a::b", b"descendant-or-self::", b"/descendant-or-self::", b"/descendant-or-self::a",
+    b"[@k=\"1\"]", b"[@k=\"\"]", b"[@a::b=\"1\"]", b"[@k=\"1\"] #", b"[@k='1']", b"[@k]", b"[@*=\"1\"]", b"[k=\"1\"]",
+    b"[@k=\"1\"][@l=\"1\"]", b"[@k = \"1\"]", b"[@k=\"1\"]/a", b"[@k=\"&gt;\"]", b"[@k=\"<\"]", b"[@k=\"1", b"[@", b"=\"", b"\"]",
+    b"\"] #", b"[", b"]", b"]]", b"\"",
 ];
 
 pub fn document(doc: &[u8], from: usize, random: &mut Random) -> Vec<u8> {
@@ -68,7 +72,7 @@ fn damaged(bytes: &[u8], from: usize, fragments: &[&[u8]], random: &mut Random) 
     for _ in 0..random.pick(&[1, 1, 1, 1, 1, 2]) {
         let mut at = random.between(from.min(bytes.len()), bytes.len());
         if random.one_in(2) {
-            at += bytes[at..].iter().take_while(|b| !b"<&/".contains(b)).count();
+            at += bytes[at..].iter().take_while(|b| !b"<&/[".contains(b)).count();
         }
         hurt(&mut bytes, at, fragments, random);
     }

@@ -1,6 +1,6 @@
 // Sound documents over a few names, so that paths hit: elements inside elements to a moderate depth, and every kind of item among them.
 // Of those with a declaration one in twenty names another encoding than UTF-8, and is sound but for that. With the bytes come the chains,
-// the names from the root down to each element, for the lists to be made by.
+// the names from the root down to each element, and the attributes of each, for the lists to be made by.
 
 use super::random::Random;
 
@@ -12,10 +12,18 @@ const NAMES: &[&str] = &[
     "self:a", "self::a", "a::b",
 ];
 #[rustfmt::skip]
-const ATTRIBUTES: &[&str] = &["k", "kk", "l", "xmlns:a", "xmlns", "\u{e9}", "e\u{301}", "a", "_", "\u{10000}"];
+const ATTRIBUTES: &[&str] = &["k", "kk", "K", "l", "xmlns:a", "xmlns", "\u{e9}", "e\u{301}", "a", "a::b", "_", "\u{10000}"];
+/// Values with their quotes, and the value that a test in a list has to have to pass; where none passes, one that nearly would.
 #[rustfmt::skip]
-const VALUES: &[&str] = &[
-    "'1'", "\"1\"", "''", "\"\"", "\"&lt;\"", "'\"'", "\"'\"", "'>'", "\"/>\"", "'a\n b'", "']]>'", "'\u{e9}&#xe9;'", "'--'",
+pub const VALUES: &[(&str, &str)] = &[
+    ("'1'", "1"), ("\"1\"", "1"), ("\"&#49;\"", "1"), ("' 1 '", " 1 "), ("''", ""), ("\"\"", ""), ("\"'\"", "'"), ("'&apos;'", "'"),
+    ("'>'", ">"), ("'&gt;'", ">"), ("\"/>\"", "/>"), ("']]>'", "]]>"), ("\"]\"", "]"), ("'--'", "--"), ("' #'", " #"), ("'a b'", "a b"),
+    ("'a\tb'", "a b"), ("\"a\nb\"", "a b"), ("'a\rb'", "a b"), ("\"a\r\nb\"", "a b"), ("'a&#32;b'", "a b"), ("'a\n b'", "a  b"),
+    ("'a\n\rb'", "a  b"), ("'\u{e9}&#xe9;'", "\u{e9}\u{e9}"), ("\"e\u{301}\"", "e\u{301}"), ("'\u{10000}'", "\u{10000}"),
+    ("'&#x10000;'", "\u{10000}"),
+    // None passes.
+    ("\"&lt;\"", ">"), ("'\"'", "'"), ("'&amp;gt;'", ">"), ("'a&#10;b'", "a b"), ("\"a&#x9;b\"", "a b"), ("'a&#13;b'", "a b"),
+    ("'a\r&#10;b'", "a  b"), ("'a&#13;\nb'", "a  b"),
 ];
 #[rustfmt::skip]
 const TEXTS: &[&str] = &[
@@ -51,7 +59,12 @@ const DEPTH: usize = 7;
 pub struct Grown {
     pub bytes: Vec<u8>,
     pub names: Vec<&'static str>,
+    /// Names of attributes, and values as in VALUES. There are few of each, so that the same come again.
+    pub attributes: Vec<&'static str>,
+    pub values: Vec<(&'static str, &'static str)>,
     pub chains: Vec<Vec<&'static str>>,
+    /// The attributes of each chain's last element: the name, and the value that a test has to have.
+    pub owned: Vec<Vec<(&'static str, &'static str)>>,
 }
 
 struct Grower<'a> {
@@ -64,8 +77,10 @@ struct Grower<'a> {
 
 pub fn document(random: &mut Random) -> Grown {
     let names = (0..random.between(2, 4)).map(|_| random.pick(NAMES)).collect();
+    let attributes = (0..random.between(1, 3)).map(|_| random.pick(ATTRIBUTES)).collect();
+    let values = (0..random.between(2, 4)).map(|_| random.pick(VALUES)).collect();
     let left = random.between(1, 14);
-    let grown = Grown { bytes: Vec::new(), names, chains: Vec::new() };
+    let grown = Grown { bytes: Vec::new(), names, attributes, values, chains: Vec::new(), owned: Vec::new() };
     let mut grower = Grower { random, grown, chain: Vec::new(), left };
     grower.document();
     grower.grown
@@ -123,17 +138,20 @@ impl Grower<'_> {
     }
 
     fn attributes(&mut self) {
-        let mut told: Vec<&str> = Vec::new();
-        while self.random.one_in(4) && told.len() < 4 {
-            let name = self.random.pick(ATTRIBUTES);
-            if !told.contains(&name) {
-                told.push(name);
+        let mut told: Vec<(&str, &str)> = Vec::new();
+        while self.random.one_in(3) && told.len() < 4 {
+            let rare = self.random.one_in(5);
+            let name = if rare { self.random.pick(ATTRIBUTES) } else { self.random.pick(&self.grown.attributes) };
+            let (value, passing) = if rare { self.random.pick(VALUES) } else { self.random.pick(&self.grown.values) };
+            if !told.iter().any(|(other, _)| *other == name) {
+                told.push((name, passing));
                 self.any(BLANKS);
                 self.put(name);
                 self.any(EQUALS);
-                self.any(VALUES);
+                self.put(value);
             }
         }
+        self.grown.owned.push(told);
     }
 
     /// Two texts never stand side by side, since `]]` and `>` would make what no text may hold.

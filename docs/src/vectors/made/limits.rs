@@ -1,6 +1,6 @@
-// Lists and documents with one size near its limit, on either side of it: levels, attributes, names in each place, lines, steps, and the
-// bytes of the list. No path has over three descendant or descendant-or-self steps where the document is deep: the second program tries
-// every choice of places.
+// Lists and documents with one size near its limit, on either side of it: levels, attributes, names and tested values in each place, lines,
+// steps, and the bytes of the list. No path has over three descendant or descendant-or-self steps where the document is deep: the second
+// program tries every choice of places.
 
 use super::documents;
 use super::lists;
@@ -18,12 +18,13 @@ pub struct Near {
 }
 
 pub fn near(random: &mut Random) -> Near {
-    let (list, doc) = match random.below(15) {
+    let (list, doc) = match random.below(21) {
         0..=2 => deep(random),
         3 | 4 => attributes(random),
         5..=8 => names(random),
         9 | 10 => lines(random),
         11 | 12 => steps(random),
+        13..=18 => tests(random),
         _ => bytes(random),
     };
     let (list_from, doc_from) = (list.len().saturating_sub(60), doc.len().saturating_sub(120));
@@ -32,9 +33,14 @@ pub fn near(random: &mut Random) -> Near {
 
 /// The list with a line more that makes it too large, or nearly; at times the line is malformed as well, which comes first.
 pub fn too_large(list: &[u8], random: &mut Random) -> Vec<u8> {
-    let more = match random.below(3) {
+    let more = match random.below(4) {
         0 => format!("/a{}\n", random.pick(&["/a", "/a", "/self::a"]).repeat(random.between(15, 17))),
         1 => format!("{}{}{}\n", random.pick(AXES), "n".repeat(random.between(255, 257)), random.pick(&["", "", "::", "::n"])),
+        2 => {
+            let (name, value) = random.pick(&[(256, 1), (255, 256), (1, 256), (255, 255), (257, 300)]);
+            let end = random.pick(&["\"]", "\"]", "\"] #", "<\"]", "\"]/a", "\""]);
+            format!("/a[@{}=\"{}{end}\n", "k".repeat(name), "1".repeat(value))
+        }
         _ => "/a\n".repeat(random.between(24, 33)),
     };
     [list, more.as_bytes()].concat()
@@ -57,9 +63,11 @@ pub fn crowded(doc: &[u8], random: &mut Random) -> Vec<u8> {
 fn deep(random: &mut Random) -> (String, String) {
     let levels = random.between(63, 66);
     let names: Vec<&str> = (0..levels).map(|_| random.pick(&["a", "a", "b"])).collect();
-    let mut doc: String = names[..levels - 1].iter().map(|name| format!("<{name}>")).collect();
+    let attribute = |random: &mut Random| random.pick(&["", "", "", " k='1'", " k='2'"]);
+    let mut doc: String = names[..levels - 1].iter().map(|name| format!("<{name}{}>", attribute(random))).collect();
     let last = names[levels - 1];
-    doc += &if random.one_in(2) { format!("<{last}/>") } else { format!("<{last}>Aar</{last}>") };
+    let k = attribute(random);
+    doc += &if random.one_in(2) { format!("<{last}{k}/>") } else { format!("<{last}{k}>Aar</{last}>") };
     for name in names[..levels - 1].iter().rev() {
         doc += &format!("</{name}>");
         if random.one_in(20) {
@@ -74,6 +82,7 @@ fn deep(random: &mut Random) -> (String, String) {
 const ON_DEEP: &[&str] = &[
     "//a//b//a\n", "//a/a/a\n//b #\n", "/a/*//b/a\n", "//*\n", "//b//a #\n/*\n", "//a/b/a/b\n", "//a/self::a/b\n", "//*/self::b #\n",
     "//b/descendant-or-self::a/b\n", "/descendant-or-self::a/a/descendant-or-self::b\n", "/self::a\n/a/self::*/a\n",
+    "//*[@k=\"1\"]\n", "//a/b[@k=\"1\"]\n//a[@k=\"2\"] #\n", "//b//*[@k=\"2\"]\n/a[@k=\"1\"]\n",
 ];
 
 /// So many attributes. The one at `twice` has the name of another.
@@ -92,7 +101,8 @@ fn attributes(random: &mut Random) -> (String, String) {
         1 => format!("<g><v{tag}/><n/></g>"),
         _ => format!("<g><v{tag}><n/></v></g>"),
     };
-    (random.pick(&["//v\n", "//n\n", "//* #\n", "/g\n", ""]).into(), doc)
+    let lists = ["//v\n", "//n\n", "//* #\n", "/g\n", "", "//*[@k31=\"\"]\n", "//*[@k0=\"\"] #\n", "//v[@k32=\"\"]\n/g[@k1=\"1\"]\n"];
+    (random.pick(&lists).into(), doc)
 }
 
 /// A name of so many bytes, of characters of one to four bytes; what is over is filled up by one byte each.
@@ -125,13 +135,39 @@ fn names(random: &mut Random) -> (String, String) {
     }
 }
 
+/// A test whose name or value has 254 to 257 bytes, on an element that has nearly the same.
+fn tests(random: &mut Random) -> (String, String) {
+    let bytes = random.between(254, 257);
+    let long = name(random, bytes);
+    let other = match random.below(8) {
+        0 | 1 => format!("{long}1"),
+        2 => long[..long.len() - long.chars().last().map_or(0, char::len_utf8)].to_string(),
+        3 => long.replacen('z', "a", 1),
+        _ => long.clone(),
+    };
+    let steps = random.pick(&["//v", "/g/*", "//*/self::v", "/descendant-or-self::*"]);
+    let mark = random.pick(&["", "", " #"]);
+    if random.one_in(3) {
+        return (format!("//n\n{steps}[@{long}=\"1\"]{mark}\n"), format!("<g><n/><v {other}='1'/></g>"));
+    }
+    let written = match random.below(5) {
+        0 => other.replace('a', "&#97;"),
+        1 => other.replacen('z', "&#x7A;", 1),
+        2 => other + &"1".repeat(256),
+        _ => other,
+    };
+    let bad = random.pick(&["", "", "", "", "<", "&", "\u{ffff}"]);
+    (format!("//n\n{steps}[@k=\"{long}{bad}\"]{mark}\n"), format!("<g><n/><v l='' k='{written}'/></g>"))
+}
+
 /// 31 to 34 lines. The last may be malformed, or lack its line feed.
 fn lines(random: &mut Random) -> (String, String) {
     let doc = documents::document(random);
     let count = random.between(31, 34);
-    let mut list: String = (1..count).map(|_| random.pick(&["/a\n", "/b\n", "//a\n", "/* #\n", "/a/self::a\n"])).collect();
+    let mut list: String =
+        (1..count).map(|_| random.pick(&["/a\n", "/b\n", "//a\n", "/* #\n", "/a/self::a\n", "//*[@k=\"1\"]\n"])).collect();
     list += &match random.below(4) {
-        0 => random.pick(&["\n", "a\n", "/a", "/a #", "/", "/a::b\n"]).to_string(),
+        0 => random.pick(&["\n", "a\n", "/a", "/a #", "/", "/a::b\n", "/a[@k]\n"]).to_string(),
         _ => lists::line(random, &doc),
     };
     (list, String::from_utf8_lossy(&doc.bytes).into_owned())
@@ -156,7 +192,7 @@ fn steps(random: &mut Random) -> (String, String) {
         list += axis;
         list += random.pick(&["a", "a", "a", "*"]);
     }
-    list += random.pick(&["\n", "\n", " #\n", " # \n", "/\n"]);
+    list += random.pick(&["\n", "\n", " #\n", " # \n", "/\n", "[@k=\"1\"]\n", "[@k=\"2\"] #\n", "[@k=\"1\"]/a\n"]);
     let levels = random.between(down - 1, down + 2);
     (list, format!("{}<a k='1'/><b/>{}", "<a>".repeat(levels - 1), "</a>".repeat(levels - 1)))
 }

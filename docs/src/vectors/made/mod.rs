@@ -24,7 +24,7 @@ fn case(list: &[u8], doc: &[u8], room: usize) -> Case {
 /// The cases of one list and one document. Relatives follow each other, which makes a pack small.
 pub fn batch(random: &mut Random) -> Vec<Case> {
     let mut cases = Vec::new();
-    if random.one_in(8) {
+    if random.one_in(6) {
         near(&mut cases, random);
     } else {
         general(&mut cases, random);
@@ -50,8 +50,8 @@ pub fn narrower(list: &[u8], random: &mut Random) -> Vec<u8> {
     narrow
 }
 
-/// A sound list and document in every room, narrower lists, lists with another kind of step, damaged lists, other lists, and last other
-/// documents.
+/// A sound list and document in every room, narrower lists, lists with another kind of step, lists with another test, damaged lists, other
+/// lists, and last other documents.
 fn general(cases: &mut Vec<Case>, random: &mut Random) {
     let grown = documents::document(random);
     let doc = &grown.bytes;
@@ -62,8 +62,9 @@ fn general(cases: &mut Vec<Case>, random: &mut Random) {
     }
     for _ in 0..2 {
         push(cases, &lists::turned(&list, random), doc, random);
+        push(cases, &lists::retested(&list, random, &grown), doc, random);
     }
-    for _ in 0..3 {
+    for _ in 0..4 {
         push(cases, &damage::list(&list, 0, random), doc, random);
     }
     if random.one_in(3) {

@@ -1,9 +1,12 @@
 // The cases written by hand, with what documents 01 and 02 say of each, and the check that the second program says the same. The tables are
 // in the files by topic: examples.rs and readings.rs, lists.rs, characters.rs, the items (markup.rs, tags.rs, references.rs,
 // declarations.rs), places.rs, selection.rs, written.rs, limits.rs (list) and sizes.rs (document), order.rs; of document 02, encodings.rs,
-// axes.rs and same_place.rs. A case that is kept has its whole cut there, so its second number is the cut's length.
+// axes.rs and same_place.rs, attributes.rs, values.rs and passing.rs. A case that is kept has its whole cut there, so its second number is
+// the cut's length.
 
 // Tables have one case a line.
+#[rustfmt::skip]
+mod attributes;
 #[rustfmt::skip]
 mod axes;
 #[rustfmt::skip]
@@ -23,6 +26,8 @@ mod markup;
 #[rustfmt::skip]
 mod order;
 #[rustfmt::skip]
+mod passing;
+#[rustfmt::skip]
 mod places;
 #[rustfmt::skip]
 mod readings;
@@ -36,6 +41,8 @@ mod selection;
 mod sizes;
 #[rustfmt::skip]
 mod tags;
+#[rustfmt::skip]
+mod values;
 #[rustfmt::skip]
 mod written;
 
@@ -104,6 +111,9 @@ fn tables() -> Vec<Vec<Named>> {
         encodings::all(),
         axes::all(),
         same_place::all(),
+        attributes::all(),
+        values::all(),
+        passing::all(),
     ]
 }
 
