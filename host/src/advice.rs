@@ -1,5 +1,6 @@
 //! Where in a line of a list the fault is, and what would be right there. This reader only advises: that a line is refused, and by which
-//! number, the library says. So where it finds nothing at fault it repeats the rule.
+//! number, the library says. So where it finds nothing at fault it repeats the rule. The test of an attribute is in `attribute`.
+use crate::attribute;
 use crate::names;
 use crate::shown;
 
@@ -14,12 +15,12 @@ const STEP: &str = "a step is /, //, /self:: or /descendant-or-self::, then * or
 const TEST: &str = "behind an axis stands * or a name";
 const ONLY: &str = "the axes are self:: and descendant-or-self::, behind one slash, and no others";
 const MARK: &str = "one space and # mark a line, at its end";
-const ELEMENTS: &str = "a path names elements alone: no attributes, conditions or functions";
+const ELEMENTS: &str = "a path selects elements, no attributes or functions; a test is [@name=\"value\"], behind the last step";
 
 /// What may stand between one slash and a name test.
 const AXES: [&[u8]; 2] = [b"self::", b"descendant-or-self::"];
 
-fn advice(at: usize, hint: &str) -> Advice {
+pub fn advice(at: usize, hint: &str) -> Advice {
     Advice { at, hint: hint.to_string() }
 }
 
@@ -35,13 +36,20 @@ pub fn malformed(line: &[u8], ended: bool) -> Advice {
             Err(advice) => return advice,
         }
     }
-    let rest = &line[at..];
-    match rest {
-        _ if at == 0 => advice(0, beginning(rest)),
+    let steps = at;
+    if at > 0 && line.get(at) == Some(&b'[') {
+        match attribute::test(line, at) {
+            Ok(test) => at = test.end(),
+            Err(advice) => return advice,
+        }
+    }
+    match &line[at..] {
+        _ if at == 0 => advice(0, beginning(line)),
         b"" | b" #" if ended => advice(0, STEP),
         b"" | b" #" => advice(line.len(), "a line ends in a line feed"),
         b"\r" | b" #\r" => advice(line.len() - 1, "a line ends in a line feed alone, without a carriage return"),
-        _ => after_steps(rest, at),
+        _ if steps < at => attribute::after(line, steps, at),
+        rest => after_steps(line, rest, at),
     }
 }
 
@@ -56,12 +64,13 @@ fn beginning(line: &[u8]) -> &'static str {
     }
 }
 
-/// What to say of what follows some steps and is neither another one nor the mark.
-fn after_steps(rest: &[u8], at: usize) -> Advice {
+/// What to say of what follows some steps and is neither another one, nor a test, nor the mark.
+fn after_steps(line: &[u8], rest: &[u8], at: usize) -> Advice {
     let blanks = rest.iter().take_while(|&&b| b == b' ' || b == b'\t').count();
     match rest.get(blanks) {
         None | Some(b'#') | Some(b'\r') => advice(at, MARK),
-        Some(b'[' | b'@' | b'(') => advice(at + blanks, ELEMENTS),
+        Some(b'[') => attribute::misplaced(line, at),
+        Some(b'@' | b'(') => advice(at + blanks, ELEMENTS),
         _ => character(rest, at).unwrap_or_else(|| advice(at, STEP)),
     }
 }
@@ -104,13 +113,17 @@ fn step(line: &[u8], at: usize) -> Result<usize, Advice> {
         _ if axis(&line[test..]) > 0 && slashes == 2 => Err(advice(at + 1, ONLY)),
         None => Err(advice(test, missing)),
         Some(b'*') => Ok(test + 1),
-        Some(b'[' | b'@' | b'(') => Err(advice(test, ELEMENTS)),
-        Some(_) => name_end(line, test, missing),
+        Some(b'[') => Err(attribute::misplaced(line, test)),
+        Some(b'@' | b'(') => Err(advice(test, ELEMENTS)),
+        Some(_) => {
+            let end = name_end(line, test, missing)?;
+            colons(&line[test..end], test).map_or(Ok(end), Err)
+        }
     }
 }
 
 /// Where a name ends. There is a byte at its place; if it begins no name, what is missing is said.
-fn name_end(line: &[u8], name: usize, missing: &str) -> Result<usize, Advice> {
+pub fn name_end(line: &[u8], name: usize, missing: &str) -> Result<usize, Advice> {
     if let Some(bad) = character(&line[name..], name) {
         return Err(bad);
     }
@@ -125,7 +138,7 @@ fn name_end(line: &[u8], name: usize, missing: &str) -> Result<usize, Advice> {
     match shown::front(&line[name..]) {
         Ok(c) if end == name && names::within(c) => Err(Advice { at: name, hint: format!("a name can't begin with {c}") }),
         _ if end == name => Err(advice(name, missing)),
-        _ => colons(&line[name..end], name).map_or(Ok(end), Err),
+        _ => Ok(end),
     }
 }
 
@@ -158,7 +171,8 @@ pub fn too_large(line: &[u8], number: usize) -> Advice {
             Err(_) => break,
         }
     }
-    advice(0, "a line has at most 16 steps, a name at most 255 bytes")
+    let tested = attribute::test(line, at).ok().and_then(|test| attribute::too_large(&test));
+    tested.unwrap_or_else(|| advice(0, "a line has at most 16 steps, a name or a value at most 255 bytes"))
 }
 
 #[cfg(test)]

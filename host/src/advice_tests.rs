@@ -32,7 +32,7 @@ fn steps() {
     says(b"/a/-b", 3, "a name can't begin with -");
     says("/a/\u{301}b".as_bytes(), 3, "a name can't begin with \u{301}");
     says(b"/a/@id", 3, ELEMENTS);
-    says(b"/a[1]", 2, ELEMENTS);
+    says(b"/a@id", 2, ELEMENTS);
     says(b"/text()", 5, ELEMENTS);
     says(b"/a\xC3(", 2, "not UTF-8: C3");
     says(b"/\xE2\x82", 1, "not UTF-8: E2 82");
@@ -97,5 +97,5 @@ fn large_lines() {
     let long = format!("/self::{}/descendant-or-self::{}", "a".repeat(255), "b".repeat(256));
     assert_eq!(too_large(long.as_bytes(), 1), advice(283, "a name over 255 bytes"));
     assert_eq!(too_large("/self::*".repeat(17).as_bytes(), 1), advice(128, "over 16 steps"));
-    assert_eq!(too_large(b"/a", 1), advice(0, "a line has at most 16 steps, a name at most 255 bytes"));
+    assert_eq!(too_large(b"/a", 1), advice(0, "a line has at most 16 steps, a name or a value at most 255 bytes"));
 }

@@ -37,16 +37,17 @@ not the document. Else shorten it: // and * stand for many paths.
 
 const TWO: &str = "\
 2: a line of the list is malformed; the second number is the line, from 1.
-A line is one or more steps, then perhaps one space and #. A step is / (child),
-// (descendant), /self:: (the element itself) or /descendant-or-self:: (it or any under
-it), and then * or a name. A name has no :: in it, since there are no other axes. There
-are no other blanks, no empty lines and no comments, and every line ends in a line feed,
-the last too, with no carriage return.
+A line is one or more steps, behind the last perhaps a test, [@name=\"value\"], then perhaps
+one space and #. A step is / (child), // (descendant), /self:: (the element itself) or
+/descendant-or-self:: (it or any under it), and then * or a name without ::. A value has
+no \", < or & and nothing below U+0020. There are no other axes, tests or blanks, no empty
+lines and no comments; every line, the last too, ends in a line feed, no carriage return.
 ";
 
 const THREE: &str = "\
 3: a line of the list is too large, or it is line 33; the second number is the line.
-A list has at most 32 lines, a line 16 steps, a name 255 bytes. Repeated lines count.
+A list has at most 32 lines, a line 16 steps, a name 255 bytes, the value in a test 255
+bytes, counted in UTF-8. Repeated lines count.
 Cut once by each half of the list, or name less: // passes over any number of levels.
 ";
 

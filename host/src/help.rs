@@ -13,8 +13,9 @@ A file that is not named, or named -, is the standard input or output.
 
   -l, --list LIST      the paths, one to a line: / (child), // (descendant), /self:: (the
                        element itself) or /descendant-or-self:: (it or any under it) and
-                       then * or a name, again and again; one space and # at the end keep
-                       the whole entry
+                       then * or a name, again and again; behind the last of them perhaps
+                       a test of an attribute, [@name=\"value\"]; one space and # at the end
+                       keep the whole entry
   -o, --output OUTPUT  is replaced when the cut is there, and else stays as it was
       --count          print only: kept, the elements selected, the length of the cut
   -q, --quiet          no message, only the exit status
@@ -27,7 +28,7 @@ A file that is not named, or named -, is the standard input or output.
 Exit status: 0 written, or sound; 1 to 3 the list is refused, 4 to 8 and 10 the document;
 64 wrong usage; 66 no input; 73 no output; 74 reading or writing failed.
 
-For example, with `//commune/hamlet #` as a line of atlas.lst:
+For example, with `//commune/hamlet #` and `//place[@type=\"village\"]` as lines of atlas.lst:
 
   choughbell cut -l atlas.lst master.xml -o atlas.xml
 ";

@@ -2,6 +2,7 @@
 //! exit status; `usage` reads the words, `task` does the work, `help` and `explain` have the texts.
 #![forbid(unsafe_code)]
 mod advice;
+mod attribute;
 mod caret;
 mod explain;
 mod help;

@@ -38,6 +38,22 @@ printf '<g><a::b/><self::p><:p/></self::p></g>' > colons.xml
 prints '<g><a::b></a::b><self::p></self::p></g>'
 try 'names with two colons in a document' 0 cut -l axes.lst colons.xml
 
+# Tests of an attribute behind the last step.
+cat > places.xml << 'END'
+<atlas><place type="village">Aar</place><place type='vill&#97;ge' n="2"/><place type="town"/><place/><lake type="deep
+water"/></atlas>
+END
+printf '//place[@type="village"]\n' > tests.lst
+prints '<atlas><place type="village"></place><place type='"'vill&#97;ge'"' n="2"></place></atlas>'
+try 'a test of an attribute' 0 cut -l tests.lst places.xml
+printf '//place[@type="village"] #\n//*[@type="deep water"]\n' > tests.lst
+prints '<atlas><place type="village">Aar</place><place type='"'vill&#97;ge'"' n="2"/><lake type="deep
+water"></lake></atlas>'
+try 'two tests, one marked' 0 cut -l tests.lst places.xml
+printf '//place[@type=""]\n//place[@Type="town"]\n/atlas/self::*[@n="2"]\n' > tests.lst
+lines 'kept 0 15'
+try 'tests that none passes' 0 cut --count -l tests.lst places.xml
+
 # 1
 repeat 8193 / > long.lst
 says 'long.lst: 1: list over 8,192 bytes'
@@ -67,7 +83,8 @@ malformed 'no space before #' '/a#' 'one space and # mark a line, at its end' ' 
 malformed 'two spaces before #' '/a  #' 'one space and # mark a line, at its end' '  ^'
 malformed 'blank after #' '/a # ' 'one space and # mark a line, at its end' '  ^'
 malformed 'digit' '/a/1b' "a name can't begin with 1" '   ^'
-malformed 'attribute' '/a/@id' 'a path names elements alone: no attributes, conditions or functions' '   ^'
+malformed 'attribute' '/a/@id' \
+    'a path selects elements, no attributes or functions; a test is [@name="value"], behind the last step' '   ^'
 malformed 'comment' '# lakes' 'a list has no comments; one space and # mark a line, at its end' '^'
 axes='the axes are self:: and descendant-or-self::, behind one slash, and no others'
 malformed 'two slashes before an axis' '//self::p' "$axes" ' ^'
@@ -79,6 +96,25 @@ malformed 'two axes' '/self::self::p #' "a name in a list has no ::; $axes" '   
 malformed 'accents, composed' '/préf é' "$step" '     ^'
 malformed 'accents, decomposed' "$(printf '/pre\314\201f e\314\201')" "$step" '     ^'
 
+test='a test is [@name="value"]'
+malformed 'a test on an earlier step' '/g[@k="x"]/v #' 'a test stands behind the last step alone' '  ^'
+malformed 'two tests' '/g[@k="x"][@l="y"]' 'a path has one test alone' '          ^'
+malformed 'a test and more' '/g[@k="x"]#' 'behind a test the line ends, or one space and # mark it' '          ^'
+malformed 'a test without a name before it' '/g/[@k="x"]' 'before a test stands * or a name' '   ^'
+blanks='no blanks stand before a test or in it, other than in its value'
+malformed 'a blank before a test' '/g [@k="x"]' "$blanks; $test" '  ^'
+malformed 'a blank in a test' '/g[@k = "x"]' "$blanks; $test" '     ^'
+malformed 'single quotes' "/g[@k='x']" "a value stands in double quotes; $test" '      ^'
+malformed 'no value' '/g[@k]' "a test asks for a value; $test" '     ^'
+malformed 'any attribute' '/g[@*="x"]' "a test names its attribute, by no *; $test" '    ^'
+malformed 'no @' '/g[k="x"]' "a test asks for an attribute and begins with [@; $test" '   ^'
+malformed 'no quote at the end' '/g[@k="x]' "a value ends in a double quote; $test" '         ^'
+malformed 'no bracket at the end' '/g[@k="x"' "a test ends in ]; $test" '         ^'
+malformed 'a reference in a value' '/g[@k="é&lt;"]' 'a value in a list has no &, and no reference for it' '        ^'
+
+printf '/g[@k="a\tb"]\n' > tab.lst
+says 'tab.lst:1: 2: malformed line: "/g[@k="a\tb"]": U+0009 can'"'"'t stand in a value' '    /g[@k="a\tb"]' '            ^'
+try 'a tab in a value' 2 cut -l tab.lst b.xml
 printf '/a\r\n' > crlf.lst
 says 'crlf.lst:1: 2: malformed line: "/a\r": a line ends in a line feed alone, without a carriage return' '    /a\r' '      ^'
 try 'carriage return' 2 cut -l crlf.lst b.xml
@@ -121,6 +157,16 @@ try 'a name of 256 bytes behind an axis' 3 cut -l name.lst b.xml
 printf '/a/self::%s\n' "$(repeat 255 a)" > name.lst
 prints '<g></g>'
 try 'a name of 255 bytes behind an axis' 0 cut -l name.lst b.xml
+printf '/a[@%s="x"]\n' "$(repeat 256 k)" > name.lst
+says "name.lst:1: 3: line too large: \"/a[@$(repeat 36 k)...\": a name over 255 bytes" "    /a[@$(repeat 40 k)..." '        ^'
+try 'an attribute of 256 bytes' 3 cut -l name.lst b.xml
+printf '/a[@k="%s"] #\n' "$(repeat 128 é)" > value.lst
+says "value.lst:1: 3: line too large: \"/a[@k=\"$(repeat 33 é)...\": a value over 255 bytes" "    /a[@k=\"$(repeat 40 é)..." \
+    '           ^'
+try 'a value of 256 bytes' 3 cut -l value.lst b.xml
+printf '/a[@k="%s"] #\n' "$(repeat 255 x)" > value.lst
+prints '<g></g>'
+try 'a value of 255 bytes' 0 cut -l value.lst b.xml
 repeat 33 '/a
 ' > many.lst
 says 'many.lst:33: 3: line too large: "/a": line 33: a list has at most 32 lines' '    /a' '    ^'

@@ -41,6 +41,9 @@ tag='a tag is <, a name, attributes as name=\"value\", none twice, and > or />; 
 open='<g> of line 1 is open'
 printf '/a\n/b "\\\n' > quote.lst
 json 'a line' 2 "$(refusal 2 2 'malformed line' quote.lst '"line":2' '/b \"\\' "$step")" cut -l quote.lst b.xml --count --json
+printf '/g[@k]\n' > test.lst
+hint='a test asks for a value; a test is [@name=\"value\"]'
+json 'a test' 2 "$(refusal 2 1 'malformed line' test.lst '"line":1' '/g[@k]' "$hint")" cut -l test.lst b.xml --count --json
 printf '<g k="1">\n\t<v>\377' > quote.xml
 place='"offset":14,"line":2,"column":5'
 json 'a byte' 5 "$(refusal 5 14 'not a character' quote.xml "$place" '\\xFF' 'FF is not UTF-8')" check --json quote.xml

@@ -54,7 +54,7 @@ explains() {
 explains 0 'written.' 3
 explains 1 'the list has over 8,192 bytes.' 3
 explains 2 'a line of the list is malformed;' 6
-explains 3 'a line of the list is too large, or it is line 33;' 3
+explains 3 'a line of the list is too large, or it is line 33;' 4
 explains 4 'the document has over 16,777,216 bytes.' 2
 explains 5 'the document is not in UTF-8,' 4
 explains 6 'the document has a type, <!DOCTYPE;' 3
