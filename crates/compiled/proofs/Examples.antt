@@ -1,14 +1,16 @@
--- Worked examples of the compiled tables, computed: a list of four paths, the steps that stay, go and go far, the last steps and the marks,
--- its distinct names with their places, and what names pass. Expected values are written from the words of documents 01 and 02, bit j for
--- step j + 1.
+-- Worked examples of the compiled tables, computed: a list of four paths, the steps that stay, go and go far, the last steps, the marks and
+-- the tests, its distinct names with their places, and what names pass. Expected values are written from the words of documents 01 and 02,
+-- bit j for step j + 1.
 use mathlib.Core.Path.{_≡_, refl}
 use mathlib.Core.Bool.{true, false}
 use mathlib.Core.List.{List, [], _∷_, map}
+use mathlib.Core.Option.{none, some}
 use lib.ListN.{take}
 use Rattle.xml.specs.Notation.{bytes}
 use Rattle.paths.specs.Path.{Test, any, named, Step, Path, printStep, printLine, printList}
 use Rattle.paths.specs.declared.Kind.the-variants.{Child, Descendant, SelfStep, DescendantOrSelf}
 use Rattle.compiled.specs.Bits.{column, staysOf, goesOf, farOf, lastsOf, marksOf, fitOf, otherFit}
+use Rattle.compiled.specs.Compiled.{testsOf}
 use Rattle.lookup.specs.Names.{namesOf, placeOf}
 use Rattle.lookup.specs.Index.{padded}
 
@@ -24,16 +26,20 @@ self x = record { kind = SelfStep; test = x }
 abbrev or-self : Test → Step
 or-self x = record { kind = DescendantOrSelf; test = x }
 
--- /g//v, //*/v marked, //n, /*/self::g/descendant-or-self::n
+-- /g//v, //*/v marked, //n with a test, /*/self::g/descendant-or-self::n with a test, marked
 abbrev four : List Path
 four =
-    record { steps = child (named (bytes "g")) ∷ descendant (named (bytes "v")) ∷ []; marked = false }
-    ∷ record { steps = descendant any ∷ child (named (bytes "v")) ∷ []; marked = true }
-    ∷ record { steps = descendant (named (bytes "n")) ∷ []; marked = false }
-    ∷ record { steps = child any ∷ self (named (bytes "g")) ∷ or-self (named (bytes "n")) ∷ []; marked = false }
+    record { steps = child (named (bytes "g")) ∷ descendant (named (bytes "v")) ∷ []; test = none; marked = false }
+    ∷ record { steps = descendant any ∷ child (named (bytes "v")) ∷ []; test = none; marked = true }
+    ∷ record { steps = descendant (named (bytes "n")) ∷ []; test = some (record { name = bytes "k"; value = bytes "v" }); marked = false }
+    ∷ record {
+      steps = child any ∷ self (named (bytes "g")) ∷ or-self (named (bytes "n")) ∷ [];
+      test = some (record { name = bytes "k"; value = [] });
+      marked = true;
+    }
     ∷ []
 
-pub prints : printList four ≡ bytes "/g//v\n//*/v #\n//n\n/*/self::g/descendant-or-self::n\n"
+pub prints : printList four ≡ bytes "/g//v\n//*/v #\n//n[@k=\"v\"]\n/*/self::g/descendant-or-self::n[@k=\"\"] #\n"
 unfolding printList printLine printStep
 prints = refl
 
@@ -54,9 +60,14 @@ pub lasts : take 5 (lastsOf four) ≡ 2 ∷ 2 ∷ 1 ∷ 4 ∷ 0 ∷ []
 unfolding lastsOf column padded
 lasts = refl
 
-pub marks : take 5 (marksOf four) ≡ 0 ∷ 2 ∷ 0 ∷ 0 ∷ 0 ∷ []
+pub marks : take 5 (marksOf four) ≡ 0 ∷ 2 ∷ 0 ∷ 4 ∷ 0 ∷ []
 unfolding marksOf column padded
 marks = refl
+
+-- the lines begin at 0, 6, 14 and 26; the third has steps of 3 bytes, and the fourth of 32
+pub tests : take 5 (testsOf four) ≡ 0 ∷ 0 ∷ 17 ∷ 58 ∷ 0 ∷ []
+unfolding testsOf padded printLine printStep
+tests = refl
 
 -- g at 1, v at 4 for the first time, n at 16
 pub names : map (λ x. x .name) (namesOf four) ≡ bytes "g" ∷ bytes "v" ∷ bytes "n" ∷ []

@@ -18,7 +18,7 @@ use Rattle.xml.proofs.Bools.{true-false}
 use Rattle.xml.proofs.Character.{begins-append}
 use Rattle.paths.specs.Path.{Test, any, named, Step, Path, testSize, All, more, ProperTest, Proper, Good}
 use Rattle.paths.specs.Path.{printKind, printTest, printStep, printAll, printLine, printList}
-use Rattle.paths.specs.Reader.{stepAt, printEnd}
+use Rattle.paths.specs.Reader.{stepAt, Ending, endingOf, printEnd, pathOf}
 use Rattle.paths.specs.Place.{stepPlaced, stepEndAt}
 use Rattle.paths.specs.Answer.{Says, sound}
 use Rattle.paths.specs.Judge.{listAnswer}
@@ -66,12 +66,12 @@ print-append print (x ∷ xs) ys = rw (print-append print xs ys) (sym (append-as
 -- the paths done, the steps read, the steps left, the end, the paths after
 pub print-parts : (done : List Path) (q : Path) (rest : List Path) (read todo : List Step) → q .steps ≡ read ++ todo
     → printList (done ++ q ∷ rest)
-    ≡ (printList done ++ printAll printStep read) ++ (printAll printStep todo ++ (printEnd (q .marked) ++ printList rest))
+    ≡ (printList done ++ printAll printStep read) ++ (printAll printStep todo ++ (printEnd (endingOf q) ++ printList rest))
 unfolding printList
 print-parts done q rest read todo e =
     let a = printAll printStep read in
     let b = printAll printStep todo in
-    let c = printEnd (q .marked) ++ printList rest in
+    let c = printEnd (endingOf q) ++ printList rest in
     let s : printAll printStep (q .steps) ≡ a ++ b = rw e (print-append printStep read todo) in
     print-append printLine done (q ∷ rest)
     ∙ ap (λ (l : List ℕ). printList done ++ l) (line-print q (printList rest) ∙ ap (λ (l : List ℕ). l ++ c) s)
@@ -100,10 +100,10 @@ module _ {d : List ℕ} {p : ℕ} (v : AtPath d p) where
   done-few : length (v .done) < 32
   done-few = rw (← v .p-is) path-few
 
-  path-bytes : length d ≤ 8192
+  pub path-bytes : length d ≤ 8192
   path-bytes = sound-bytes d (v .sound)
 
-  path-good : Good (v .path)
+  pub path-good : Good (v .path)
   path-good = go (all-right (v .done) (v .path ∷ v .rest) good)
     where
       go : All Good (v .path ∷ v .rest) → Good (v .path)
@@ -114,9 +114,9 @@ module _ {d : List ℕ} {p : ℕ} (v : AtPath d p) where
 
 -- ---- a path of no step
 
-module _ (done : List Path) (m : Bool) where
+module _ (done : List Path) (e : Ending) where
   abbrev empty : Path
-  empty = record { steps = []; marked = m }
+  empty = pathOf [] e
 
   names-empty : namesOf (done ++ empty ∷ []) ≡ namesOf done
   unfolding namesOf
@@ -159,7 +159,7 @@ pub record InLine (d at len head next rows : List ℕ) (names p place bit stays 
   pub read : List Step
   pub todo : List Step
   pub steps-are : here .path .steps ≡ read ++ todo
-  pub built : Built d at len head next rows names (here .done ++ record { steps = read; marked = here .path .marked } ∷ [])
+  pub built : Built d at len head next rows names (here .done ++ pathOf read (endingOf (here .path)) ∷ [])
   pub place-is : place ≡ length (printList (here .done)) + length (printAll printStep read)
   pub bit-is : bit ≡ 2 ^ length read
   pub stays-is : stays ≡ kindBits kinds.stays read
@@ -178,7 +178,7 @@ record NextStep (d at len head next rows : List ℕ) (names p place bit stays go
   pub n-is : n ≡ testSize (step .test)
   pub end-is : end ≡ place + length (printStep step)
   pub stands : drop place d
-      ≡ printStep step ++ (printAll printStep later ++ (printEnd (v .here .path .marked) ++ printList (v .here .rest)))
+      ≡ printStep step ++ (printAll printStep later ++ (printEnd (endingOf (v .here .path)) ++ printList (v .here .rest)))
 
 pub line-start : {d at len head next rows : List ℕ} {names p place : ℕ} → AtLine d at len head next rows names p place
     → InLine d at len head next rows names p place 1 0 0 0
@@ -188,7 +188,7 @@ line-start v =
       read = [];
       todo = v .here .path .steps;
       steps-are = refl;
-      built = built-empty (v .here .done) (v .here .path .marked) (done-few (v .here)) (v .built);
+      built = built-empty (v .here .done) (endingOf (v .here .path)) (done-few (v .here)) (v .built);
       place-is = v .place-is ∙ sym (add-zero (length (printList (v .here .done))));
       bit-is = sym (pow-zero 2);
       stays-is = refl;
@@ -208,7 +208,7 @@ module _ {d at len head next rows : List ℕ} {names p place bit stays goes far 
   before = printList (v .here .done) ++ printAll printStep (v .read)
 
   abbrev after : List ℕ
-  after = printEnd (v .here .path .marked) ++ printList (v .here .rest)
+  after = printEnd (endingOf (v .here .path)) ++ printList (v .here .rest)
 
   parts : d ≡ before ++ (printAll printStep (v .todo) ++ after)
   parts = sym (whole (v .here)) ∙ print-parts (v .here .done) (v .here .path) (v .here .rest) (v .read) (v .todo) (v .steps-are)
@@ -251,7 +251,7 @@ module _ {d at len head next rows : List ℕ} {names p place bit stays goes far 
       let t = printAll printStep ss ++ after in
       let l : drop place d ≡ printStep s ++ t = left ∙ rw e (append-assoc (printStep s) (printAll printStep ss) after) in
       let g : stepAt (drop place d) ≡ some s =
-      rw l (step-undoes .complete s t o (after-step (v .here .path .marked) (printList (v .here .rest)) s ss)) in
+      rw l (step-undoes .complete s t o (after-step (endingOf (v .here .path)) (printList (v .here .rest)) s ss)) in
       (o, l, g)
     where
       first : {x : Step} {xs : List Step} → All Proper (x ∷ xs) → Proper x
@@ -309,7 +309,7 @@ module _ {d at len head next rows : List ℕ} {names p place bit stays goes far 
           go : (ss : List Step) → v .todo ≡ ss → NextStep d at len head next rows names p place bit stays goes far v kind a n end
           go [] e =
               let l : drop place d ≡ after = left ∙ rw e in
-              let g : stepAt (drop place d) ≡ none = rw l (end-no-step (v .here .path .marked) (printList (v .here .rest))) in
+              let g : stepAt (drop place d) ≡ none = rw l (end-no-step (endingOf (v .here .path)) (printList (v .here .rest))) in
               let z : StepTo kind a n end ≡ stepPlaced place none = sym f ∙ q ∙ ap (stepPlaced place) g in
               absurd (let y : _≡_ {A = ℕ} 0 1 = cc in omega arith)
           go (s ∷ ss) e =
@@ -379,7 +379,7 @@ module _ {d at len head next rows : List ℕ} {names p place bit stays goes far 
           let p-is = v .here .p-is in
           record {
             done = v .here .done;
-            path = record { steps = v .read; marked = v .here .path .marked };
+            path = pathOf (v .read) (endingOf (v .here .path));
             step = next-step .step;
             built = v .built;
             p-is = p-is;

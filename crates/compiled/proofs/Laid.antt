@@ -41,15 +41,15 @@ pub ruleset laying = (lay-start, lay-more, lay-end, needs)
 
 -- w stands at the front of t, up to the place i
 pub record Laid (w : List ℕ) (i : ℕ) (t : List ℕ) : Type 0 where
-  pub long : length t ≡ 18368
+  pub long : length t ≡ 18400
   pub front-long : length w ≡ i
   pub front : take i t ≡ w
 
-pub laid-none : {t : List ℕ} → length t ≡ 18368 → Laid [] 0 t
+pub laid-none : {t : List ℕ} → length t ≡ 18400 → Laid [] 0 t
 laid-none l = record { long = l; front-long = refl; front = refl }
 
 module _ {w : List ℕ} {i : ℕ} {t : List ℕ} (v : Laid w i t) where
-  pub laid-more : (x : List ℕ) {t′ : List ℕ} (n : ℕ) → length x ≡ n → i + n ≤ 18368 → t′ ≡ sets t i x → Laid (w ++ x) (i + n) t′
+  pub laid-more : (x : List ℕ) {t′ : List ℕ} (n : ℕ) → length x ≡ n → i + n ≤ 18400 → t′ ≡ sets t i x → Laid (w ++ x) (i + n) t′
   laid-more x {t′} n l h e =
       let m : length (w ++ x) ≡ i + n = let z = length-append w x in let y = v .front-long in omega arith in
       record {
@@ -60,12 +60,12 @@ module _ {w : List ℕ} {i : ℕ} {t : List ℕ} (v : Laid w i t) where
             (take-at (w ++ x) (drop (i + length x) t) (i + n) m);
       }
 
-  pub laid-all : i ≡ 18368 → t ≡ w
+  pub laid-all : i ≡ 18400 → t ≡ w
   laid-all e = sym (take-all i t (let y = v .long in omega arith)) ∙ v .front
 
 -- ---- all of them
 
-pub record Longs (at len head next rows stays goes far lasts marks : List ℕ) : Type 0 where
+pub record Longs (at len head next rows stays goes far lasts marks tests : List ℕ) : Type 0 where
   pub at-long : length at ≡ 512
   pub len-long : length len ≡ 512
   pub head-long : length head ≡ 256
@@ -76,21 +76,23 @@ pub record Longs (at len head next rows stays goes far lasts marks : List ℕ) :
   pub far-long : length far ≡ 32
   pub lasts-long : length lasts ≡ 32
   pub marks-long : length marks ≡ 32
+  pub tests-long : length tests ≡ 32
 
-pub laid-tables : {at len head next rows stays goes far lasts marks : List ℕ} → Longs at len head next rows stays goes far lasts marks
-    → (t₀ : List ℕ) {t₁ t₂ t₃ t₄ t₅ t₆ t₇ t₈ t₉ t₁₀ : List ℕ} → length t₀ ≡ 18368
-    → t₁ ≡ sets t₀ 0 at → t₂ ≡ sets t₁ 512 len → t₃ ≡ sets t₂ 1024 head → t₄ ≡ sets t₃ 1280 next → t₅ ≡ sets t₄ 1792 rows
-    → t₆ ≡ sets t₅ 18208 stays → t₇ ≡ sets t₆ 18240 goes → t₈ ≡ sets t₇ 18272 far → t₉ ≡ sets t₈ 18304 lasts → t₁₀ ≡ sets t₉ 18336 marks
-    → t₁₀ ≡ joined (at ∷ len ∷ head ∷ next ∷ rows ∷ stays ∷ goes ∷ far ∷ lasts ∷ marks ∷ [])
-laid-tables {at} {len} {head} {next} {rows} {stays} {goes} {far} {lasts} {marks} m t₀ l e₁ e₂ e₃ e₄ e₅ e₆ e₇ e₈ e₉ e₁₀ =
-    let v₁ = laid-more (laid-none l) at 512 (m .at-long) (omega arith) e₁ in
-    let v₂ = laid-more v₁ len 512 (m .len-long) (omega arith) e₂ in
-    let v₃ = laid-more v₂ head 256 (m .head-long) (omega arith) e₃ in
-    let v₄ = laid-more v₃ next 512 (m .next-long) (omega arith) e₄ in
-    let v₅ = laid-more v₄ rows 16416 (m .rows-long) (omega arith) e₅ in
-    let v₆ = laid-more v₅ stays 32 (m .stays-long) (omega arith) e₆ in
-    let v₇ = laid-more v₆ goes 32 (m .goes-long) (omega arith) e₇ in
-    let v₈ = laid-more v₇ far 32 (m .far-long) (omega arith) e₈ in
-    let v₉ = laid-more v₈ lasts 32 (m .lasts-long) (omega arith) e₉ in
-    let v₁₀ = laid-more v₉ marks 32 (m .marks-long) (omega arith) e₁₀ in
-    laid-all v₁₀ refl ∙ simp (append-assoc, append-nil)
+pub laid-tables : {at len head next rows stays goes far lasts marks tests : List ℕ}
+    → Longs at len head next rows stays goes far lasts marks tests → (t₀ : List ℕ) → length t₀ ≡ 18400 → {t₁ t₂ : List ℕ}
+    → t₁ ≡ sets (sets (sets (sets (sets t₀ 0 at) 512 len) 1024 head) 1280 next) 1792 rows
+    → t₂ ≡ sets (sets (sets (sets (sets (sets t₁ 18208 stays) 18240 goes) 18272 far) 18304 lasts) 18336 marks) 18368 tests
+    → t₂ ≡ joined (at ∷ len ∷ head ∷ next ∷ rows ∷ stays ∷ goes ∷ far ∷ lasts ∷ marks ∷ tests ∷ [])
+laid-tables {at} {len} {head} {next} {rows} {stays} {goes} {far} {lasts} {marks} {tests} m t₀ l e f =
+    let v₁ = laid-more (laid-none l) at 512 (m .at-long) (omega arith) refl in
+    let v₂ = laid-more v₁ len 512 (m .len-long) (omega arith) refl in
+    let v₃ = laid-more v₂ head 256 (m .head-long) (omega arith) refl in
+    let v₄ = laid-more v₃ next 512 (m .next-long) (omega arith) refl in
+    let v₅ = laid-more v₄ rows 16416 (m .rows-long) (omega arith) e in
+    let v₆ = laid-more v₅ stays 32 (m .stays-long) (omega arith) refl in
+    let v₇ = laid-more v₆ goes 32 (m .goes-long) (omega arith) refl in
+    let v₈ = laid-more v₇ far 32 (m .far-long) (omega arith) refl in
+    let v₉ = laid-more v₈ lasts 32 (m .lasts-long) (omega arith) refl in
+    let v₁₀ = laid-more v₉ marks 32 (m .marks-long) (omega arith) refl in
+    let v₁₁ = laid-more v₁₀ tests 32 (m .tests-long) (omega arith) f in
+    laid-all v₁₁ refl ∙ simp (append-assoc, append-nil)

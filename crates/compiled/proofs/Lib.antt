@@ -5,6 +5,7 @@ pub mod Firsts
 pub mod Bits
 pub mod NameRows
 pub mod Stand
+pub mod Tests
 pub mod Sizes
 pub mod Enter
 pub mod Listed
@@ -12,6 +13,7 @@ pub mod Numbers
 pub mod Spreading
 pub mod Stepped
 pub mod InLine
+pub mod Tested
 pub mod Laid
 pub mod OverLines
 pub mod Reading

@@ -15,7 +15,7 @@ use Rattle.lookup.specs.Index.{Indexed, Tables}
 use Rattle.lookup.proofs.Places.{place-least}
 use Rattle.compiled.specs.Bits.{fitOf, staysOf, goesOf, farOf, lastsOf, marksOf}
 use Rattle.compiled.specs.Sizes.{Sized}
-use Rattle.compiled.specs.Compiled.{rowsOf, placesOf, lengthsOf, tablesOf}
+use Rattle.compiled.specs.Compiled.{rowsOf, placesOf, lengthsOf, testsOf, tablesOf}
 use Rattle.compiled.proofs.Firsts.{names-few}
 use Rattle.compiled.proofs.NameRows.{rows-fit}
 use Rattle.compiled.proofs.Stand.{paths-indexed}
@@ -41,8 +41,11 @@ module _ (ps : List Path) (s : Sized ps) where
   next = chainsOf (namesOf ps) .next
 
   -- the columns from one of them on
+  abbrev marks-on : List ℕ
+  marks-on = marksOf ps ++ (testsOf ps ++ [])
+
   abbrev lasts-on : List ℕ
-  lasts-on = lastsOf ps ++ (marksOf ps ++ [])
+  lasts-on = lastsOf ps ++ marks-on
 
   abbrev far-on : List ℕ
   far-on = farOf ps ++ lasts-on
@@ -87,8 +90,11 @@ module _ (ps : List Path) (s : Sized ps) where
   from-lasts : drop 18304 (tablesOf ps) ≡ lasts-on
   from-lasts = behind (tablesOf ps) 18272 32 (farOf ps) lasts-on from-far (long .far)
 
-  from-marks : drop 18336 (tablesOf ps) ≡ marksOf ps ++ []
-  from-marks = behind (tablesOf ps) 18304 32 (lastsOf ps) (marksOf ps ++ []) from-lasts (long .lasts)
+  from-marks : drop 18336 (tablesOf ps) ≡ marks-on
+  from-marks = behind (tablesOf ps) 18304 32 (lastsOf ps) marks-on from-lasts (long .lasts)
+
+  from-tests : drop 18368 (tablesOf ps) ≡ testsOf ps ++ []
+  from-tests = behind (tablesOf ps) 18336 32 (marksOf ps) (testsOf ps ++ []) from-marks (long .marks)
 
   pub stays-part : take 32 (drop 18208 (tablesOf ps)) ≡ staysOf ps
   stays-part = table-here (tablesOf ps) 18208 32 (staysOf ps) goes-on from-stays (long .stays)
@@ -100,10 +106,13 @@ module _ (ps : List Path) (s : Sized ps) where
   far-part = table-here (tablesOf ps) 18272 32 (farOf ps) lasts-on from-far (long .far)
 
   pub lasts-part : take 32 (drop 18304 (tablesOf ps)) ≡ lastsOf ps
-  lasts-part = table-here (tablesOf ps) 18304 32 (lastsOf ps) (marksOf ps ++ []) from-lasts (long .lasts)
+  lasts-part = table-here (tablesOf ps) 18304 32 (lastsOf ps) marks-on from-lasts (long .lasts)
 
   pub marks-part : take 32 (drop 18336 (tablesOf ps)) ≡ marksOf ps
-  marks-part = table-here (tablesOf ps) 18336 32 (marksOf ps) [] from-marks (long .marks)
+  marks-part = table-here (tablesOf ps) 18336 32 (marksOf ps) (testsOf ps ++ []) from-marks (long .marks)
+
+  pub tests-part : take 32 (drop 18368 (tablesOf ps)) ≡ testsOf ps
+  tests-part = table-here (tablesOf ps) 18368 32 (testsOf ps) [] from-tests (long .tests)
 
   -- the place of a name is that of a row
   pub row-in : (n : List ℕ) → placeOf (namesOf ps) n ≤ 512

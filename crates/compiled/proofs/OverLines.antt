@@ -11,22 +11,22 @@ use lib.ListN.{length, drop, set, replicate, length-append}
 use lib.Seq.{drop-at}
 use Rattle.paths.specs.Path.{Path, printStep, printAll, printLine, printList}
 use Rattle.paths.specs.Path.{none as nil}
-use Rattle.paths.specs.Reader.{endAt, printEnd}
-use Rattle.paths.specs.Place.{endPlaced, lineEndAt}
+use Rattle.paths.specs.Reader.{endingOf, printEnd}
+use Rattle.paths.specs.Place.{lineEndAt}
 use Rattle.paths.specs.Judge.{listAnswer, listPaths}
 use Rattle.paths.specs.declared.ListAnswer.the-variants.{Sound}
 use Rattle.paths.specs.declared.LineEnd.{LineEnd}
 use Rattle.paths.specs.declared.LineEnd.the-variants.{Ends, Fault}
-use Rattle.paths.proofs.Lines.{end-undoes, line-print, line-long}
+use Rattle.paths.proofs.Lines.{line-print, line-long}
 use Rattle.paths.proofs.Meaning.{paths-print}
 use Rattle.compiled.specs.Bits.{column, lastBit, staysOf, goesOf, farOf, lastsOf, marksOf}
 use Rattle.lookup.specs.Names.{namesOf, chainsOf}
 use Rattle.lookup.specs.Index.{padded, Indexed, first}
 use Rattle.compiled.specs.Sizes.{Sized}
-use Rattle.compiled.specs.Compiled.{joined, tablesOf}
+use Rattle.compiled.specs.Compiled.{joined, testPlace, testsOf, tablesOf}
 use Rattle.compiled.specs.Spread.{Spreadable, Spread}
 use Rattle.compiled.specs.Built.{numberRow, numberRows, Built}
-use Rattle.compiled.specs.Line.{AtLine, LineDone, tailOf}
+use Rattle.compiled.specs.Line.{AtLine, LineDone, tailOf, ifTested}
 use Rattle.compiled.specs.declared.build.Line.{Line}
 use Rattle.compiled.specs.declared.build.Tail.{Tail}
 use Rattle.lookup.proofs.Search.{index-linked, at-long, len-long}
@@ -36,15 +36,18 @@ use Rattle.compiled.proofs.NameRows.{joined-zeros}
 use Rattle.compiled.proofs.Listed.{listed-constant}
 use Rattle.compiled.proofs.Spreading.{numbers-spreadable, numbers-spread}
 use Rattle.compiled.proofs.Laid.{Longs}
-use Rattle.compiled.proofs.InLine.{print-append, print-parts, whole, path-few, sound-bytes}
+use Rattle.compiled.proofs.InLine.{print-append, path-few, sound-bytes}
+use Rattle.compiled.proofs.Tests.{tests-long, tests-stored}
+use Rattle.compiled.proofs.Tested.{namePlace, place-tested, tail-stands, end-below}
 
 -- ---- `tail_at`
 
 module _ (d : List ℕ) (at : ℕ) {e : LineEnd} (q : e ≡ lineEndAt d at) where
-  pub tail-ends : {m : Bool} {n : ℕ} → e ≡ Ends m n → record { marked = m; next = n } ≡ tailOf (lineEndAt d at) at
+  pub tail-ends : {a b v w : ℕ} {m : Bool} {n : ℕ} → e ≡ Ends a b v w m n
+      → record { test = a; marked = m; next = n } ≡ tailOf (lineEndAt d at) at
   tail-ends f = sym (ap (λ (x : LineEnd). tailOf x at) (sym q ∙ f))
 
-  pub tail-fault : e ≡ Fault → record { marked = false; next = at } ≡ tailOf (lineEndAt d at) at
+  pub tail-fault : e ≡ Fault → record { test = 0; marked = false; next = at } ≡ tailOf (lineEndAt d at) at
   tail-fault f = sym (ap (λ (x : LineEnd). tailOf x at) (sym q ∙ f))
 
 pub ruleset tails = (tail-ends, tail-fault, needs)
@@ -67,7 +70,7 @@ built-none d =
 
 -- ---- the lines
 
-pub record Lining (d at len head next rows stays goes far lasts marks : List ℕ) (names p place : ℕ) : Type 0 where
+pub record Lining (d at len head next rows stays goes far lasts marks tests : List ℕ) (names p place : ℕ) : Type 0 where
   pub sound : listAnswer d ≡ Sound
   pub done : List Path
   pub left : List Path
@@ -80,11 +83,12 @@ pub record Lining (d at len head next rows stays goes far lasts marks : List ℕ
   pub far-are : far ≡ farOf done
   pub lasts-are : lasts ≡ lastsOf done
   pub marks-are : marks ≡ marksOf done
+  pub tests-are : tests ≡ testsOf done
 
 pub lines-start : {d : List ℕ} → listAnswer d ≡ Sound
     → Lining d (replicate 512 0) (replicate 512 0) (replicate 256 0) (replicate 512 0) (replicate 16416 0)
-    (replicate 32 0) (replicate 32 0) (replicate 32 0) (replicate 32 0) (replicate 32 0) 0 0 0
-unfolding staysOf goesOf farOf lastsOf marksOf column padded printList
+    (replicate 32 0) (replicate 32 0) (replicate 32 0) (replicate 32 0) (replicate 32 0) (replicate 32 0) 0 0 0
+unfolding staysOf goesOf farOf lastsOf marksOf testsOf column padded printList
 lines-start {d} s =
     record {
       sound = s;
@@ -99,6 +103,7 @@ lines-start {d} s =
       far-are = refl;
       lasts-are = refl;
       marks-are = refl;
+      tests-are = refl;
     }
 
 same-front : {A : Type 0} (xs ys us vs : List A) → xs ++ us ≡ ys ++ vs → length xs ≡ length ys → xs ≡ ys
@@ -120,8 +125,8 @@ sound-sized d e =
     let (p, g, f) = paths-print d e in
     record { few = f; short = all-map (λ q h. h .within .steps) g; bytes = rw p (sound-bytes d e) }
 
-module _ {d at len head next rows stays goes far lasts marks : List ℕ} {names p place : ℕ}
-    (v : Lining d at len head next rows stays goes far lasts marks names p place) where
+module _ {d at len head next rows stays goes far lasts marks tests : List ℕ} {names p place : ℕ}
+    (v : Lining d at len head next rows stays goes far lasts marks tests names p place) where
   prints : printList (v .done ++ v .left) ≡ d
   prints = rw (v .all) at (paths-print d (v .sound) .0)
 
@@ -168,23 +173,13 @@ module _ {d at len head next rows stays goes far lasts marks : List ℕ} {names 
     abbrev path : Path
     path = w .here .path
 
-    tail-is : lineEndAt d (r .end) ≡ Ends (path .marked) (r .end + length (printEnd (path .marked)))
-    unfolding lineEndAt
-    tail-is =
-        let a = printList (w .here .done) ++ printAll printStep (path .steps) in
-        let b = printEnd (path .marked) ++ printList (w .here .rest) in
-        let e : d ≡ a ++ b =
-        sym (whole (w .here))
-        ∙ print-parts (w .here .done) path (w .here .rest) (path .steps) [] (sym (append-nil (path .steps))) in
-        let l : length a ≡ r .end = length-append (printList (w .here .done)) (printAll printStep (path .steps)) ∙ sym (w .end-is) in
-        let f : drop (r .end) d ≡ b = ap (drop (r .end)) e ∙ drop-at a b (r .end) l in
-        let h : endAt (drop (r .end) d) ≡ some (path .marked) =
-        rw f (end-undoes .complete (path .marked) (printList (w .here .rest)) tt tt) in
-        ap (endPlaced (r .end)) h
+    pub lines-place : r .end < 65536
+    lines-place = rw (w .end-is) (end-below (w .here))
 
     module _ {t : Tail} (g : t ≡ tailOf (lineEndAt d (r .end)) (r .end)) where
-      tailed : t ≡ record { marked = path .marked; next = r .end + length (printEnd (path .marked)) }
-      tailed = g ∙ ap (λ (e : LineEnd). tailOf e (r .end)) tail-is
+      tailed : t
+          ≡ record { test = namePlace (path .test) (r .end); marked = path .marked; next = r .end + length (printEnd (endingOf path)) }
+      tailed = g ∙ tail-stands (w .here) (r .end) (w .end-is)
 
       next-is : t .next ≡ length (printList (v .done ++ path ∷ []))
       unfolding printList
@@ -192,13 +187,13 @@ module _ {d at len head next rows stays goes far lasts marks : List ℕ} {names 
           let a = ap (λ (x : Tail). x .next) tailed in
           let b = w .end-is in
           let c : printList (w .here .done ++ path ∷ [])
-          ≡ printList (w .here .done) ++ (printAll printStep (path .steps) ++ (printEnd (path .marked) ++ [])) =
+          ≡ printList (w .here .done) ++ (printAll printStep (path .steps) ++ (printEnd (endingOf path) ++ [])) =
           print-append printLine (w .here .done) (path ∷ [])
           ∙ ap (λ (l : List ℕ). printList (w .here .done) ++ l) (line-print path []) in
           let e = ap length c in
-          let f = length-append (printList (w .here .done)) (printAll printStep (path .steps) ++ (printEnd (path .marked) ++ [])) in
-          let h = length-append (printAll printStep (path .steps)) (printEnd (path .marked) ++ []) in
-          let i = ap length (append-nil (printEnd (path .marked))) in
+          let f = length-append (printList (w .here .done)) (printAll printStep (path .steps) ++ (printEnd (endingOf path) ++ [])) in
+          let h = length-append (printAll printStep (path .steps)) (printEnd (endingOf path) ++ []) in
+          let i = ap length (append-nil (printEnd (endingOf path))) in
           rw (← same-done) (omega arith)
 
       pub lines-less : length d - t .next < length d - place
@@ -220,15 +215,21 @@ module _ {d at len head next rows stays goes far lasts marks : List ℕ} {names 
               append-cancel-left (v .done) (v .left) (path ∷ w .here .rest)
               (sym (v .all) ∙ w .here .all ∙ ap (λ (l : List Path). l ++ path ∷ w .here .rest) same-done)
 
-      pub lines-more : {x : ℕ} → x ≡ cond (t .marked) (r .last) 0
+      pub lines-more : {x y : ℕ} → x ≡ cond (t .marked) (r .last) 0 → y ≡ ifTested (t .test) (r .end)
           → Lining d at′ len′ head′ next′ rows′ (set stays p (r .stays)) (set goes p (r .goes)) (set far p (r .far)) (set lasts p (r .last))
-          (set marks p x) (r .names) (p + 1) (t .next)
+          (set marks p x) (set tests p y) (r .names) (p + 1) (t .next)
       unfolding staysOf goesOf farOf lastsOf marksOf
-      lines-more {x} e =
+      lines-more {x} {y} e h =
           let l : length (v .done) < 32 = rw (← v .p-is) lines-few in
           let m = ap (λ (y : Tail). y .marked) tailed in
           let q : x ≡ cond (path .marked) (lastBit path) 0 =
           e ∙ ap (λ (b : Bool). cond b (r .last) 0) m ∙ ap (λ (n : ℕ). cond (path .marked) n 0) (w .last-is) in
+          let u : y ≡ testPlace (path .test) (length (printList (v .done)) + length (printAll printStep (path .steps))) =
+          h
+          ∙ ap (λ (z : Tail). ifTested (z .test) (r .end)) tailed
+          ∙ place-tested (path .test) (r .end)
+          ∙ ap (testPlace (path .test))
+          (w .end-is ∙ ap (λ (l : List Path). length (printList l) + length (printAll printStep (path .steps))) same-done) in
           record {
             sound = v .sound;
             done = v .done ++ path ∷ [];
@@ -245,6 +246,7 @@ module _ {d at len head next rows stays goes far lasts marks : List ℕ} {names 
             far-are = column-stored _ (v .done) path l (v .far-are) (v .p-is) (w .far-is);
             lasts-are = column-stored _ (v .done) path l (v .lasts-are) (v .p-is) (w .last-is);
             marks-are = column-stored _ (v .done) path l (v .marks-are) (v .p-is) q;
+            tests-are = tests-stored (v .done) path l (v .tests-are) (v .p-is) u;
           }
 
   -- how long each table is
@@ -286,33 +288,8 @@ module _ {d at len head next rows stays goes far lasts marks : List ℕ} {names 
   unfolding marksOf
   marks-size = rw (v .marks-are) (column-long _ (v .done) done-few)
 
-  -- and that there is room for it at its place
-  pub at-fits : 0 + length at ≤ 18368
-  at-fits = let z = at-size in omega arith
-
-  pub len-fits : 512 + length len ≤ 18368
-  len-fits = let z = len-size in omega arith
-
-  pub head-fits : 1024 + length head ≤ 18368
-  head-fits = let z = head-size in omega arith
-
-  pub next-fits : 1280 + length next ≤ 18368
-  next-fits = let z = next-size in omega arith
-
-  pub stays-fit : 18208 + length stays ≤ 18368
-  stays-fit = let z = stays-size in omega arith
-
-  pub goes-fit : 18240 + length goes ≤ 18368
-  goes-fit = let z = goes-size in omega arith
-
-  pub far-fit : 18272 + length far ≤ 18368
-  far-fit = let z = far-size in omega arith
-
-  pub lasts-fit : 18304 + length lasts ≤ 18368
-  lasts-fit = let z = lasts-size in omega arith
-
-  pub marks-fit : 18336 + length marks ≤ 18368
-  marks-fit = let z = marks-size in omega arith
+  pub tests-size : length tests ≡ 32
+  tests-size = rw (v .tests-are) (tests-long (v .done) done-few)
 
   -- no line is left
   module _ (l : length d ≤ place) where
@@ -338,7 +315,7 @@ module _ {d at len head next rows stays goes far lasts marks : List ℕ} {names 
     lines-spreadable = rw rows-are (numbers-spreadable (listPaths d) sized)
 
     module _ {rows′ : List ℕ} (s : Spread rows rows′) where
-      pub lines-long : Longs at len head next rows′ stays goes far lasts marks
+      pub lines-long : Longs at len head next rows′ stays goes far lasts marks tests
       lines-long =
           record {
             at-long = at-size;
@@ -351,10 +328,12 @@ module _ {d at len head next rows stays goes far lasts marks : List ℕ} {names 
             far-long = far-size;
             lasts-long = lasts-size;
             marks-long = marks-size;
+            tests-long = tests-size;
           }
 
       -- each is that of the list's paths
-      pub lines-end : joined (at ∷ len ∷ head ∷ next ∷ rows′ ∷ stays ∷ goes ∷ far ∷ lasts ∷ marks ∷ []) ≡ tablesOf (listPaths d)
+      pub lines-end : joined (at ∷ len ∷ head ∷ next ∷ rows′ ∷ stays ∷ goes ∷ far ∷ lasts ∷ marks ∷ tests ∷ [])
+          ≡ tablesOf (listPaths d)
       unfolding tablesOf
       lines-end =
           let i : Indexed d at len head next (namesOf (listPaths d)) = rw all-done at (v .built .indexed) in
@@ -363,11 +342,8 @@ module _ {d at len head next rows stays goes far lasts marks : List ℕ} {names 
           let x : far ≡ farOf (listPaths d) = rw all-done at (v .far-are) in
           let y : lasts ≡ lastsOf (listPaths d) = rw all-done at (v .lasts-are) in
           let z : marks ≡ marksOf (listPaths d) = rw all-done at (v .marks-are) in
+          let o : tests ≡ testsOf (listPaths d) = rw all-done at (v .tests-are) in
           let r = numbers-spread (listPaths d) sized (rw rows-are at s) in
           cc (i .at-is, i .len-is, i .head-is, i .next-is)
 
-pub ruleset over-lines = (lines-start, lines-line, lines-few, lines-less, lines-more, lines-spreadable, needs)
-
-pub ruleset sizes = (at-size, len-size, head-size, next-size, stays-size, goes-size, far-size, lasts-size, marks-size, needs)
-
-pub ruleset rooms = (at-fits, len-fits, head-fits, next-fits, stays-fit, goes-fit, far-fit, lasts-fit, marks-fit, needs)
+pub ruleset over-lines = (lines-start, lines-line, lines-few, lines-less, lines-place, lines-more, lines-spreadable, needs)

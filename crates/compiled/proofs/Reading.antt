@@ -10,7 +10,7 @@ use Rattle.paths.specs.declared.ListAnswer.the-variants.{Sound, TooLong, Malfor
 use Rattle.compiled.specs.Bits.{column, staysOf, goesOf, farOf, lastsOf, marksOf, otherFit}
 use Rattle.lookup.specs.Names.{namesOf, chainsOf}
 use Rattle.lookup.specs.Index.{padded}
-use Rattle.compiled.specs.Compiled.{joined, rowsOf, tablesOf}
+use Rattle.compiled.specs.Compiled.{joined, rowsOf, testsOf, tablesOf}
 use Rattle.compiled.proofs.NameRows.{joined-zeros}
 
 rows-none : replicate 16416 0 ≡ rowsOf []
@@ -30,15 +30,15 @@ zeros-joined : (ns : List ℕ) → joined (zeros ns) ≡ replicate (total ns) 0
 zeros-joined [] = refl
 zeros-joined (n ∷ ns) = rw (zeros-joined ns) (replicate-append-replicate n (total ns) 0)
 
-pub tables-none : replicate 18368 0 ≡ tablesOf []
-unfolding tablesOf staysOf goesOf farOf lastsOf marksOf column padded namesOf chainsOf
-tables-none = rw (← rows-none) (sym (zeros-joined (512 ∷ 512 ∷ 256 ∷ 512 ∷ 16416 ∷ 32 ∷ 32 ∷ 32 ∷ 32 ∷ 32 ∷ [])))
+pub tables-none : replicate 18400 0 ≡ tablesOf []
+unfolding tablesOf staysOf goesOf farOf lastsOf marksOf testsOf column padded namesOf chainsOf
+tables-none = rw (← rows-none) (sym (zeros-joined (512 ∷ 512 ∷ 256 ∷ 512 ∷ 16416 ∷ 32 ∷ 32 ∷ 32 ∷ 32 ∷ 32 ∷ 32 ∷ [])))
 
-pub read-refused : (d : List ℕ) {a : ListAnswer} → a ≡ listAnswer d → (a ≡ Sound → ⊥) → replicate 18368 0 ≡ tablesOf (listPaths d)
+pub read-refused : (d : List ℕ) {a : ListAnswer} → a ≡ listAnswer d → (a ≡ Sound → ⊥) → replicate 18400 0 ≡ tablesOf (listPaths d)
 unfolding listPaths
 read-refused d {a} e n = go a e n
   where
-    go : (b : ListAnswer) → b ≡ listAnswer d → (b ≡ Sound → ⊥) → replicate 18368 0 ≡ tablesOf (listPaths d)
+    go : (b : ListAnswer) → b ≡ listAnswer d → (b ≡ Sound → ⊥) → replicate 18400 0 ≡ tablesOf (listPaths d)
     go Sound e n = absurd (n refl)
     go TooLong e n = rw (← e) tables-none
     go (Malformed k) e n = rw (← e) tables-none

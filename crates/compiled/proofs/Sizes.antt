@@ -12,7 +12,7 @@ use Rattle.compiled.specs.Bits.{column, lastBit, staysOf, goesOf, farOf,
 use Rattle.lookup.specs.Names.{Named, namesOf, chainsOf}
 use Rattle.lookup.specs.Index.{padded}
 use Rattle.compiled.specs.Sizes.{Sized}
-use Rattle.compiled.specs.Compiled.{joined, rowsOf, placesOf, lengthsOf, tablesOf}
+use Rattle.compiled.specs.Compiled.{joined, rowsOf, placesOf, lengthsOf, testPlaces, testsOf, tablesOf}
 use Rattle.lookup.proofs.Search.{index-linked, at-long, len-long}
 use Rattle.compiled.proofs.Alls.{all-map, all-append}
 use Rattle.compiled.proofs.Firsts.{names-few}
@@ -20,6 +20,7 @@ use Rattle.compiled.proofs.Bits.{step-bits-below, column-long}
 use Rattle.compiled.proofs.Bits.{Below, below-all, below-padded, all-mapped}
 use Rattle.compiled.proofs.NameRows.{rows-long}
 use Rattle.compiled.proofs.Stand.{names-stand, paths-indexed}
+use Rattle.compiled.proofs.Tests.{tests-long, places-below}
 
 -- the lengths of the tables
 pub record Long (ps : List Path) : Type 0 where
@@ -33,6 +34,7 @@ pub record Long (ps : List Path) : Type 0 where
   pub far : length (farOf ps) ≡ 32
   pub lasts : length (lastsOf ps) ≡ 32
   pub marks : length (marksOf ps) ≡ 32
+  pub tests : length (testsOf ps) ≡ 32
 
 pub tables-long : (ps : List Path) → Sized ps → Long ps
 unfolding staysOf goesOf farOf lastsOf marksOf
@@ -50,6 +52,7 @@ tables-long ps s =
       far = column-long _ ps (s .few);
       lasts = column-long _ ps (s .few);
       marks = column-long _ ps (s .few);
+      tests = tests-long ps (s .few);
     }
 
 -- ---- bits
@@ -104,7 +107,7 @@ all-below [] f = none
 all-below (x ∷ xs) f = more (f 0) (all-below xs (λ i. f (suc i)))
 
 pub tables-below : (ps : List Path) → Sized ps → Below 65536 (tablesOf ps)
-unfolding tablesOf staysOf goesOf farOf lastsOf marksOf
+unfolding tablesOf staysOf goesOf farOf lastsOf marksOf testsOf
 tables-below ps s =
     let v = index-linked (paths-indexed ps s) in
     let f = names-few ps (s .few) (s .short) in
@@ -120,7 +123,8 @@ tables-below ps s =
     (more {x = goesOf ps} (all-column 65536 _ ps (omega arith) (all-map (step-bits-below _) (s .short)))
     (more {x = farOf ps} (all-column 65536 _ ps (omega arith) (all-map (step-bits-below _) (s .short)))
     (more {x = lastsOf ps} (all-column 65536 _ ps (omega arith) (all-map last-below (s .short)))
-    (more {x = marksOf ps} (all-column 65536 _ ps (omega arith) (all-map mark-below (s .short))) none)))))))))))
+    (more {x = marksOf ps} (all-column 65536 _ ps (omega arith) (all-map mark-below (s .short)))
+    (more {x = testsOf ps} (all-below (testsOf ps) tests) none))))))))))))
   where
     -- a name stands in the list, whose bytes are at most 8,192
     places : Below 65536 (placesOf ps)
@@ -134,3 +138,8 @@ tables-below ps s =
         below-padded 65536 512 (map (λ x. length (x .name)) (namesOf ps))
         (below-all (omega arith)
         (all-mapped (λ x. length (x .name)) (all-map (λ x h. let i = h .inside in let b = s .bytes in omega arith) (names-stand ps))))
+
+    tests : Below 65536 (testsOf ps)
+    tests =
+        below-padded 65536 32 (testPlaces 0 ps)
+        (below-all (omega arith) (places-below 65536 0 ps (let b = s .bytes in omega arith)))

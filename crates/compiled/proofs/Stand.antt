@@ -7,7 +7,7 @@ use native.Mathlib.Omega.{arith}
 use lib.ListN.{length, length-append}
 use lib.Seq.{take-at, drop-at}
 use Rattle.paths.specs.Path.{Test, any, named, Step, Path, All, none, more}
-use Rattle.paths.specs.Path.{printKind, printTest, printStep, printAll, printMark, printLine, printList}
+use Rattle.paths.specs.Path.{printKind, printTest, printStep, printAll, printAttribute, printMark, printLine, printList}
 use Rattle.xml.specs.Notation.{bytes}
 use Rattle.lookup.specs.Names.{testNames, stepNames, listNames, namesOf, chainsOf}
 use Rattle.compiled.specs.Sizes.{Sized}
@@ -47,7 +47,7 @@ unfolding printList printLine
 lists-stand w [] = none
 lists-stand w (p ∷ ps) =
     let a = printAll printStep (p .steps) in
-    let m = printMark (p .marked) ++ bytes "\n" in
+    let m = printAttribute (p .test) ++ printMark (p .marked) ++ bytes "\n" in
     let f : w ++ printList (p ∷ ps) ≡ w ++ (a ++ (m ++ printList ps)) = simp append-assoc in
     let g : w ++ printList (p ∷ ps) ≡ (w ++ printLine p) ++ printList ps = simp append-assoc in
     let c : All (Stands (w ++ printList (p ∷ ps))) (stepNames (length w) (p .steps)) =

@@ -66,7 +66,7 @@ pub record Built (d at len head next rows : List ℕ) (names : ℕ) (ps : List P
 
 -- a path with one more step
 abbrev pub longer : Path → Step → Path
-longer q s = record { steps = q .steps ++ s ∷ []; marked = q .marked }
+longer q s = record { steps = q .steps ++ s ∷ []; test = q .test; marked = q .marked }
 
 -- a step of path p, whose name has n bytes at the place a, comes after the paths done and the steps of the path so far
 pub record AtStep (d at len head next rows : List ℕ) (names p bit a n : ℕ) : Type 0 where

@@ -1,9 +1,10 @@
--- The compiled list, every entry of every table a function of the paths: the rows, the places and lengths of the names, and all tables
--- one behind the other.
+-- The compiled list, every entry of every table a function of the paths: the rows, the places and lengths of the names, the places of the
+-- tests, and all tables one behind the other.
 use mathlib.Core.List.{List, [], _∷_, _++_, map}
-use Prim.Native.Nat.{ℕ, _-_}
+use mathlib.Core.Option.{Option, none, some}
+use Prim.Native.Nat.{ℕ, _+_, _-_}
 use lib.ListN.{length, replicate}
-use Rattle.paths.specs.Path.{Path}
+use Rattle.paths.specs.Path.{AttributeTest, Path, printStep, printAll, printLine}
 use Rattle.compiled.specs.Bits.{staysOf, goesOf, farOf, lastsOf, marksOf, fitOf, otherFit}
 use Rattle.lookup.specs.Names.{namesOf, chainsOf}
 use Rattle.lookup.specs.Index.{padded}
@@ -24,7 +25,20 @@ placesOf ps = padded 512 (map (λ x. x .place) (namesOf ps))
 abbrev pub lengthsOf : List Path → List ℕ
 lengthsOf ps = padded 512 (map (λ x. length (x .name)) (namesOf ps))
 
--- the tables one behind the other: names, chains, rows, and what is said of each path's steps
+-- the places where the tests of the paths begin, right behind their steps, in a list that begins at the place at: 0 for a path without one
+abbrev pub testPlace : Option AttributeTest → ℕ → ℕ
+testPlace none place = 0
+testPlace (some x) place = place
+
+abbrev pub testPlaces : ℕ → List Path → List ℕ
+testPlaces at [] = []
+testPlaces at (p ∷ ps) =
+    testPlace (p .test) (at + length (printAll printStep (p .steps))) ∷ testPlaces (at + length (printLine p)) ps
+
+unfoldable pub testsOf : List Path → List ℕ
+testsOf ps = padded 32 (testPlaces 0 ps)
+
+-- the tables one behind the other: names, chains, rows, what is said of each path's steps, and where its test is
 unfoldable pub tablesOf : List Path → List ℕ
 tablesOf ps =
     joined
@@ -38,4 +52,5 @@ tablesOf ps =
     ∷ farOf ps
     ∷ lastsOf ps
     ∷ marksOf ps
+    ∷ testsOf ps
     ∷ [])

@@ -3,7 +3,7 @@
 use mathlib.Core.Path.{_≡_}
 use mathlib.Core.Bool.{false}
 use mathlib.Core.List.{List, [], _∷_, _++_}
-use Prim.Native.Nat.{ℕ, _+_}
+use Prim.Native.Nat.{ℕ, zero, suc, _+_}
 use lib.ListN.{length}
 use Rattle.paths.specs.Path.{Path, printStep, printAll, printList}
 use Rattle.paths.specs.Judge.{listAnswer, listPaths}
@@ -41,7 +41,12 @@ pub record LineDone (d at len head next rows : List ℕ) (p : ℕ) (r : Line) : 
   pub goes-is : r .goes ≡ stepBits (λ s. goes (s .kind)) (here .path)
   pub far-is : r .far ≡ stepBits (λ s. far (s .kind)) (here .path)
 
--- a line's end: its mark, and the next line's place; at no line's end no mark and the place itself
+-- a line's end: the place of its test's name, its mark, and the next line's place; at no line's end no test, no mark and the place itself
 abbrev pub tailOf : LineEnd → ℕ → Tail
-tailOf (Ends m n) at = record { marked = m; next = n }
-tailOf Fault at = record { marked = false; next = at }
+tailOf (Ends name len value size m n) at = record { test = name; marked = m; next = n }
+tailOf Fault at = record { test = 0; marked = false; next = at }
+
+-- a place, if there is a test, whose name is nowhere at 0
+abbrev pub ifTested : ℕ → ℕ → ℕ
+ifTested zero place = 0
+ifTested (suc name) place = place

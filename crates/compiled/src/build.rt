@@ -1,11 +1,11 @@
 // The tables of a sound list, entered step by step: a step's name, if it is not there yet, and its bit in the row of its name; for a line
-// the bits of the steps that stay, go or go far, the bit of its last, and its mark.
+// the bits of the steps that stay, go or go far, the bit of its last, its mark, and the place of its test.
 ghost use mathlib.Core.Path.{_≡_};
 ghost use Prim.Native.Nat.{_+_, _<_, _≤_};
 ghost use lib.ListN.{length};
 ghost use mathlib.Core.Bool.{cond};
 ghost use Rattle.paths.specs.Place.{lineEndAt};
-ghost use Rattle.compiled.specs.Line.{AtLine, LineDone, tailOf};
+ghost use Rattle.compiled.specs.Line.{AtLine, LineDone, tailOf, ifTested};
 ghost use Rattle.compiled.specs.Built.{Held, Entered, AtStep, StepDone};
 use crate::kinds::far_bit;
 use crate::kinds::go_bit;
@@ -146,19 +146,32 @@ pub fn enter_line(
     }
 }
 
-// The mark of a line, and the place of the next one.
+// The place of the name in a line's test, 0 for no test; its mark, and the place of the next line.
 pub struct Tail {
+    pub test: usize,
     pub marked: bool,
     pub next: usize,
 }
 
-// The end of a line that is read to a place; no mark and the place itself where no line ends.
+// The end of a line that is read to a place; no test, no mark and the place itself where no line ends.
 pub fn tail_at(list: &[u8], at: usize) -> Tail
     ensures { λ r. ⌜ r ≡ tailOf (lineEndAt (now (list .entry)) at) at ⌝ }
 {
     match end_at(list, at) {
-        LineEnd::Ends { marked, next } => Tail { marked, next },
+        LineEnd::Ends {
+            name,
+            len: _,
+            value: _,
+            size: _,
+            marked,
+            next,
+        } => Tail {
+            test: name,
+            marked,
+            next,
+        },
         LineEnd::Fault => Tail {
+            test: 0,
             marked: false,
             next: at,
         },
@@ -173,4 +186,15 @@ pub fn if_marked(marked: bool, last: u16) -> u16
         return last;
     }
     0
+}
+
+// The place where a line's test begins, if it has one.
+pub fn if_tested(test: usize, place: usize) -> u16
+    requires { ⌜ place < 65536 ⌝ }
+    ensures { λ r. ⌜ r ≡ ifTested test place ⌝ }
+{
+    if test == 0 {
+        return 0;
+    }
+    place as u16
 }

@@ -10,6 +10,7 @@ ghost use Rattle.compiled.specs.Compiled.{tablesOf};
 use crate::Compiled;
 use crate::build::enter_line;
 use crate::build::if_marked;
+use crate::build::if_tested;
 use crate::build::tail_at;
 use crate::layout;
 use crate::rows::spread;
@@ -18,7 +19,7 @@ use paths::answer;
 
 // One table is laid into all of them, from a place on.
 fn lay(t: &mut Compiled, from: usize, part: &[u16])
-    requires { ⌜ from + length (now part) ≤ 18368 ⌝ }
+    requires { ⌜ from + length (now part) ≤ 18400 ⌝ }
     ensures { λ r. ⌜ now (t .exit) ≡ sets (now (t .entry)) from (now (part .entry)) ⌝ }
 {
     let mut i: usize = 0;
@@ -28,9 +29,55 @@ fn lay(t: &mut Compiled, from: usize, part: &[u16])
     }
 }
 
+// The tables of names are laid, and the rows.
+fn lay_names(
+    t: &mut Compiled,
+    at: &[u16; layout::NAMES],
+    len: &[u16; layout::NAMES],
+    head: &[u16; layout::HEADS],
+    next: &[u16; layout::NAMES],
+    rows: &[u16; layout::ENTRIES],
+)
+    requires { ⌜ (length (now at) ≡ 512) × (length (now len) ≡ 512) × (length (now head) ≡ 256) × (length (now next) ≡ 512)
+        × (length (now rows) ≡ 16416) ⌝ }
+    ensures { λ r.
+        ⌜ now (t .exit) ≡ sets (sets (sets (sets (sets (now (t .entry)) 0 (now (at .entry))) 512 (now (len .entry))) 1024
+        (now (head .entry))) 1280 (now (next .entry))) 1792 (now (rows .entry)) ⌝ }
+{
+    lay(t, layout::AT, at);
+    lay(t, layout::LEN, len);
+    lay(t, layout::HEAD, head);
+    lay(t, layout::NEXT, next);
+    lay(t, layout::ROWS, rows);
+}
+
+// The columns are laid, behind them.
+fn lay_columns(
+    t: &mut Compiled,
+    stays: &[u16; layout::PATHS],
+    goes: &[u16; layout::PATHS],
+    far: &[u16; layout::PATHS],
+    lasts: &[u16; layout::PATHS],
+    marks: &[u16; layout::PATHS],
+    tests: &[u16; layout::PATHS],
+)
+    requires { ⌜ (length (now stays) ≡ 32) × (length (now goes) ≡ 32) × (length (now far) ≡ 32) × (length (now lasts) ≡ 32)
+        × (length (now marks) ≡ 32) × (length (now tests) ≡ 32) ⌝ }
+    ensures { λ r.
+        ⌜ now (t .exit) ≡ sets (sets (sets (sets (sets (sets (now (t .entry)) 18208 (now (stays .entry))) 18240 (now (goes .entry))) 18272
+        (now (far .entry))) 18304 (now (lasts .entry))) 18336 (now (marks .entry))) 18368 (now (tests .entry)) ⌝ }
+{
+    lay(t, layout::STAYS, stays);
+    lay(t, layout::GOES, goes);
+    lay(t, layout::FAR, far);
+    lay(t, layout::LASTS, lasts);
+    lay(t, layout::MARKS, marks);
+    lay(t, layout::TESTS, tests);
+}
+
 // The tables of the paths of a sound list.
 fn compile(list: &[u8], t: &mut Compiled)
-    requires { ⌜ (listAnswer (now list) ≡ Sound) × (length (now t) ≡ 18368) ⌝ }
+    requires { ⌜ (listAnswer (now list) ≡ Sound) × (length (now t) ≡ 18400) ⌝ }
     ensures { λ r. ⌜ now (t .exit) ≡ tablesOf (listPaths (now (list .entry))) ⌝ }
 {
     let mut stays = [0u16; layout::PATHS];
@@ -38,6 +85,7 @@ fn compile(list: &[u8], t: &mut Compiled)
     let mut far = [0u16; layout::PATHS];
     let mut lasts = [0u16; layout::PATHS];
     let mut marks = [0u16; layout::PATHS];
+    let mut tests = [0u16; layout::PATHS];
     let mut at = [0u16; layout::NAMES];
     let mut len = [0u16; layout::NAMES];
     let mut head = [0u16; layout::HEADS];
@@ -64,21 +112,14 @@ fn compile(list: &[u8], t: &mut Compiled)
         far[p] = line.far;
         lasts[p] = line.last;
         marks[p] = if_marked(tail.marked, line.last);
+        tests[p] = if_tested(tail.test, line.end);
         names = line.names;
         place = tail.next;
         p += 1;
     }
     spread(&mut rows);
-    lay(t, layout::AT, &at);
-    lay(t, layout::LEN, &len);
-    lay(t, layout::HEAD, &head);
-    lay(t, layout::NEXT, &next);
-    lay(t, layout::ROWS, &rows);
-    lay(t, layout::STAYS, &stays);
-    lay(t, layout::GOES, &goes);
-    lay(t, layout::FAR, &far);
-    lay(t, layout::LASTS, &lasts);
-    lay(t, layout::MARKS, &marks);
+    lay_names(t, &at, &len, &head, &next, &rows);
+    lay_columns(t, &stays, &goes, &far, &lasts, &marks, &tests);
 }
 
 // Any list: what is said of it, and its tables, those of no path where it is refused.

@@ -10,6 +10,7 @@
 //     FAR       those that may go further than right below       PATHS
 //     LASTS     its last step                                    PATHS
 //     MARKS     its last step again, if it is marked             PATHS
+//     TESTS     the place in the list where its test begins       PATHS      0 for a path without one
 //     LENGTH    the end
 //
 // Names are numbered from 1 in HEAD and NEXT, and 0 is none. Steps are bits: bit j for step j + 1.
@@ -44,4 +45,6 @@ pub const LASTS: usize = FAR + PATHS;
 
 pub const MARKS: usize = LASTS + PATHS;
 
-pub const LENGTH: usize = MARKS + PATHS;
+pub const TESTS: usize = MARKS + PATHS;
+
+pub const LENGTH: usize = TESTS + PATHS;

@@ -18,7 +18,7 @@ enum-told c = search needs
 
 compile-requires : tie.Need-compile-requires
 compile-requires c κs =
-    (sym (c .before .before .before .answer .ensures) ∙ c .before .enum-told .given .1, length-replicate {A = ℕ} 18368 0)
+    (sym (c .before .before .before .answer .ensures) ∙ c .before .enum-told .given .1, length-replicate {A = ℕ} 18400 0)
 
 returns : tie.Need-returns
 returns c = search needs
