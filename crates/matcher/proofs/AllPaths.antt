@@ -4,6 +4,7 @@ use mathlib.Core.Path.{_≡_, refl, sym, ap, ap₂, _∙_}
 use mathlib.Core.Bool.{Bool, true, false, cond, _&&_, and-false}
 use mathlib.Core.List.{List, [], _∷_, _++_, map}
 use mathlib.Core.Logic.{_↔_}
+use mathlib.Core.Option.{none as nothing}
 use Prim.Native.Nat.{ℕ, zero, suc, _≤_, _<_}
 use native.Mathlib.Nat.{zero-add}
 use native.Mathlib.Omega.{arith}
@@ -38,7 +39,7 @@ fitWith fits of ps x =
 -- ---- path i
 
 abbrev pub noPath : Path
-noPath = record { steps = []; marked = false }
+noPath = record { steps = []; test = nothing; marked = false }
 
 abbrev pub pathAt : List Path → ℕ → Path
 pathAt ps i = getD ps i noPath

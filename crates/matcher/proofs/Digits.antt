@@ -8,11 +8,8 @@ use lib.Bits.{bitAnd, bitOr, and-step, or-step, and-le-l}
 use lib.Pow.{mod-pow-add}
 use lib.Dec.{eqb}
 use Rattle.compiled.specs.Bits.{bit}
+use Rattle.matcher.specs.Fit.{odd}
 use Rattle.matcher.specs.State.{flood, hitsOf, carried}
-
--- the lowest bit
-abbrev pub odd : ℕ → Bool
-odd x = eqb (x % 2) 1
 
 low : (x : ℕ) → x % 2 ≡ bit (odd x)
 low x = go (x % 2) (omega arith)

@@ -13,9 +13,10 @@ use Rattle.paths.specs.Path.{Step}
 use Rattle.compiled.specs.Bits.{bit}
 use Rattle.matcher.specs.Select.{Reaches, PassesName}
 use Rattle.matcher.specs.Test.{lays, passesName, selects}
+use Rattle.matcher.specs.Fit.{odd}
 use Rattle.matcher.specs.State.{flood, hitsOf, nonzero}
 use Rattle.matcher.proofs.Places.{lays-iff, passes-decides}
-use Rattle.matcher.proofs.Digits.{odd, and-bit}
+use Rattle.matcher.proofs.Digits.{and-bit}
 use Rattle.matcher.proofs.Telling.{downPath, pathHits, Tells, ReachesAt, hits-told}
 
 abbrev pub lastOf : List Step → ℕ

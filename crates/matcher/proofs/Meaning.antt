@@ -1,24 +1,29 @@
 -- What the matcher says is what is meant. `says`, `says-only`: the verdict computed is the one that specs/Says.antt says, and no other is.
--- `told`, `told-only`: so is the verdict by the state carried down to an element's parent and the element's fit, for every sound list.
-use mathlib.Core.Path.{_≡_, refl, sym, _∙_}
+-- `told`, `told-only`: so is the verdict by the state carried down to an element's parent and the element's fit, for every sound list. Then
+-- where no look at attributes is needed for it, and how one is taken.
+use mathlib.Core.Path.{_≡_, refl, sym, ap, _∙_}
 use mathlib.Core.Bool.{Bool, true, false, false≢true, _&&_, _||_}
 use mathlib.Core.List.{List, [], _∷_, _++_}
 use mathlib.Core.Logic.{_↔_}
+use mathlib.Core.Option.{Option, none, some as just}
 use Prim.Native.Nat.{ℕ}
 use Rattle.xml.proofs.Bools.{and-left, and-right, and-both, or-left, or-right}
-use Rattle.paths.specs.Path.{Path}
+use Rattle.paths.specs.Path.{AttributeTest, Path}
 use Rattle.paths.specs.Judge.{listAnswer, listPaths}
 use Rattle.paths.specs.declared.ListAnswer.the-variants.{Sound}
+use Rattle.attributes.specs.Attribute.{Attribute}
+use Rattle.attributes.proofs.Has.{has-found, found-has}
 use Rattle.compiled.proofs.OverLines.{sound-sized}
-use Rattle.matcher.specs.Select.{Selects}
-use Rattle.matcher.specs.Test.{selects}
+use Rattle.matcher.specs.Pick.{PassesTest, Picks, passesTest, picks}
 use Rattle.matcher.specs.Says.{Some, this, later, BySome, ByMarked, Says, some, decided, verdictOf}
-use Rattle.matcher.specs.Fit.{fitFor}
+use Rattle.matcher.specs.Fit.{fitFor, Untested, passingOf, amongOf, fitWhere}
 use Rattle.matcher.specs.State.{stateOf, verdictBy}
 use Rattle.matcher.specs.declared.Verdict.{Verdict}
 use Rattle.matcher.specs.declared.Verdict.the-variants.{Unselected, Selected, Marked}
 use Rattle.matcher.proofs.Places.{selects-iff}
-use Rattle.matcher.proofs.Verdicts.{verdict-carried}
+use Rattle.matcher.proofs.Verdicts.{namesVerdict, verdict-plain, verdict-carried, unselected-picked, untested-verdict}
+
+-- ---- one of several
 
 module _ {A : Type 0} (P : A → Type 0) (f : A → Bool) (same : (x : A) → P x ↔ (f x ≡ true)) where
   some-true : (xs : List A) → some f xs ≡ true → Some P xs
@@ -33,54 +38,65 @@ module _ {A : Type 0} (P : A → Type 0) (f : A → Bool) (same : (x : A) → P 
   true-some (x ∷ xs) (this h) = or-left (f x) (some f xs) (same x .0 h)
   true-some (x ∷ xs) (later h) = or-right (f x) (some f xs) (true-some xs h)
 
-module _ (ps : List Path) (names : List (List ℕ)) where
-  selected-same : (p : Path) → Selects (p .steps) names ↔ (selects (p .steps) names ≡ true)
-  selected-same p = selects-iff (p .steps) names
+-- ---- a path
 
-  marked-same : (p : Path)
-      → ((p .marked ≡ true) × Selects (p .steps) names) ↔ ((p .marked && selects (p .steps) names) ≡ true)
-  marked-same p = (
-    λ h. and-both (p .marked) (selects (p .steps) names) (h .0) (selected-same p .0 (h .1)),
-    λ e. (and-left (p .marked) _ e, selected-same p .1 (and-right (p .marked) _ e)),
+both-iff : {P Q : Type 0} {a b : Bool} → P ↔ (a ≡ true) → Q ↔ (b ≡ true) → (Q × P) ↔ (a && b ≡ true)
+both-iff {a = a} {b = b} p q =
+    ((λ h. and-both a b (p .0 (h .1)) (q .0 (h .0))), (λ e. (q .1 (and-right a b e), p .1 (and-left a b e))))
+
+pub passes-iff : (t : Option AttributeTest) (xs : List Attribute) → PassesTest t xs ↔ (passesTest t xs ≡ true)
+passes-iff none xs = ((λ h. refl), (λ e. tt))
+passes-iff (just a) xs = (has-found (a .name) (a .value), found-has (a .name) (a .value) xs)
+
+pub picks-iff : (p : Path) (names : List (List ℕ)) (xs : List Attribute) → Picks p names xs ↔ (picks p names xs ≡ true)
+picks-iff p names xs = both-iff (passes-iff (p .test) xs) (selects-iff (p .steps) names)
+
+-- ---- the verdict
+
+module _ (ps : List Path) (names : List (List ℕ)) (xs : List Attribute) where
+  marked-iff : (p : Path) → ((p .marked ≡ true) × Picks p names xs) ↔ ((p .marked && picks p names xs) ≡ true)
+  marked-iff p = (
+    λ h. and-both (p .marked) (picks p names xs) (h .0) (picks-iff p names xs .0 (h .1)),
+    λ e. (and-left (p .marked) _ e, picks-iff p names xs .1 (and-right (p .marked) _ e)),
   )
 
-  -- whether a marked path selects, and whether any does
+  -- whether a marked path picks it, and whether any does
   abbrev byMarked : Bool
-  byMarked = some (λ p. p .marked && selects (p .steps) names) ps
+  byMarked = some (λ p. p .marked && picks p names xs) ps
 
   abbrev bySome : Bool
-  bySome = some (λ p. selects (p .steps) names) ps
+  bySome = some (λ p. picks p names xs) ps
 
-  marked-true : byMarked ≡ true → ByMarked ps names
-  marked-true = some-true _ (λ p. p .marked && selects (p .steps) names) marked-same ps
+  marked-true : byMarked ≡ true → ByMarked ps names xs
+  marked-true = some-true _ (λ p. p .marked && picks p names xs) marked-iff ps
 
-  true-marked : ByMarked ps names → byMarked ≡ true
-  true-marked = true-some _ (λ p. p .marked && selects (p .steps) names) marked-same ps
+  true-marked : ByMarked ps names xs → byMarked ≡ true
+  true-marked = true-some _ (λ p. p .marked && picks p names xs) marked-iff ps
 
-  selected-true : bySome ≡ true → BySome ps names
-  selected-true = some-true _ (λ p. selects (p .steps) names) selected-same ps
+  selected-true : bySome ≡ true → BySome ps names xs
+  selected-true = some-true _ (λ p. picks p names xs) (λ p. picks-iff p names xs) ps
 
-  true-selected : BySome ps names → bySome ≡ true
-  true-selected = true-some _ (λ p. selects (p .steps) names) selected-same ps
+  true-selected : BySome ps names xs → bySome ≡ true
+  true-selected = true-some _ (λ p. picks p names xs) (λ p. picks-iff p names xs) ps
 
-  marked-some : {xs : List Path} → ByMarked xs names → BySome xs names
+  marked-some : {qs : List Path} → ByMarked qs names xs → BySome qs names xs
   marked-some (this h) = this (h .1)
   marked-some (later h) = later (marked-some h)
 
-  pub says : Says ps names (verdictOf ps names)
+  pub says : Says ps names xs (verdictOf ps names xs)
   unfolding verdictOf
   says = go byMarked bySome refl refl
     where
-      go : (b c : Bool) → byMarked ≡ b → bySome ≡ c → Says ps names (decided b c)
+      go : (b c : Bool) → byMarked ≡ b → bySome ≡ c → Says ps names xs (decided b c)
       go true c e q = marked-true e
       go false true e q = (selected-true q, λ h. false≢true (sym e ∙ true-marked h))
       go false false e q = λ h. false≢true (sym q ∙ true-selected h)
 
-  pub says-only : (v : Verdict) → Says ps names v → v ≡ verdictOf ps names
+  pub says-only : (v : Verdict) → Says ps names xs v → v ≡ verdictOf ps names xs
   unfolding verdictOf
   says-only v h = go byMarked bySome refl refl v h
     where
-      go : (b c : Bool) → byMarked ≡ b → bySome ≡ c → (v : Verdict) → Says ps names v → v ≡ decided b c
+      go : (b c : Bool) → byMarked ≡ b → bySome ≡ c → (v : Verdict) → Says ps names xs v → v ≡ decided b c
       go true c e q Marked h = refl
       go true c e q Selected h = absurd (h .1 (marked-true e))
       go true c e q Unselected h = absurd (h (marked-some (marked-true e)))
@@ -90,17 +106,38 @@ module _ (ps : List Path) (names : List (List ℕ)) where
       go false false e q Selected h = absurd (false≢true (sym q ∙ true-selected (h .0)))
       go false false e q Unselected h = refl
 
--- ---- by states and fits: `names` lead to the parent, and n is the element's own name
+-- ---- by states and fits: `names` lead to the parent, n is the element's own name and xs are its attributes
 
-module _ (d : List ℕ) (sound : listAnswer d ≡ Sound) (names : List (List ℕ)) (n : List ℕ) where
-  pub verdict-told : verdictBy (stateOf (listPaths d) names) (fitFor (listPaths d) n) ≡ verdictOf (listPaths d) (names ++ n ∷ [])
+module _ (d : List ℕ) (sound : listAnswer d ≡ Sound) (names : List (List ℕ)) (n : List ℕ) (xs : List Attribute) where
+  -- the verdict of which no attribute is looked at
+  abbrev plain : Verdict
+  plain = verdictBy (stateOf (listPaths d) names) (fitFor (listPaths d) n)
+
+  pub verdict-told : verdictBy (stateOf (listPaths d) names) (fitWhere (listPaths d) n xs) ≡ verdictOf (listPaths d) (names ++ n ∷ []) xs
   verdict-told =
       let s = sound-sized d sound in
-      verdict-carried (listPaths d) (s .few) (s .short) names n
+      verdict-carried (listPaths d) (s .few) (s .short) names n xs
 
-  pub told : Says (listPaths d) (names ++ n ∷ []) (verdictBy (stateOf (listPaths d) names) (fitFor (listPaths d) n))
-  told = rw verdict-told (says (listPaths d) (names ++ n ∷ []))
+  pub told : Says (listPaths d) (names ++ n ∷ []) xs (verdictBy (stateOf (listPaths d) names) (fitWhere (listPaths d) n xs))
+  told = rw verdict-told (says (listPaths d) (names ++ n ∷ []) xs)
 
-  pub told-only : (v : Verdict) → Says (listPaths d) (names ++ n ∷ []) v
-      → v ≡ verdictBy (stateOf (listPaths d) names) (fitFor (listPaths d) n)
-  told-only v h = says-only (listPaths d) (names ++ n ∷ []) v h ∙ sym verdict-told
+  pub told-only : (v : Verdict) → Says (listPaths d) (names ++ n ∷ []) xs v
+      → v ≡ verdictBy (stateOf (listPaths d) names) (fitWhere (listPaths d) n xs)
+  told-only v h = says-only (listPaths d) (names ++ n ∷ []) xs v h ∙ sym verdict-told
+
+  plain-names : plain ≡ namesVerdict (λ p. true) (listPaths d) (names ++ n ∷ [])
+  plain-names =
+      let s = sound-sized d sound in
+      verdict-plain (listPaths d) (s .few) (s .short) names n
+
+  -- three ways to the verdict: no path's steps select the element; no path has a test; by the paths whose test it passes
+  pub unselected-told : plain ≡ Unselected → plain ≡ verdictOf (listPaths d) (names ++ n ∷ []) xs
+  unselected-told e = e ∙ sym (unselected-picked (listPaths d) (names ++ n ∷ []) xs (sym plain-names ∙ e))
+
+  pub untested-told : Untested (listPaths d) → plain ≡ verdictOf (listPaths d) (names ++ n ∷ []) xs
+  untested-told u = plain-names ∙ sym (untested-verdict (listPaths d) (names ++ n ∷ []) xs u)
+
+  pub passing-told : {k : ℕ} → k ≡ passingOf (listPaths d) xs
+      → verdictBy (stateOf (listPaths d) names) (amongOf (fitFor (listPaths d) n) k) ≡ verdictOf (listPaths d) (names ++ n ∷ []) xs
+  unfolding fitWhere
+  passing-told e = ap (λ (k : ℕ). verdictBy (stateOf (listPaths d) names) (amongOf (fitFor (listPaths d) n) k)) e ∙ verdict-told

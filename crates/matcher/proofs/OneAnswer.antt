@@ -3,6 +3,7 @@
 use mathlib.Core.Path.{sym, _∙_}
 use Rattle.contracts.specs.One.{OneResult}
 use Rattle.matcher.proofs.fit.fit_of.Reads as fit-of
+use Rattle.matcher.proofs.fit.Fit.among.Reads as among
 use Rattle.matcher.proofs.state.MatchState.fresh.Reads as fresh
 use Rattle.matcher.proofs.state.MatchState.deeper.Reads as deeper
 use Rattle.matcher.proofs.state.MatchState.verdict_on.Reads as verdict-on
@@ -10,6 +11,10 @@ use Rattle.matcher.proofs.state.MatchState.verdict_on.Reads as verdict-
 -- `fit::fit_of`
 pub fit-of-one : OneResult fit-of.Asked fit-of.Learnt
 fit-of-one κs a z z′ e e′ x p q = p ∙ sym q
+
+-- `fit::Fit::among`
+pub among-one : OneResult among.Asked among.Learnt
+among-one κs a z z′ e e′ x p q = p ∙ sym q
 
 -- `state::MatchState::fresh`
 pub fresh-one : OneResult fresh.Asked fresh.Learnt

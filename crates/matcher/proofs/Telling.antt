@@ -15,10 +15,11 @@ use Rattle.compiled.specs.Kinds.{stays, goes, far}
 use Rattle.compiled.specs.Bits.{bit, bitsOf}
 use Rattle.matcher.specs.Select.{At, Stands, all, Reaches}
 use Rattle.matcher.specs.Moves.{Moves, same, down}
+use Rattle.matcher.specs.Fit.{odd}
 use Rattle.matcher.specs.State.{hitsOf, carried}
 use Rattle.matcher.proofs.Moving.{below-moves}
 use Rattle.matcher.proofs.Laying.{at-behind, at-one, reach-more, reach-last, reach-zero, reach-none}
-use Rattle.matcher.proofs.Digits.{odd, bit-half, bit-odd, hitsIn, isHit, hits-bit, hits-in}
+use Rattle.matcher.proofs.Digits.{bit-half, bit-odd, hitsIn, isHit, hits-bit, hits-in}
 use Rattle.matcher.proofs.Digits.{carriedIn, carried-bit, carried-none, carried-in}
 
 -- ---- the bits of a path

@@ -1,8 +1,9 @@
--- Definitions, in the order to read them: what a path selects, and what the kinds of step share; a test of it; what a list says of an
--- element. Then the matcher on numbers: an element's fit, states, the verdict.
+-- Definitions, in the order to read them: what a path's steps select, and what the kinds of step share; a test of it; what a path picks
+-- with its attribute test; what a list says of an element. Then the matcher on numbers: an element's fit, states, the verdict.
 pub mod Select
 pub mod Moves
 pub mod Test
+pub mod Pick
 pub mod Says
 pub mod Fit
 pub mod State
