@@ -1,5 +1,5 @@
 -- The cut of a document by a list, and the number of elements selected. A refused list has no paths; what is refused is said elsewhere.
--- The verdict on an element is the matcher's, on the names from the root down to it.
+-- The verdict on an element is the matcher's, on the names from the root down to it and its attributes.
 use mathlib.Core.List.{List, [], _∷_, _++_}
 use Prim.Native.Nat.{ℕ}
 use Rattle.xml.specs.Forest.{Name, render}
@@ -15,7 +15,7 @@ rootFirst [] = []
 rootFirst (n ∷ up) = rootFirst up ++ n ∷ []
 
 unfoldable pub verdicts : List Path → Judge
-verdicts ps up = verdictOf ps (rootFirst up)
+verdicts ps up xs = verdictOf ps (rootFirst up) xs
 
 unfoldable pub cutOf : List ℕ → List ℕ → List ℕ
 cutOf list d = render (cut (verdicts (listPaths list)) [] (forestOf d))
