@@ -33,14 +33,18 @@ use Rattle.document.specs.declared.judge.Judged.the-variants.{Sound}
 use Rattle.document.proofs.After.{start-room}
 use Rattle.document.proofs.Placing.{not-among}
 use Rattle.document.proofs.Judging.{Judging, judge-start, judge-fault, judge-over, fine-ahead, scan-inside, scan-less, scan-on}
-use Rattle.matcher.specs.Fit.{fitFor}
+use Rattle.attributes.specs.Held.{attributesOf}
+use Rattle.matcher.specs.Fit.{fitFor, Untested, passingOf, amongOf}
 use Rattle.matcher.specs.Says.{verdictOf}
 use Rattle.matcher.specs.State.{freshState, deeperOf, verdictBy, stateOf}
 use Rattle.matcher.specs.declared.Verdict.{Verdict}
+use Rattle.matcher.specs.declared.Verdict.the-variants.{Unselected}
 use Rattle.matcher.specs.declared.fit.Fit.{Fit}
 use Rattle.matcher.specs.declared.state.MatchState.{MatchState}
-use Rattle.matcher.proofs.Meaning.{verdict-told}
-use Rattle.trees.specs.Grown.{part, tokensOf}
+use Rattle.matcher.proofs.Meaning.{unselected-told, untested-told, passing-told}
+use Rattle.xml.specs.Forest.{Tag}
+use Rattle.trees.specs.Cut.{on}
+use Rattle.trees.specs.Grown.{part, tagOf, tokensOf}
 use Rattle.trees.specs.Engine.{Engine, engine, begun, openOf, run as runs}
 use Rattle.trees.specs.Written.{rootFirst, verdicts, cutOf, countOf}
 use Rattle.trees.proofs.Told.{run-cut}
@@ -318,15 +322,51 @@ module _ {list d o₀ : List ℕ} {states : List MatchState} {starts lens : List
         fit-is : fit ≡ fitFor (listPaths list) (nameFrom d (at + 1) n)
         fit-is = ef ∙ ap (fitFor (listPaths list)) (name-part d (at + 1) n)
 
-        verdict-is : {w : Verdict} → w ≡ verdictBy parent fit → w ≡ verdicts (listPaths list) (nameFrom d (at + 1) n ∷ openOf (v .x))
+        abbrev tag : Tag
+        tag = tagOf d at n b f
+
+        -- the list's verdict on the element
+        abbrev pub TagVerdict : Verdict → Type 0
+        TagVerdict w = w ≡ on (verdicts (listPaths list)) tag (openOf (v .x))
+
+        verdict-is : {w : Verdict}
+            → w ≡ verdictOf (listPaths list) (above d starts lens (opened .level .0) ++ nameFrom d (at + 1) n ∷ []) (attributesOf tag)
+            → TagVerdict w
         unfolding verdicts
         verdict-is ew =
             ew
+            ∙ ap (λ (ns : List (List ℕ)). verdictOf (listPaths list) (rootFirst ns ++ nameFrom d (at + 1) n ∷ []) (attributesOf tag))
+            (sym (open-is (v .stands) (v .order)))
+
+        -- the verdict of which no attribute is looked at
+        plain-is : {w : Verdict} → w ≡ verdictBy parent fit
+            → w ≡ verdictBy (stateOf (listPaths list) (above d starts lens (opened .level .0)))
+            (fitFor (listPaths list) (nameFrom d (at + 1) n))
+        plain-is ew =
+            ew
             ∙ ap (λ (y : MatchState). verdictBy y fit) parent-state
             ∙ ap (verdictBy (stateOf (listPaths list) (above d starts lens (opened .level .0)))) fit-is
-            ∙ verdict-told list sound (above d starts lens (opened .level .0)) (nameFrom d (at + 1) n)
-            ∙ ap (λ (ns : List (List ℕ)). verdictOf (listPaths list) (rootFirst ns ++ nameFrom d (at + 1) n ∷ []))
-            (sym (open-is (v .stands) (v .order)))
+
+        -- three ways to the list's verdict: no path's steps select the element; no path has a test; by the paths whose test it passes
+        pub verdict-unselected : {w : Verdict} → w ≡ verdictBy parent fit → w ≡ Unselected → TagVerdict w
+        verdict-unselected ew eu =
+            verdict-is (plain-is ew
+            ∙ unselected-told list sound (above d starts lens (opened .level .0)) (nameFrom d (at + 1) n) (attributesOf tag)
+            (sym (plain-is ew) ∙ eu))
+
+        pub verdict-untested : {w : Verdict} → w ≡ verdictBy parent fit → Untested (listPaths list) → TagVerdict w
+        verdict-untested ew u =
+            verdict-is (plain-is ew
+            ∙ untested-told list sound (above d starts lens (opened .level .0)) (nameFrom d (at + 1) n) (attributesOf tag) u)
+
+        pub verdict-passing : {w : Verdict} {fit′ : Fit} {passing : ℕ} → w ≡ verdictBy parent fit′ → fit′ ≡ amongOf fit passing
+            → passing ≡ passingOf (listPaths list) (attributesOf tag) → TagVerdict w
+        verdict-passing {passing = passing} ew ea eq =
+            let m = stateOf (listPaths list) (above d starts lens (opened .level .0)) in
+            verdict-is (ew
+            ∙ ap (λ (y : MatchState). verdictBy y _) parent-state
+            ∙ ap (verdictBy m) (ea ∙ ap (λ (y : Fit). amongOf y passing) fit-is)
+            ∙ passing-told list sound (above d starts lens (opened .level .0)) (nameFrom d (at + 1) n) (attributesOf tag) eq)
 
         state-is : {m′ : MatchState} → m′ ≡ deeperOf parent fit
             → m′ ≡ deeperOf (stateOf (listPaths list) (above d starts lens (opened .level .0))) (fitFor (listPaths list) (nameFrom d (at
@@ -349,7 +389,7 @@ module _ {list d o₀ : List ℕ} {states : List MatchState} {starts lens : List
             (held-same (v .held) (at + 1) n m′ ls ll lt (state-is em))
             (held-deeper (v .held) (at + 1) n m′ ls ll lt (state-is em))
 
-        pub pass-tag : {w : Verdict} → w ≡ verdictBy parent fit → {m′ : MatchState} → m′ ≡ deeperOf parent fit → {run′ : Run} {o′ : List
+        pub pass-tag : {w : Verdict} → TagVerdict w → {m′ : MatchState} → m′ ≡ deeperOf parent fit → {run′ : Run} {o′ : List
             ℕ}
             → Moves d starts′ lens′ (opened .level .0) run o
             (onTag w (nameAt d starts′ lens′ (opened .level .0)) (part d at b) (part d at f) m) 2 (deeper m (opened .level .0)) run′ o′
@@ -359,7 +399,7 @@ module _ {list d o₀ : List ℕ} {states : List MatchState} {starts lens : List
             record {
               judging = scan-on (v .judging) e q h es el (eo ∙ sym (ap (λ (j : Item). openAfter j opened) s)) (sym (ap (endOf at) s));
               x = onTag w (nameFrom d (at + 1) n) (part d at b) (part d at f) m (v .x);
-              rest = rw (verdict-is ew) (rest-tag (v .rest) (sym s ∙ e) tag-from (places .1) (places .2));
+              rest = rw ew (rest-tag (v .rest) (sym s ∙ e) tag-from (places .1) (places .2));
               stands =
                   rw (name-is, level) at
                   (mv .moves o₀ (v .x) (rw (es, lens-is) (stands-kept (v .order) (v .stands) (at + 1) n)));

@@ -19,8 +19,8 @@ use Rattle.document.specs.Place.{Opened, placement, endOf}
 use Rattle.document.specs.Judge.{startOf}
 use Rattle.document.specs.declared.Placement.the-variants.{Fine, Over}
 use Rattle.document.proofs.Placing.{not-among}
-use Rattle.trees.specs.Cut.{Judge}
-use Rattle.trees.specs.Grown.{Token, part, itemTokens, tokensFrom, tokensOf}
+use Rattle.trees.specs.Cut.{Judge, on}
+use Rattle.trees.specs.Grown.{Token, part, tagOf, itemTokens, tokensFrom, tokensOf}
 use Rattle.trees.specs.Engine.{Engine, begun, openOf, onStart, onFinish, run}
 use Rattle.trees.proofs.Passes.{over-fine, over-nothing}
 use Rattle.output.specs.Act.{onTag, onOther}
@@ -92,11 +92,11 @@ module _ (v : Judge) (d : List ℕ) (at n h e : ℕ) (t : Bool) (x : Engine) (l 
   name = nameFrom d (at + 1) n
 
   abbrev made : Bool → Engine
-  made m = onTag (v (name ∷ openOf x)) name (part d at h) (part d at e) m x
+  made m = onTag (on v (tagOf d at n h e) (openOf x)) name (part d at h) (part d at e) m x
 
-  join : onStart (v (name ∷ openOf x)) name (part d at h) (part d at h ++ part d h e) x
-      ≡ onStart (v (name ∷ openOf x)) name (part d at h) (part d at e) x
-  join = ap (λ (raw : List ℕ). onStart (v (name ∷ openOf x)) name (part d at h) raw x) (part-join d at h e l k)
+  join : onStart (on v (tagOf d at n h e) (openOf x)) name (part d at h) (part d at h ++ part d h e) x
+      ≡ onStart (on v (tagOf d at n h e) (openOf x)) name (part d at h) (part d at e) x
+  join = ap (λ (raw : List ℕ). onStart (on v (tagOf d at n h e) (openOf x)) name (part d at h) raw x) (part-join d at h e l k)
 
   tag-makes : (m : Bool) → Makes v d at (Start n h e m t) x (made m)
   tag-makes true ts = ap (λ (y : Engine). run v ts (onFinish [] y)) join
@@ -104,7 +104,7 @@ module _ (v : Judge) (d : List ℕ) (at n h e : ℕ) (t : Bool) (x : Engine) (l 
 
 pub rest-tag : {v : Judge} {d : List ℕ} {at : ℕ} {first : Bool} {x : Engine} → Rest v d at first x
     → {n h e : ℕ} {m t : Bool} → Start n h e m t ≡ itemAt first d at → at ≤ h → h < e → e ≤ length d
-    → Rest v d e false (onTag (v (nameFrom d (at + 1) n ∷ openOf x)) (nameFrom d (at + 1) n) (part d at h) (part d at e) m x)
+    → Rest v d e false (onTag (on v (tagOf d at n h e) (openOf x)) (nameFrom d (at + 1) n) (part d at h) (part d at e) m x)
 rest-tag {v} {d} {at} {x = x} r {n} {h} {e} {m} {t} q l k g =
     rest-on r q (tag-makes v d at n h e t x l (omega arith) m) (omega arith) g
 
