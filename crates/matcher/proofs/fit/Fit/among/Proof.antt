@@ -6,7 +6,8 @@ use Rattle.matcher.proofs.fit.Fit.among.Statement.{statement}
 use Rattle.matcher.proofs.fit.Fit.among.Tie as tie
 
 abbrev Inv-loop : tie.InvT-loop
-Inv-loop passing passes stays goes far lasts marks lasts-among₀ marks-among₀ p₀ lasts-among marks-among p = Narrowed passing lasts marks lasts-among marks-among p
+Inv-loop passing passes stays goes far lasts marks lasts-among₀ marks-among₀ p₀ lasts-among marks-among p =
+    Narrowed passing lasts marks lasts-among marks-among p
 
 abbrev μ-loop : tie.MeasureT-loop
 μ-loop passing passes stays goes far lasts marks lasts-among₀ marks-among₀ p₀ lasts-among marks-among p = 32 - p
