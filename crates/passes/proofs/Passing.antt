@@ -361,10 +361,10 @@ module _ {list d o₀ : List ℕ} {states : List MatchState} {starts lens : List
 
         pub verdict-passing : {w : Verdict} {fit′ : Fit} {passing : ℕ} → w ≡ verdictBy parent fit′ → fit′ ≡ amongOf fit passing
             → passing ≡ passingOf (listPaths list) (attributesOf tag) → TagVerdict w
-        verdict-passing {passing = passing} ew ea eq =
+        verdict-passing {fit′ = fit′} {passing} ew ea eq =
             let m = stateOf (listPaths list) (above d starts lens (opened .level .0)) in
             verdict-is (ew
-            ∙ ap (λ (y : MatchState). verdictBy y _) parent-state
+            ∙ ap (λ (y : MatchState). verdictBy y fit′) parent-state
             ∙ ap (verdictBy m) (ea ∙ ap (λ (y : Fit). amongOf y passing) fit-is)
             ∙ passing-told list sound (above d starts lens (opened .level .0)) (nameFrom d (at + 1) n) (attributesOf tag) eq)
 
