@@ -24,15 +24,14 @@ use Rattle.document.specs.declared.Why.{Why}
 use Rattle.document.specs.declared.Why.the-variants as why
 use Rattle.document.specs.declared.judge.Judged.{Judged}
 use Rattle.document.specs.declared.judge.Judged.the-variants as judged
-use Rattle.matcher.specs.Says.{BySome, verdictOf}
-use Rattle.trees.specs.Cut.{isSelected}
+use Rattle.matcher.specs.Says.{BySome}
 use Rattle.trees.specs.Grown.{forestOf}
 use Rattle.trees.specs.Written.{cutOf, countOf}
 use Rattle.cutter.specs.Answer.{byList, byDocument, byRoom, answerOf, bytesAfter, numberOf, secondOf}
 use Rattle.cutter.specs.declared.Answer.{Answer}
 use Rattle.cutter.specs.declared.Answer.the-variants.{Written, ListTooLong, ListMalformed, ListTooLarge, TooLong}
 use Rattle.cutter.specs.declared.Answer.the-variants.{OtherEncoding, NotChar, Doctype, Malformed, TooLarge, Short}
-use Rattle.demands.specs.Elements.{elements, howMany}
+use Rattle.demands.specs.Elements.{Element, elements, howMany}
 use Rattle.demands.specs.Judged.{Accepted, DocumentSays}
 use Rattle.demands.specs.Judged as document-says
 use Rattle.demands.specs.Rule.{Writes}
@@ -40,7 +39,7 @@ use Rattle.demands.specs.Answers.{Counted, none, this, other, Cuts, Answ
 use Rattle.demands.specs.Answers.{other-encoding, not-char, doctype, malformed, too-large, short, written, BufferSays, on-written}
 use Rattle.demands.specs.Answers.{on-refused, Placed}
 use Rattle.demands.proofs.Answered.{refused, written as cut-stands}
-use Rattle.demands.proofs.Selected.{selected-iff, count-selected}
+use Rattle.demands.proofs.Selected.{chosen, selected-iff, count-selected}
 use Rattle.demands.proofs.Accepted.{derived-forest}
 use Rattle.demands.proofs.Under.{rule-written, written-only}
 use Rattle.demands.proofs.Faults.{judge-says, judge-only, inside, runs-out-seven}
@@ -84,8 +83,8 @@ cut-cuts list d p q = go (rw q at (judge-says d))
           writes = rule-written list d;
           selected =
               rw (count-selected list d)
-              (many-counted (λ (names : List Name). BySome (listPaths list) names) (λ names. isSelected (verdictOf (listPaths list) names))
-              (selected-iff (listPaths list)) (elements [] (forestOf d)));
+              (many-counted (λ (x : Element). BySome (listPaths list) (x .names) (x .attributes)) (chosen (listPaths list))
+              (λ x. selected-iff (listPaths list) (x .names) (x .attributes)) (elements [] (forestOf d)));
         }
 
 -- and one only
@@ -108,8 +107,8 @@ cuts-only {list} {d} {w} {c} x =
       document-sound = judge-only d judged.Sound (document-says.sound (x .accepted));
       bytes-are = written-only list d w (rw (e, g) at (x .writes));
       count-is =
-          counted-many (λ (names : List Name). BySome (listPaths list) names) (λ names. isSelected (verdictOf (listPaths list) names))
-          (selected-iff (listPaths list)) (rw (e, g) at (x .selected))
+          counted-many (λ (x : Element). BySome (listPaths list) (x .names) (x .attributes)) (chosen (listPaths list))
+          (λ x. selected-iff (listPaths list) (x .names) (x .attributes)) (rw (e, g) at (x .selected))
           ∙ sym (count-selected list d);
     }
 

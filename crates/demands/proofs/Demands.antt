@@ -17,6 +17,7 @@ use Rattle.demands.specs.Judged.{Accepted}
 use Rattle.demands.specs.Answers.{Cuts, AnswerSays, written, BufferSays, Placed}
 use Rattle.demands.proofs.Answered.{numbered, refused, third, written as cut-stands}
 use Rattle.demands.proofs.Refused.{Taken, taken-iff}
+use Rattle.demands.proofs.Borne.{Borne, EachTag, document-borne}
 use Rattle.demands.proofs.Demand3.{cut-of-cut}
 use Rattle.demands.proofs.Answers.{says-answer, only-answer, says-buffer, placed, cuts-only}
 
@@ -48,10 +49,13 @@ demand-1 list d o =
 -- sizes. A path selects an element exactly when its steps can be laid on the names from the root down to that element as XPath 1.0 means
 -- child and descendant steps. The bytes written are those that the rule gives, and the number handed back with them is that of the elements
 -- selected." `Cuts` says all that of the forest that production [1] derives: by `Selects`, the rule `Writes`, and how many are selected.
+-- "demand 2 takes the test in": a path picks an element that its steps select and that passes its attribute test, `Picks`.
 pub record Cut (list d o : List ℕ) (a : Answer) (o′ : List ℕ) : Type 0 where
   -- by a list that is accepted, the answer is 0 or 9 and none of 4 to 8 and 10. "Accept a declaration without an encoding, or one that says
   -- UTF-8 with ASCII letter case ignored": a document that is accepted has no other declaration
   pub accepted : listAnswer list ≡ lists.Sound → Taken a ↔ ((f : Forest) × Accepted d f)
+  -- the attributes that a test is held against are those that each tag bears by [40], [44], [41] and [10], made normal, and no others
+  pub attributes : (f : Forest) → Accepted d f → EachTag Borne f
   -- what is written is the cut, and the numbers are its own
   pub written-is : (n c : ℕ) → a ≡ Written n c → (w : List ℕ) × Cuts list d w c × (n ≡ length w) × (o′ ≡ w ++ drop n o)
   -- and where there is a cut and room for it, it is written
@@ -59,7 +63,7 @@ pub record Cut (list d o : List ℕ) (a : Answer) (o′ : List ℕ) : Type 0 whe
       → (a ≡ Written (length w) c) × (o′ ≡ w ++ drop (length w) o)
 
 pub demand-2 : (list d o : List ℕ) → Cut list d o (answerOf list d (length o)) (bytesAfter list d o)
-demand-2 list d o = record { accepted = accepts; written-is = writes; cut-is = cuts }
+demand-2 list d o = record { accepted = accepts; attributes = λ f x. document-borne (x .derived); written-is = writes; cut-is = cuts }
   where
     accepts : listAnswer list ≡ lists.Sound → Taken (answerOf list d (length o)) ↔ ((f : Forest) × Accepted d f)
     accepts e =
@@ -84,9 +88,9 @@ demand-2 list d o = record { accepted = accepts; written-is = writes; cut-is = c
             (w, x, refl, cut-stands list d o (ap numberOf e) ∙ rw (ap secondOf e, cuts-only x .bytes-are) refl)
 
 -- 3. "Let two lists be accepted, and let every path of the narrow list stand in the wide list, marked there if it is marked in the narrow
--- one. If the wide cut was written and is itself within the document size, then cutting it by the narrow list, with room enough, gives byte
--- for byte the narrow cut of the master, and the same number of selected elements." Of two calls: the first writes the wide cut, n bytes,
--- at the front of the buffer o; the second cuts these bytes into the buffer o′.
+-- one", "a path being the same only with the same test". "If the wide cut was written and is itself within the document size, then cutting
+-- it by the narrow list, with room enough, gives byte for byte the narrow cut of the master, and the same number of selected elements." Of
+-- two calls: the first writes the wide cut, n bytes, at the front of the buffer o; the second cuts these bytes into the buffer o′.
 pub demand-3 : (narrow wide d o o′ : List ℕ) (n k : ℕ) → listAnswer narrow ≡ lists.Sound → listAnswer wide ≡ lists.Sound
     → Within (listPaths narrow) (listPaths wide) → answerOf wide d (length o) ≡ Written n k → n ≤ 16777216
     → length (cutOf narrow d) ≤ length o′

@@ -7,10 +7,12 @@ use mathlib.Core.Path.{_≡_, refl, sym, ap, fun-ext, _∙_}
 use mathlib.Core.Bool.{true, false, false≢true}
 use mathlib.Core.List.{List, [], _∷_, _++_, append-assoc, append-nil}
 use mathlib.Core.Logic.{_⊎_, inl, inr, _↔_}
+use mathlib.Core.Option.{Option}
 use Prim.Native.Nat.{ℕ, suc, _≤_, _<_}
 use lib.ListN.{length}
 use Rattle.xml.specs.Forest.{Name, render}
-use Rattle.paths.specs.Path.{Step, Path, printLine, printList, All, none, more, Good}
+use Rattle.attributes.specs.Attribute.{Attribute}
+use Rattle.paths.specs.Path.{Step, AttributeTest, Path, printLine, printList, All, none, more, Good}
 use Rattle.paths.specs.Answer.{Before, Says, sound}
 use Rattle.paths.specs.Judge.{listAnswer, listPaths}
 use Rattle.paths.specs.declared.ListAnswer.the-variants.{Sound}
@@ -25,7 +27,7 @@ use Rattle.trees.proofs.Same.{AtMost}
 use Rattle.cutter.specs.Answer.{answerOf, bytesAfter}
 use Rattle.demands.specs.Repeated.{Stands, AllStand, withLine, SameOutcome}
 use Rattle.demands.specs.Within.{Covers, Within}
-use Rattle.demands.proofs.Narrow.{at-most}
+use Rattle.demands.proofs.Narrow.{within-most}
 
 -- ---- two lists, each within the other
 
@@ -34,12 +36,14 @@ at-most-both Unselected Unselected l m = refl
 at-most-both Selected Selected l m = refl
 at-most-both Marked Marked l m = refl
 
-pub same-verdict : (ps qs : List Path) → Within ps qs → Within qs ps → (names : List Name) → verdictOf ps names ≡ verdictOf qs names
-same-verdict ps qs l m names = at-most-both (verdictOf ps names) (verdictOf qs names) (at-most ps qs l names) (at-most qs ps m names)
+pub same-verdict : (ps qs : List Path) → Within ps qs → Within qs ps → (names : List Name) (xs : List Attribute)
+    → verdictOf ps names xs ≡ verdictOf qs names xs
+same-verdict ps qs l m names xs =
+    at-most-both (verdictOf ps names xs) (verdictOf qs names xs) (within-most ps qs l names xs) (within-most qs ps m names xs)
 
 pub same-verdicts : (ps qs : List Path) → Within ps qs → Within qs ps → verdicts ps ≡ verdicts qs
 unfolding verdicts
-same-verdicts ps qs l m = fun-ext (λ up. same-verdict ps qs l m (rootFirst up))
+same-verdicts ps qs l m = fun-ext (λ up. fun-ext (λ xs. same-verdict ps qs l m (rootFirst up) xs))
 
 module _ (list list′ : List ℕ) (l : Within (listPaths list) (listPaths list′)) (m : Within (listPaths list′) (listPaths list)) where
   pub same-cut : (d : List ℕ) → cutOf list d ≡ cutOf list′ d
@@ -96,7 +100,9 @@ all-each f none = none
 all-each f (more {x = x} h hs) = more (f x h) (all-each f hs)
 
 stands-covers : {p : Path} {ps : List Path} → Stands p ps → Some (λ q. Covers p q) ps
-stands-covers {p} = some-each (λ q e. record { steps-same = ap (λ (r : Path). r .steps) e; marked-too = λ m. rw e m })
+stands-covers {p} =
+    some-each (λ q e.
+    record { steps-same = ap (λ (r : Path). r .steps) e; test-same = ap (λ (r : Path). r .test) e; marked-too = λ m. rw e m })
 
 within-by : (ns ws : List Path) → ((p : Path) → Stands p ns → Some (λ q. Covers p q) ws) → Within ns ws
 within-by [] ws f = none
@@ -113,16 +119,26 @@ put-within p xs ys c = within-by (xs ++ p ∷ ys) (xs ++ ys) (λ r s. go r (some
     go r (inr s) = stands-covers s
 
 -- a path that stands among others, once more: every element is judged the same
-pub repeated-verdict : (xs ys : List Path) (p : Path) → Stands p (xs ++ ys) → (names : List Name)
-    → verdictOf (xs ++ p ∷ ys) names ≡ verdictOf (xs ++ ys) names
+pub repeated-verdict : (xs ys : List Path) (p : Path) → Stands p (xs ++ ys) → (names : List Name) (borne : List Attribute)
+    → verdictOf (xs ++ p ∷ ys) names borne ≡ verdictOf (xs ++ ys) names borne
 repeated-verdict xs ys p s = same-verdict (xs ++ p ∷ ys) (xs ++ ys) (put-within p xs ys (stands-covers s)) (within-put p xs ys)
 
--- whether a path is good hangs on its steps alone
+-- whether a path is good does not hang on its mark
 good-covered : {p : Path} {ps : List Path} → Some (λ q. Covers p q) ps → All Good ps → Good p
 good-covered (this c) (more g gs) =
     record {
-      path = record { some = rw (c .steps-same) at (g .path .some); each = rw (c .steps-same) at (g .path .each) };
-      within = record { steps = rw (c .steps-same) at (g .within .steps); names = rw (c .steps-same) at (g .within .names) };
+      path =
+          record {
+            some = rw (c .steps-same) at (g .path .some);
+            each = rw (c .steps-same) at (g .path .each);
+            test = rw (c .test-same) at (g .path .test);
+          };
+      within =
+          record {
+            steps = rw (c .steps-same) at (g .within .steps);
+            names = rw (c .steps-same) at (g .within .names);
+            test = rw (c .test-same) at (g .within .test);
+          };
     }
 good-covered (later s) (more g gs) = good-covered s gs
 
@@ -196,11 +212,17 @@ repeated-last list p accepted s e =
     let l = sym (append-nil (listPaths list)) in
     rw q at (repeated-lines list (listPaths list) [] p accepted l (rw (append-nil (listPaths list)) s) (rw q e))
 
--- the same path once marked and once not is as if it stood there marked alone
-pub marked-wins : (list : List ℕ) (xs ys : List Path) (steps : List Step) → listAnswer list ≡ Sound → listPaths list ≡ xs ++ ys
-    → Stands (record { steps = steps; marked = true }) (xs ++ ys)
-    → listAnswer (withLine xs (record { steps = steps; marked = false }) ys) ≡ Sound
-    → SameOutcome list (withLine xs (record { steps = steps; marked = false }) ys)
-marked-wins list xs ys steps accepted lines s =
-    covered-line list xs ys (record { steps = steps; marked = false }) accepted lines
-    (some-each (λ q e. record { steps-same = ap (λ (r : Path). r .steps) e; marked-too = λ m. absurd (false≢true m) }) s)
+-- the same path, with the same test, once marked and once not is as if it stood there marked alone
+pub marked-wins : (list : List ℕ) (xs ys : List Path) (steps : List Step) (test : Option AttributeTest)
+    → listAnswer list ≡ Sound → listPaths list ≡ xs ++ ys
+    → Stands (record { steps = steps; test = test; marked = true }) (xs ++ ys)
+    → listAnswer (withLine xs (record { steps = steps; test = test; marked = false }) ys) ≡ Sound
+    → SameOutcome list (withLine xs (record { steps = steps; test = test; marked = false }) ys)
+marked-wins list xs ys steps test accepted lines s =
+    covered-line list xs ys (record { steps = steps; test = test; marked = false }) accepted lines
+    (some-each (λ q e.
+    record {
+      steps-same = ap (λ (r : Path). r .steps) e;
+      test-same = ap (λ (r : Path). r .test) e;
+      marked-too = λ m. absurd (false≢true m);
+    }) s)

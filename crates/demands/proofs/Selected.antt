@@ -1,6 +1,7 @@
 -- Demand 2: "A path selects an element exactly when its steps can be laid on the names from the root down to that element as XPath 1.0
 -- means child and descendant steps. The bytes written are those that the rule gives, and the number handed back with them is that of the
--- elements selected." That a document is accepted exactly when it is derived by production [1] is in Accepted.antt.
+-- elements selected." "demand 2 takes the test in": an element is its names and its attributes. That a document is accepted exactly when it
+-- is derived by production [1] is in Accepted.antt.
 use mathlib.Core.Path.{_≡_, refl, sym, ap, ap₂, _∙_}
 use mathlib.Core.Bool.{Bool, true, false, cond, false≢true}
 use mathlib.Core.Logic.{_↔_}
@@ -11,6 +12,8 @@ use borrow.Author.Tests.{ltb-false}
 use lib.Dec.{ltb}
 use lib.ListN.{length}
 use Rattle.xml.specs.Forest.{Name, Forest, nil, other, elem}
+use Rattle.attributes.specs.Attribute.{Attribute}
+use Rattle.attributes.specs.Held.{attributesOf}
 use Rattle.paths.specs.Path.{Path}
 use Rattle.paths.specs.Judge.{listAnswer, listPaths}
 use Rattle.paths.specs.declared.ListAnswer.{ListAnswer}
@@ -28,18 +31,19 @@ use Rattle.trees.specs.Grown.{forestOf}
 use Rattle.trees.specs.Written.{rootFirst, verdicts, cutOf, countOf}
 use Rattle.cutter.specs.Answer.{byList, byDocument, byRoom, answerOf}
 use Rattle.cutter.specs.declared.Answer.the-variants.{Written, Short}
-use Rattle.demands.specs.Elements.{elements, howMany}
+use Rattle.demands.specs.Elements.{Element, elements, howMany}
 
--- ---- "A path selects an element exactly when ..": the verdict is that of a choice of places
+-- ---- "A path selects an element exactly when ..": the verdict is that of a choice of places, and of the test where there is one
 
-pub marked-some : {ps : List Path} {names : List Name} → ByMarked ps names → BySome ps names
+pub marked-some : {ps : List Path} {names : List Name} {xs : List Attribute} → ByMarked ps names xs → BySome ps names xs
 marked-some (this h) = this (h .1)
 marked-some (later h) = later (marked-some h)
 
-pub selected-iff : (ps : List Path) (names : List Name) → BySome ps names ↔ (isSelected (verdictOf ps names) ≡ true)
-selected-iff ps names = go (verdictOf ps names) (says ps names)
+pub selected-iff : (ps : List Path) (names : List Name) (xs : List Attribute)
+    → BySome ps names xs ↔ (isSelected (verdictOf ps names xs) ≡ true)
+selected-iff ps names xs = go (verdictOf ps names xs) (says ps names xs)
   where
-    go : (v : Verdict) → Says ps names v → BySome ps names ↔ (isSelected v ≡ true)
+    go : (v : Verdict) → Says ps names xs v → BySome ps names xs ↔ (isSelected v ≡ true)
     go Unselected h = ((λ s. absurd (h s)), (λ e. absurd (false≢true e)))
     go Selected h = ((λ s. refl), (λ e. h .0))
     go Marked h = ((λ s. refl), (λ e. marked-some h))
@@ -56,21 +60,23 @@ howMany-append f [] ys = sym (zero-add (howMany f ys))
 howMany-append f (x ∷ xs) ys =
     ap (λ (n : ℕ). cond (f x) 1 0 + n) (howMany-append f xs ys) ∙ sym (add-assoc (cond (f x) 1 0) (howMany f xs) (howMany f ys))
 
+-- an element that a path picks
+abbrev pub chosen : List Path → Element → Bool
+chosen ps x = isSelected (verdictOf ps (x .names) (x .attributes))
+
 count-elements : (ps : List Path) (up : List Name) (f : Forest)
-    → count (verdicts ps) up f ≡ howMany (λ names. isSelected (verdictOf ps names)) (elements (rootFirst up) f)
+    → count (verdicts ps) up f ≡ howMany (chosen ps) (elements (rootFirst up) f)
 unfolding verdicts
 count-elements ps up nil = refl
 count-elements ps up (other raw rest) = count-elements ps up rest
 count-elements ps up (elem t kids close rest) =
     ap₂ (λ (a b : ℕ). a + b)
-    (one-is (verdictOf ps (rootFirst up ++ t .name ∷ [])))
+    (one-is (verdictOf ps (rootFirst up ++ t .name ∷ []) (attributesOf t)))
     (ap₂ (λ (a b : ℕ). a + b) (count-elements ps (t .name ∷ up) kids) (count-elements ps up rest)
-    ∙ sym (howMany-append (λ names. isSelected (verdictOf ps names))
-    (elements (rootFirst up ++ t .name ∷ []) kids) (elements (rootFirst up) rest)))
+    ∙ sym (howMany-append (chosen ps) (elements (rootFirst up ++ t .name ∷ []) kids) (elements (rootFirst up) rest)))
 
 -- of a document, by a list: as many as its forest has elements that a path of the list selects
-pub count-selected : (list d : List ℕ)
-    → countOf list d ≡ howMany (λ names. isSelected (verdictOf (listPaths list) names)) (elements [] (forestOf d))
+pub count-selected : (list d : List ℕ) → countOf list d ≡ howMany (chosen (listPaths list)) (elements [] (forestOf d))
 unfolding countOf
 count-selected list d = count-elements (listPaths list) [] (forestOf d)
 
@@ -87,7 +93,7 @@ by-room room w c n k = go (ltb room (length w)) refl
 -- written: the list and the document are sound, and what is handed back is the length of the cut and the number of elements selected
 pub written-says : (list d : List ℕ) (room n k : ℕ) → answerOf list d room ≡ Written n k
     → (listAnswer list ≡ lists.Sound) × (judgeOf d ≡ judged.Sound) × (n ≡ length (cutOf list d))
-    × (k ≡ howMany (λ names. isSelected (verdictOf (listPaths list) names)) (elements [] (forestOf d)))
+    × (k ≡ howMany (chosen (listPaths list)) (elements [] (forestOf d)))
     × (length (cutOf list d) ≤ room)
 unfolding answerOf
 written-says list d room n k = go (listAnswer list) (judgeOf d) refl refl
@@ -95,7 +101,7 @@ written-says list d room n k = go (listAnswer list) (judgeOf d) refl refl
     go : (a : ListAnswer) (j : Judged) → listAnswer list ≡ a → judgeOf d ≡ j
         → byList a (byDocument j (byRoom room (cutOf list d) (countOf list d))) ≡ Written n k
         → (listAnswer list ≡ lists.Sound) × (judgeOf d ≡ judged.Sound) × (n ≡ length (cutOf list d))
-        × (k ≡ howMany (λ names. isSelected (verdictOf (listPaths list) names)) (elements [] (forestOf d)))
+        × (k ≡ howMany (chosen (listPaths list)) (elements [] (forestOf d)))
         × (length (cutOf list d) ≤ room)
     go lists.Sound judged.Sound p q e =
         let z = by-room room (cutOf list d) (countOf list d) n k e in

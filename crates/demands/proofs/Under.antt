@@ -10,6 +10,7 @@ use Prim.Native.Nat.{ℕ}
 use Rattle.xml.specs.Notation.{bytes}
 use Rattle.xml.specs.Forest.{Name, Tag, Forest, nil, other, elem, render, endTag}
 use Rattle.xml.proofs.Bools.{or-either, or-left, or-right}
+use Rattle.attributes.specs.Held.{attributesOf}
 use Rattle.paths.specs.Path.{Path}
 use Rattle.paths.specs.Judge.{listPaths}
 use Rattle.document.specs.Place.{some}
@@ -17,7 +18,7 @@ use Rattle.matcher.specs.Says.{Some, this, later, Says, verdictOf}
 use Rattle.matcher.specs.declared.Verdict.{Verdict}
 use Rattle.matcher.specs.declared.Verdict.the-variants.{Unselected, Selected, Marked}
 use Rattle.matcher.proofs.Meaning.{says, says-only}
-use Rattle.trees.specs.Cut.{isSelected, any, place, cut}
+use Rattle.trees.specs.Cut.{on, isSelected, any, place, cut}
 use Rattle.trees.specs.Grown.{forestOf}
 use Rattle.trees.specs.Written.{rootFirst, verdicts, cutOf}
 use Rattle.demands.specs.Elements.{elements}
@@ -56,14 +57,15 @@ module _ (ps : List Path) where
   any-selected up nil e = absurd (false≢true e)
   any-selected up (other raw rest) e = any-selected up rest e
   any-selected up (elem t kids close rest) e =
-      go (or-either (isSelected (verdictOf ps (rootFirst (t .name ∷ up)))) _ e) (any-selected (t .name ∷ up) kids) (any-selected up rest)
+      go (or-either (isSelected (verdictOf ps (rootFirst (t .name ∷ up)) (attributesOf t))) _ e) (any-selected (t .name ∷ up) kids)
+      (any-selected up rest)
     where
-      go : (isSelected (verdictOf ps (rootFirst (t .name ∷ up))) ≡ true)
+      go : (isSelected (verdictOf ps (rootFirst (t .name ∷ up)) (attributesOf t)) ≡ true)
           ⊎ ((any (verdicts ps) (t .name ∷ up) kids || any (verdicts ps) up rest) ≡ true)
           → (any (verdicts ps) (t .name ∷ up) kids ≡ true → SomeSelected ps (rootFirst (t .name ∷ up)) kids)
           → (any (verdicts ps) up rest ≡ true → SomeSelected ps (rootFirst up) rest)
           → SomeSelected ps (rootFirst up) (elem t kids close rest)
-      go (inl s) k r = this (selected-iff ps (rootFirst (t .name ∷ up)) .1 s)
+      go (inl s) k r = this (selected-iff ps (rootFirst (t .name ∷ up)) (attributesOf t) .1 s)
       go (inr e) k r = inside (or-either (any (verdicts ps) (t .name ∷ up) kids) _ e)
         where
           inside : (any (verdicts ps) (t .name ∷ up) kids ≡ true) ⊎ (any (verdicts ps) up rest ≡ true)
@@ -75,9 +77,10 @@ module _ (ps : List Path) where
   unfolding verdicts
   selected-any up (other raw rest) s = selected-any up rest s
   selected-any up (elem t kids close rest) (this h) =
-      or-left (isSelected (verdictOf ps (rootFirst (t .name ∷ up)))) _ (selected-iff ps (rootFirst (t .name ∷ up)) .0 h)
+      or-left (isSelected (verdictOf ps (rootFirst (t .name ∷ up)) (attributesOf t))) _
+      (selected-iff ps (rootFirst (t .name ∷ up)) (attributesOf t) .0 h)
   selected-any up (elem t kids close rest) (later s) =
-      or-right (isSelected (verdictOf ps (rootFirst (t .name ∷ up)))) _
+      or-right (isSelected (verdictOf ps (rootFirst (t .name ∷ up)) (attributesOf t))) _
       (go (some-either (elements (rootFirst (t .name ∷ up)) kids) (elements (rootFirst up) rest) s)
       (selected-any (t .name ∷ up) kids) (selected-any up rest))
     where
@@ -114,7 +117,7 @@ tagged-bytes a n k w = simp append-assoc
 module _ (ps : List Path) where
   -- an element, by what is said of it and by whether it leads on
   pub placed-by-rule : (up : List Name) (t : Tag) (kids : Forest) (close : List ℕ) (rest kids′ rest′ : Forest) (v : Verdict)
-      → Says ps (rootFirst (t .name ∷ up)) v → (b : Bool) → (b ≡ true) ↔ LeadsOn ps (rootFirst up) t kids
+      → Says ps (rootFirst (t .name ∷ up)) (attributesOf t) v → (b : Bool) → (b ≡ true) ↔ LeadsOn ps (rootFirst up) t kids
       → Writes ps (rootFirst (t .name ∷ up)) kids (render kids′) → Writes ps (rootFirst up) rest (render rest′)
       → Writes ps (rootFirst up) (elem t kids close rest) (render (place v b t kids close kids′ rest′))
   placed-by-rule up t kids close rest x r Marked h b l k w =
@@ -131,15 +134,15 @@ module _ (ps : List Path) where
   rule-cut up (other raw rest) = dropped-item (rule-cut up rest)
   rule-cut up (elem t kids close rest) =
       placed-by-rule up t kids close rest (cut (verdicts ps) (t .name ∷ up) kids) (cut (verdicts ps) up rest)
-      (verdictOf ps (rootFirst (t .name ∷ up))) (says ps (rootFirst (t .name ∷ up))) _
+      (verdictOf ps (rootFirst (t .name ∷ up)) (attributesOf t)) (says ps (rootFirst (t .name ∷ up)) (attributesOf t)) _
       (leads-iff ps up t kids) (rule-cut (t .name ∷ up) kids) (rule-cut up rest)
 
   -- ---- and nothing else is written by it
 
-  verdict-is : (up : List Name) (n : Name) {above : List Name} → above ≡ rootFirst up → (v : Verdict) → Says ps (above ++ n ∷ []) v
-      → verdicts ps (n ∷ up) ≡ v
+  verdict-is : (up : List Name) (t : Tag) {above : List Name} → above ≡ rootFirst up → (v : Verdict)
+      → Says ps (above ++ t .name ∷ []) (attributesOf t) v → on (verdicts ps) t up ≡ v
   unfolding verdicts
-  verdict-is up n e v h = sym (says-only ps (rootFirst up ++ n ∷ []) v (rw e at h))
+  verdict-is up t e v h = sym (says-only ps (rootFirst up ++ t .name ∷ []) (attributesOf t) v (rw e at h))
 
   leads-true : (up : List Name) (t : Tag) (kids : Forest) {above : List Name} → above ≡ rootFirst up → LeadsOn ps above t kids
       → not (some up) || any (verdicts ps) (t .name ∷ up) kids ≡ true
@@ -157,25 +160,25 @@ module _ (ps : List Path) where
       → w ≡ render (cut (verdicts ps) up f)
   rule-only over up e = refl
   rule-only (whole {t = t} {kids = kids} {rest = rest} {close = close} h r) up e =
-      rw (verdict-is up (t .name) e Marked h, rule-only r up e)
+      rw (verdict-is up t e Marked h, rule-only r up e)
       (whole-bytes (t .head) (t .tail) (render kids) close (render (cut (verdicts ps) up rest)))
   rule-only (with-tag {t = t} {kids = kids} {rest = rest} m h k r) up e =
       rw (
-        verdict-is up (t .name) e Selected (h, m),
+        verdict-is up t e Selected (h, m),
         rule-only k (t .name ∷ up) (ap (λ (a : List Name). a ++ t .name ∷ []) e),
         rule-only r up e,
       )
       (tagged-bytes (t .head) (t .name) (render (cut (verdicts ps) (t .name ∷ up) kids)) (render (cut (verdicts ps) up rest)))
   rule-only (bare {t = t} {kids = kids} {rest = rest} h l k r) up e =
       rw (
-        verdict-is up (t .name) e Unselected h,
+        verdict-is up t e Unselected h,
         leads-true up t kids e l,
         rule-only k (t .name ∷ up) (ap (λ (a : List Name). a ++ t .name ∷ []) e),
         rule-only r up e,
       )
       (tagged-bytes (60 ∷ t .name) (t .name) (render (cut (verdicts ps) (t .name ∷ up) kids)) (render (cut (verdicts ps) up rest)))
   rule-only (dropped {t = t} {kids = kids} h l r) up e =
-      rw (verdict-is up (t .name) e Unselected h, leads-false up t kids e l) (rule-only r up e)
+      rw (verdict-is up t e Unselected h, leads-false up t kids e l) (rule-only r up e)
   rule-only (dropped-item r) up e = rule-only r up e
 
 -- so what the rule writes of a forest is one text

@@ -5,7 +5,7 @@ use mathlib.Core.Path.{_≡_}
 use mathlib.Core.List.{List, [], _∷_, _++_}
 use Prim.Native.Nat.{ℕ, _+_, _≤_, _<_}
 use lib.ListN.{length, drop}
-use Rattle.xml.specs.Forest.{Name, Forest}
+use Rattle.xml.specs.Forest.{Forest}
 use Rattle.paths.specs.Path.{Path}
 use Rattle.paths.specs.Answer.{Before, Says}
 use Rattle.paths.specs.declared.ListAnswer.the-variants as lists
@@ -16,7 +16,7 @@ use Rattle.cutter.specs.Answer.{numberOf}
 use Rattle.cutter.specs.declared.Answer.{Answer}
 use Rattle.cutter.specs.declared.Answer.the-variants.{Written, ListTooLong, ListMalformed, ListTooLarge, TooLong}
 use Rattle.cutter.specs.declared.Answer.the-variants.{OtherEncoding, NotChar, Doctype, Malformed, TooLarge, Short}
-use Rattle.demands.specs.Elements.{elements}
+use Rattle.demands.specs.Elements.{Element, elements}
 use Rattle.demands.specs.Judged.{Accepted, DocumentSays}
 use Rattle.demands.specs.Rule.{Writes}
 
@@ -36,7 +36,7 @@ pub record Cuts (list d w : List ℕ) (c : ℕ) : Type 0 where
   pub forest : Forest
   pub accepted : Accepted d forest
   pub writes : Writes paths [] forest w
-  pub selected : Counted (λ (names : List Name). BySome paths names) (elements [] forest) c
+  pub selected : Counted (λ (x : Element). BySome paths (x .names) (x .attributes)) (elements [] forest) c
 
 pub data AnswerSays (list d : List ℕ) (room : ℕ) : Answer → Type 0 where
   -- "list over 8,192 bytes"; "malformed line"; "line too large, or line 33"
