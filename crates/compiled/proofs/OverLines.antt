@@ -3,12 +3,10 @@
 use mathlib.Core.Path.{_≡_, refl, sym, ap, _∙_}
 use mathlib.Core.Bool.{Bool, false, cond}
 use mathlib.Core.List.{List, [], _∷_, _++_, append-assoc, append-nil, append-cancel-left}
-use mathlib.Core.Option.{some}
 use Prim.Native.Nat.{ℕ, _+_, _-_, _≤_, _<_}
 use native.Mathlib.Omega.{arith}
 use borrow.Author.Needs.{needs}
-use lib.ListN.{length, drop, set, replicate, length-append}
-use lib.Seq.{drop-at}
+use lib.ListN.{length, set, replicate, length-append}
 use Rattle.paths.specs.Path.{Path, printStep, printAll, printLine, printList}
 use Rattle.paths.specs.Path.{none as nil}
 use Rattle.paths.specs.Reader.{endingOf, printEnd}

@@ -9,7 +9,7 @@ use native.Mathlib.Omega.{arith}
 use borrow.Author.Needs.{needs}
 use lib.ListN.{length, take, drop, getD, length-append}
 use lib.Seq.{drop-at}
-use Rattle.paths.specs.Path.{AttributeTest, Path, Step, printStep, printAll, printList}
+use Rattle.paths.specs.Path.{AttributeTest, Step, printStep, printAll, printList}
 use Rattle.paths.specs.Reader.{Ending, endAt, endingOf, printEnd}
 use Rattle.paths.specs.Place.{ended, endPlaced, lineEndAt}
 use Rattle.paths.specs.Judge.{listPaths}
@@ -20,7 +20,6 @@ use Rattle.paths.proofs.Lines.{end-undoes}
 use Rattle.paths.proofs.Here.{end-here}
 use Rattle.compiled.specs.Compiled.{testPlace, testsOf}
 use Rattle.compiled.specs.Line.{AtPath, tailOf, ifTested}
-use Rattle.compiled.specs.declared.build.Tail.{Tail}
 use Rattle.compiled.proofs.Tests.{testBegins, tests-entry}
 use Rattle.compiled.proofs.InLine.{print-parts, whole, path-good, path-bytes}
 
