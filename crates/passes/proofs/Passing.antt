@@ -11,7 +11,7 @@ use types.Run.{OneOf}
 use denote.Enum.Declared.{tagOf as kindOf}
 use mir.Syntax.{w64}
 use mir.Val.{Fits}
-use lib.ListN.{length, getD, set, length-set, replicate, length-replicate}
+use lib.ListN.{length, take, drop, getD, set, length-set, replicate, length-replicate}
 use lib.Seq.{sets, getD-set-same, getD-set-other}
 use Rattle.paths.specs.Judge.{listAnswer, listPaths}
 use Rattle.paths.specs.declared.ListAnswer.the-variants.{Sound as SoundList}
@@ -33,7 +33,8 @@ use Rattle.document.specs.declared.judge.Judged.the-variants.{Sound}
 use Rattle.document.proofs.After.{start-room}
 use Rattle.document.proofs.Placing.{not-among}
 use Rattle.document.proofs.Judging.{Judging, judge-start, judge-fault, judge-over, fine-ahead, scan-inside, scan-less, scan-on}
-use Rattle.attributes.specs.Held.{attributesOf}
+use Rattle.attributes.specs.Held.{attributesIn, attributesOf}
+use Rattle.attributes.proofs.Placed.{attributes-behind}
 use Rattle.matcher.specs.Fit.{fitFor, Untested, passingOf, amongOf}
 use Rattle.matcher.specs.Says.{verdictOf}
 use Rattle.matcher.specs.State.{freshState, deeperOf, verdictBy, stateOf}
@@ -48,6 +49,7 @@ use Rattle.trees.specs.Grown.{part, tagOf, tokensOf}
 use Rattle.trees.specs.Engine.{Engine, engine, begun, openOf, run as runs}
 use Rattle.trees.specs.Written.{rootFirst, verdicts, cutOf, countOf}
 use Rattle.trees.proofs.Told.{run-cut}
+use Rattle.passes.specs.Judged.{ByTests, unselected, untested, passing}
 use Rattle.output.specs.Act.{onTag, onOther, levelAfter}
 use Rattle.output.specs.Levels.{nameAt, Placed, Stands, Moves, Ready}
 use Rattle.output.specs.declared.Run.{Run}
@@ -292,6 +294,12 @@ module _ {list d o₀ : List ℕ} {states : List MatchState} {starts lens : List
     pub tag-name : at + 1 + n ≤ length d
     tag-name = omega (arith, places .0, places .1, places .2)
 
+    pub tag-behind : at + 1 + n ≤ b
+    tag-behind = places .0
+
+    pub tag-head : b ≤ length d
+    tag-head = omega (arith, places .1, places .2)
+
     pub tag-fits : length d ≤ 16777216 → Fits w64 (at + 1 + n)
     tag-fits small = record { fits = omega (arith, tag-name) }
 
@@ -367,6 +375,16 @@ module _ {list d o₀ : List ℕ} {states : List MatchState} {starts lens : List
             ∙ ap (λ (y : MatchState). verdictBy y fit′) parent-state
             ∙ ap (verdictBy m) (ea ∙ ap (λ (y : Fit). amongOf y passing) fit-is)
             ∙ passing-told list sound (above d starts lens (opened .level .0)) (nameFrom d (at + 1) n) (attributesOf tag) eq)
+
+        -- the attributes are those that stand behind the name
+        tag-attributes : attributesOf tag ≡ attributesIn 0 (take (b - (at + 1 + n)) (drop (at + 1 + n) d))
+        tag-attributes = attributes-behind d at n b (places .0) (omega (arith, places .1, places .2)) (part d b f)
+
+        pub verdict-judged : {w : Verdict} → ByTests (listPaths list) (attributesIn 0 (take (b - (at + 1 + n)) (drop (at + 1 + n) d)))
+            parent fit w → TagVerdict w
+        verdict-judged (unselected ew eu) = verdict-unselected ew eu
+        verdict-judged (untested ew u) = verdict-untested ew u
+        verdict-judged (passing ew) = verdict-passing ew refl (ap (passingOf (listPaths list)) (sym tag-attributes))
 
         state-is : {m′ : MatchState} → m′ ≡ deeperOf parent fit
             → m′ ≡ deeperOf (stateOf (listPaths list) (above d starts lens (opened .level .0))) (fitFor (listPaths list) (nameFrom d (at

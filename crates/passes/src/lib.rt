@@ -5,12 +5,15 @@
 //     <g><p><v>       g     p     v                 states         below each of them, what each path has come to
 //     <g><p><v></v>   g     p     .                 an end tag goes back to the state of the parent
 ghost use mathlib.Core.Path.{_≡_};
-ghost use Prim.Native.Nat.{_-_, _≤_};
-ghost use lib.ListN.{length};
+ghost use Prim.Native.Nat.{_+_, _-_, _≤_};
+ghost use lib.ListN.{length, take, drop};
 ghost use Rattle.points.specs.Class.{classTable};
 ghost use Rattle.matcher.specs.Fit.{Serves};
 ghost use Rattle.matcher.specs.State.{freshState};
+ghost use Rattle.paths.specs.Judge.{listPaths};
+ghost use Rattle.attributes.specs.Held.{attributesIn};
 ghost use Rattle.passes.specs.Passed.{Passed};
+ghost use Rattle.passes.specs.Judged.{ByTests};
 use compiled::Compiled;
 use document::InputLevel;
 use document::Open;
@@ -21,6 +24,8 @@ use document::place::end_of;
 use document::place::keep;
 use document::place::place;
 use items::told::item;
+use matcher::Verdict;
+use matcher::fit::Fit;
 use matcher::fit::fit_of;
 use matcher::state::MatchState;
 use output::Run;
@@ -28,6 +33,8 @@ use output::step::other_step;
 use output::step::tag_step;
 use points::table::Classes;
 use tags::Item;
+use tests::any;
+use tests::passing;
 
 // What a pass comes to: the length of the cut and the number of elements selected, or the item at fault.
 pub enum Outcome {
@@ -53,6 +60,35 @@ fn parent_of(level: usize, top: MatchState) -> MatchState
         return MatchState::fresh();
     }
     top
+}
+
+// What the list says of an element: where the steps of no path select it, or no path has a test, its attributes are not looked at. They
+// stand in its tag, from behind the name, which has so many bytes, to the end of the head.
+fn judged(
+    table: &Classes,
+    list: &[u8],
+    t: &Compiled,
+    doc: &[u8],
+    parent: MatchState,
+    fit: Fit,
+    at: usize,
+    name: usize,
+    head: usize,
+) -> Verdict
+    requires { ⌜ (now table ≡ classTable) × Serves (now list) (now t) × (at + 1 + name ≤ head) × (head ≤ length (now doc)) ⌝ }
+    ensures { λ r. ⌜ ByTests (listPaths (now (list .entry)))
+        (attributesIn 0 (take (head - (at + 1 + name)) (drop (at + 1 + name) (now (doc .entry))))) parent fit r ⌝ }
+{
+    let plain = parent.verdict_on(fit);
+    if let Verdict::Unselected = plain {
+        return plain;
+    }
+    if any(t) {
+        let from = at + 1 + name;
+        let passing = passing(table, list, t, &doc[from..head]);
+        return parent.verdict_on(fit.among(passing));
+    }
+    plain
 }
 
 // By the tables of a sound list.
@@ -91,7 +127,7 @@ pub fn pass(table: &Classes, list: &[u8], t: &Compiled, doc: &[u8], out: &mut [u
                     let parent = parent_of(level, top);
                     let a = at + 1;
                     let fit = fit_of(list, t, &doc[a..a + name]);
-                    let verdict = parent.verdict_on(fit);
+                    let verdict = judged(table, list, t, doc, parent, fit, at, name, head);
                     states[level] = parent.deeper(fit);
                     run = tag_step(
                         run,

@@ -6,7 +6,8 @@ use lib.ListN.{length}
 use Rattle.document.proofs.Judging.{scan-inside}
 use Rattle.passes.proofs.Passing.{Passing, pass-start, pass-fault, pass-over, pass-ready, pass-deep, pass-within, pass-next}
 use Rattle.passes.proofs.Passing.{pass-fits, pass-inside, pass-less, pass-placed, pass-other, tag-level, tag-from, tag-to}
-use Rattle.passes.proofs.Passing.{tag-inside, tag-name, tag-fits, tag-less, tag-placed, pass-tag}
+use Rattle.passes.proofs.Passing.{tag-inside, tag-name, tag-fits, tag-less, tag-placed, tag-behind, tag-head}
+use Rattle.passes.proofs.Passing.{verdict-judged, pass-tag}
 use Rattle.passes.proofs.pass.Statement.{statement}
 use Rattle.passes.proofs.pass.Tie as tie
 
@@ -136,8 +137,17 @@ fit-of-requires c κs =
     c .before .before .before .before .before .before .before .before .before .before .before .before .before .before .before
     .before .before .before .before .before .before .before .before .before .pre .2
 
-verdict-on-requires : tie.Need-verdict-on-requires Inv-loop μ-loop
-verdict-on-requires c κs = search needs
+judged-requires : tie.Need-judged-requires Inv-loop μ-loop
+judged-requires c κs =
+    let c₁ = c .before .before .before .before .before .before .before .before in
+    let c₂ = c₁ .before .before .before .before .before .before .before .before in
+    let c₃ = c₂ .before .before .before .before .before .before .before .before .before in
+    let v = c₂ .before .loop .inv in
+    let e = c₂ .item .ensures in
+    let q = c₁ .before .before .before .before .before .place .ensures in
+    let h = c₁ .before .before .before .enum-told2 .given .1 in
+    let s = c .before .before .before .before .before .before .next .given .1 in
+    (c₃ .pre .0, c₃ .pre .2, tag-behind v e q h s, tag-head v e q h s)
 
 deeper-requires : tie.Need-deeper-requires Inv-loop μ-loop
 deeper-requires c κs = search needs
@@ -205,25 +215,21 @@ loop-less c =
 
 loop-again : tie.Need-loop-again Inv-loop μ-loop
 loop-again c =
-    let k = c .before .before .before .before .before .before .before .before .before .before .before .before .before .before
-    .before .before .before .keep .ensures in
-    pass-tag (c .before .before .before .before .before .before .before .before .before .before .before .before .before .before
-    .before .before .before .before .before .before .before .before .before .before .before .before .loop .inv) (c .before
-    .before .before .before .before .before .before .before .before .before .before .before .before .before .before .before
-    .before .before .before .before .before .before .before .before .before .item .ensures) (c .before .before .before .before
-    .before .before .before .before .before .before .before .before .before .before .before .before .before .before .before
-    .before .before .before .place .ensures) (c .before .before .before .before .before .before .before .before .before .before
-    .before .before .before .before .before .before .before .before .before .before .enum-told2 .given .1) (c .before .before
-    .before .before .before .before .before .before .before .before .before .before .before .before .before .next .given .1) (k
-    .0) (k .1)
-    (c .before .before .before .before .before .before .before .before .before .before .before .before .before .before .before
-    .before .before .before .before .before .before .before .before .before .before .before .before .before .before .before
-    .before .before .before .before .pre .2 .sound) (c .before .before .before .before .before .before .before .before .before
-    .before .before .before .before .innermost .ensures) (c .before .before .before .before .before .before .before .before
-    .before .before .before .parent-of .ensures) (c .before .before .before .before .before .before .before .before .before
-    .fit-of .ensures) (c .before .before .before .before .before .before .before .before .verdict-on .ensures)
-    (c .before .before .before .before .before .before .before .deeper .ensures) (c .before .before .before .tag-step .ensures) (c
-    .after .ensures)
+    let c₁ = c .before .before .before .before .before .before .before .before in
+    let c₂ = c₁ .before .before .before .before .before .before .before .before in
+    let c₃ = c₂ .before .before .before .before .before .before .before .before in
+    let v = c₃ .before .before .loop .inv in
+    let e = c₃ .before .item .ensures in
+    let q = c₂ .before .before .before .before .before .before .place .ensures in
+    let h = c₂ .before .before .before .before .enum-told2 .given .1 in
+    let s = c₁ .before .before .before .before .before .before .before .next .given .1 in
+    let k = c₂ .before .keep .ensures in
+    let sound = c₃ .before .before .before .before .before .before .before .before .before .before .pre .2 .sound in
+    let i = c₁ .before .before .before .before .before .innermost .ensures in
+    let p = c₁ .before .before .before .parent-of .ensures in
+    let f = c₁ .before .fit-of .ensures in
+    pass-tag v e q h s (k .0) (k .1) sound i p f (verdict-judged v e q h s (k .0) (k .1) sound i p f (c₁ .judged .ensures))
+    (c .before .before .before .before .before .before .before .deeper .ensures) (c .before .before .before .tag-step .ensures) (c .after .ensures)
 
 other-step-requires : tie.Need-other-step-requires Inv-loop μ-loop
 other-step-requires c κs =
@@ -300,7 +306,7 @@ pass-spec =
     part-fit-of-start
     part-fit-of-end
     fit-of-requires
-    verdict-on-requires
+    judged-requires
     deeper-requires
     mul-states
     array-set-from-states

@@ -1,0 +1,65 @@
+-- `judged` meets its contract: one law for each way out. proofs/Judging.antt has them.
+use Rattle.passes.proofs.Judging.{judging}
+use Rattle.passes.proofs.judged.Statement.{statement}
+use Rattle.passes.proofs.judged.Tie as tie
+
+verdict-on-requires : tie.Need-verdict-on-requires
+verdict-on-requires c κs = search judging
+
+enum-told : tie.Need-enum-told
+enum-told c = search judging
+
+returns : tie.Need-returns
+returns c = search judging
+
+any-requires : tie.Need-any-requires
+any-requires c κs = search judging
+
+add-from : tie.Need-add-from
+add-from c = search judging
+
+add-from-2 : tie.Need-add-from-2
+add-from-2 c = search judging
+
+sub-passing : tie.Need-sub-passing
+sub-passing c = search judging
+
+part-passing-start : tie.Need-part-passing-start
+part-passing-start c = search judging
+
+part-passing-end : tie.Need-part-passing-end
+part-passing-end c = search judging
+
+passing-requires : tie.Need-passing-requires
+passing-requires c κs = search judging
+
+among-requires : tie.Need-among-requires
+among-requires c κs = search judging
+
+verdict-on-requires-2 : tie.Need-verdict-on-requires-2
+verdict-on-requires-2 c κs = search judging
+
+returns-2 : tie.Need-returns-2
+returns-2 c = search judging
+
+returns-3 : tie.Need-returns-3
+returns-3 c = search judging
+
+pub judged-spec : {M : Type 1} → statement M
+judged-spec =
+    tie.close
+    (tie.spec
+    verdict-on-requires
+    enum-told
+    returns
+    any-requires
+    add-from
+    add-from-2
+    sub-passing
+    part-passing-start
+    part-passing-end
+    passing-requires
+    among-requires
+    verdict-on-requires-2
+    returns-2
+    returns-3)
