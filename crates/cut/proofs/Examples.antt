@@ -15,7 +15,7 @@ use Rattle.chars.specs.Name.{nameOf}
 use Rattle.chars.specs.Space.{spaceEnd}
 use Rattle.chars.specs.Check.{checkOf}
 use Rattle.paths.specs.Path.{printStep, printLine}
-use Rattle.paths.specs.Reader.{readAll, kindAt, testAt, stepAt, steps, endAt, lineAt}
+use Rattle.paths.specs.Reader.{readAll, kindAt, testAt, stepAt, steps, attributeAt, markAt, endAt, lineAt}
 use Rattle.paths.specs.Judge.{within, soundAt, lines, judge, listAnswer, listPaths}
 use Rattle.matcher.specs.Says.{verdictOf}
 use Rattle.readers.specs.Read.{expect, seek, skip, spaceOf, many}
@@ -59,7 +59,7 @@ unfolding rows printed decimal decimalBy answerOf judgeOf otherEncoding scanned 
     verdicts verdictOf forestOf tokensOf tokensFrom itemAt kindOf declares endsAt tagAt endTagAt tagOf endTagOf pieceNamed before gather
     attributeOf smallTag textOf eqOf spaceOf skip valueOf quotedOf many pieceOf isMark referenceOf entityRefOf charRefOf isChar nameOf
     expect seek starts run character guess number utf8 isScalar isSpace isName isNameStart isNameMore listPaths listAnswer judge lines
-    soundAt within lineAt steps readAll endAt stepAt testAt kindAt printStep printLine
+    soundAt within lineAt steps readAll endAt markAt attributeAt stepAt testAt kindAt printStep printLine
 examples = refl
 
 -- "else it prints `too long` and LF and nothing more, for every list"

@@ -15,7 +15,7 @@ use Rattle.chars.specs.Name.{nameOf}
 use Rattle.chars.specs.Space.{spaceEnd}
 use Rattle.chars.specs.Check.{checkOf}
 use Rattle.paths.specs.Path.{printStep, printLine}
-use Rattle.paths.specs.Reader.{readAll, kindAt, testAt, stepAt, steps, endAt, lineAt}
+use Rattle.paths.specs.Reader.{readAll, kindAt, testAt, stepAt, steps, attributeAt, markAt, endAt, lineAt}
 use Rattle.paths.specs.Judge.{within, soundAt, lines, judge, listAnswer, listPaths}
 use Rattle.matcher.specs.Says.{verdictOf}
 use Rattle.readers.specs.Read.{expect, seek, skip, spaceOf, many}
@@ -140,7 +140,7 @@ unfolding rows answerOf bytesAfter judgeOf otherEncoding scanned scanFrom startO
     forestOf tokensOf tokensFrom itemAt kindOf declares endsAt tagAt endTagAt tagOf endTagOf pieceNamed before gather
     attributeOf smallTag textOf eqOf spaceOf skip valueOf quotedOf many pieceOf isMark referenceOf entityRefOf charRefOf
     isChar nameOf expect seek starts run character guess number utf8 isScalar isSpace isName isNameStart isNameMore listPaths
-    listAnswer judge lines soundAt within lineAt steps readAll endAt stepAt testAt kindAt printStep printLine
+    listAnswer judge lines soundAt within lineAt steps readAll endAt markAt attributeAt stepAt testAt kindAt printStep printLine
 examples = refl
 
 pub others : Holds more
@@ -149,7 +149,7 @@ unfolding more answerOf bytesAfter judgeOf otherEncoding scanned scanFrom startO
     attributeOf smallTag textOf commentOf targetOf instructionEnd instructionOf eqOf spaceOf skip valueOf quotedOf many
     pieceOf isMark referenceOf entityRefOf charRefOf isChar nameOf expect seek starts run character guess number utf8
     isScalar isSpace isName isNameStart isNameMore listPaths listAnswer judge lines soundAt within lineAt steps readAll endAt
-    stepAt testAt kindAt printStep printLine
+    markAt attributeAt stepAt testAt kindAt printStep printLine
 others = refl
 
 pub encodings : Holds encoded
@@ -158,5 +158,5 @@ unfolding encoded answerOf bytesAfter judgeOf otherEncoding scanned scanFrom sta
     smallTag textOf declarationOf versionOf encodingOf otherOf yesOrNo isDecimal isLetter isEncoding targetOf instructionEnd instructionOf
     eqOf spaceOf skip valueOf quotedOf many pieceOf isMark referenceOf entityRefOf charRefOf isChar nameOf expect seek starts run character
     guess number utf8 isScalar isSpace isName isNameStart isNameMore listPaths listAnswer judge lines soundAt within lineAt steps readAll
-    endAt stepAt testAt kindAt printStep printLine
+    endAt markAt attributeAt stepAt testAt kindAt printStep printLine
 encodings = refl

@@ -14,7 +14,7 @@ use Rattle.chars.specs.Name.{nameOf}
 use Rattle.chars.specs.Space.{spaceEnd}
 use Rattle.chars.specs.Check.{checkOf}
 use Rattle.paths.specs.Path.{printStep, printLine}
-use Rattle.paths.specs.Reader.{readAll, kindAt, testAt, stepAt, steps, endAt, lineAt}
+use Rattle.paths.specs.Reader.{readAll, kindAt, testAt, stepAt, steps, attributeAt, markAt, endAt, lineAt}
 use Rattle.paths.specs.Judge.{within, soundAt, lines, judge, listAnswer, listPaths}
 use Rattle.matcher.specs.Says.{verdictOf}
 use Rattle.readers.specs.Read.{expect, seek, skip, spaceOf, many}
@@ -63,7 +63,7 @@ unfolding answerOf bytesAfter judgeOf otherEncoding scanned scanFrom startOf bla
     forestOf tokensOf tokensFrom itemAt kindOf declares endsAt tagAt endTagAt tagOf endTagOf pieceNamed before gather
     attributeOf smallTag textOf eqOf spaceOf skip valueOf quotedOf many pieceOf isMark referenceOf entityRefOf charRefOf
     isChar nameOf expect seek starts run character guess number utf8 isScalar isSpace isName isNameStart isNameMore listPaths
-    listAnswer judge lines soundAt within lineAt steps readAll endAt stepAt testAt kindAt printStep printLine
+    listAnswer judge lines soundAt within lineAt steps readAll endAt markAt attributeAt stepAt testAt kindAt printStep printLine
 row-a = refl
 
 row-b : answerOf listB docB 21 ≡ Written 21 1
@@ -71,7 +71,7 @@ unfolding answerOf bytesAfter judgeOf otherEncoding scanned scanFrom startOf bla
     forestOf tokensOf tokensFrom itemAt kindOf declares endsAt tagAt endTagAt tagOf endTagOf pieceNamed before gather
     attributeOf smallTag textOf eqOf spaceOf skip valueOf quotedOf many pieceOf isMark referenceOf entityRefOf charRefOf
     isChar nameOf expect seek starts run character guess number utf8 isScalar isSpace isName isNameStart isNameMore listPaths
-    listAnswer judge lines soundAt within lineAt steps readAll endAt stepAt testAt kindAt printStep printLine
+    listAnswer judge lines soundAt within lineAt steps readAll endAt markAt attributeAt stepAt testAt kindAt printStep printLine
 row-b = refl
 
 bytes-a : bytesAfter none docA dots ≡ bytes "<g></g>" ++ replicate 14 46
@@ -79,7 +79,7 @@ unfolding answerOf bytesAfter judgeOf otherEncoding scanned scanFrom startOf bla
     forestOf tokensOf tokensFrom itemAt kindOf declares endsAt tagAt endTagAt tagOf endTagOf pieceNamed before gather
     attributeOf smallTag textOf eqOf spaceOf skip valueOf quotedOf many pieceOf isMark referenceOf entityRefOf charRefOf
     isChar nameOf expect seek starts run character guess number utf8 isScalar isSpace isName isNameStart isNameMore listPaths
-    listAnswer judge lines soundAt within lineAt steps readAll endAt stepAt testAt kindAt printStep printLine
+    listAnswer judge lines soundAt within lineAt steps readAll endAt markAt attributeAt stepAt testAt kindAt printStep printLine
 bytes-a = refl
 
 bytes-b : bytesAfter listB docB dots ≡ bytes "<g><p><v></v></p></g>"
@@ -87,7 +87,7 @@ unfolding answerOf bytesAfter judgeOf otherEncoding scanned scanFrom startOf bla
     forestOf tokensOf tokensFrom itemAt kindOf declares endsAt tagAt endTagAt tagOf endTagOf pieceNamed before gather
     attributeOf smallTag textOf eqOf spaceOf skip valueOf quotedOf many pieceOf isMark referenceOf entityRefOf charRefOf
     isChar nameOf expect seek starts run character guess number utf8 isScalar isSpace isName isNameStart isNameMore listPaths
-    listAnswer judge lines soundAt within lineAt steps readAll endAt stepAt testAt kindAt printStep printLine
+    listAnswer judge lines soundAt within lineAt steps readAll endAt markAt attributeAt stepAt testAt kindAt printStep printLine
 bytes-b = refl
 
 -- ---- the filters

@@ -11,7 +11,7 @@ use Rattle.xml.specs.Productions.{isNameStart, isNameMore, isName}
 use Rattle.xml.specs.Character.{valueOf, guess, character, starts, run}
 use Rattle.chars.specs.Name.{nameOf}
 use Rattle.paths.specs.Path.{All, none, more, printStep, printLine}
-use Rattle.paths.specs.Reader.{readAll, kindAt, testAt, stepAt, steps, endAt, lineAt}
+use Rattle.paths.specs.Reader.{readAll, kindAt, testAt, stepAt, steps, attributeAt, markAt, endAt, lineAt}
 use Rattle.paths.specs.Judge.{within, soundAt, lines, judge, listAnswer, listPaths}
 use Rattle.paths.specs.declared.ListAnswer.the-variants.{Sound}
 use Rattle.lookup.specs.Index.{padded}
@@ -175,12 +175,14 @@ verdictIn r = verdictBy (stateOf (listPaths (r .list)) (r .above)) (fitWhere (li
 
 -- every list is sound
 pub sound : map (λ r. listAnswer (r .list)) rows ≡ map (λ r. Sound) rows
-unfolding rows listAnswer judge lines soundAt within lineAt steps readAll endAt stepAt testAt kindAt printStep printLine nameOf run starts
+unfolding rows listAnswer judge lines soundAt within lineAt steps readAll endAt markAt attributeAt stepAt testAt kindAt printStep
+    printLine nameOf run starts
     character guess valueOf utf8 isScalar isNameStart isNameMore isName
 sound = refl
 
 pub computed : map verdictIn rows ≡ map (λ r. r .verdict) rows
-unfolding rows listPaths listAnswer judge lines soundAt within lineAt steps readAll endAt stepAt testAt kindAt printStep printLine
+unfolding rows listPaths listAnswer judge lines soundAt within lineAt steps readAll endAt markAt attributeAt stepAt testAt kindAt
+    printStep printLine
     nameOf run starts character guess valueOf utf8 isScalar isNameStart isNameMore isName verdictBy anyHit hitAt stateOf deeperOf freshState
     carriedAt carried hitsAt hitsOf flood fitWhere amongOf among passingOf fitFor fitOf staysOf goesOf farOf lastsOf marksOf column padded
 computed = refl

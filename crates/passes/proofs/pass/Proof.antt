@@ -229,7 +229,8 @@ loop-again c =
     let p = c₁ .before .before .before .parent-of .ensures in
     let f = c₁ .before .fit-of .ensures in
     pass-tag v e q h s (k .0) (k .1) sound i p f (verdict-judged v e q h s (k .0) (k .1) sound i p f (c₁ .judged .ensures))
-    (c .before .before .before .before .before .before .before .deeper .ensures) (c .before .before .before .tag-step .ensures) (c .after .ensures)
+    (c .before .before .before .before .before .before .before .deeper .ensures) (c .before .before .before .tag-step .ensures)
+    (c .after .ensures)
 
 other-step-requires : tie.Need-other-step-requires Inv-loop μ-loop
 other-step-requires c κs =
