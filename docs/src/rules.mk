@@ -69,8 +69,8 @@ trials: library
 
 # The crates' source, read as Rust, is timed on every machine. On x86-64, for which the toolchain makes code, the static library is too.
 # UNCHECKED= leaves index checks in. One unit, so that what is inlined does not go by modules.
-TIMED = utf8 points blocks chars paths lookup compiled matcher scans plain references values instructions tags items document \
-    writer output passes cutter exported
+TIMED = utf8 points blocks chars paths lookup compiled matcher scans plain references values instructions tags items normal attribute \
+    tests document writer output passes cutter exported
 UNCHECKED = --unchecked
 WHAT = characters matcher cut
 ifeq ($(shell uname -m),x86_64)
