@@ -1,6 +1,6 @@
 -- Document 01's examples a to l, one table under one statement: a list, a document and the room, and beside them the three numbers and what
--- is written, by document 01. antt computes the numbers, and the whole buffer after, from a buffer of dots. Then more of the same kind, and
--- documents that name an encoding.
+-- is written, by document 01. antt computes the numbers, and the whole buffer after, from a buffer of dots. Then more of the same kind;
+-- documents that name an encoding; lists with self and descendant-or-self steps.
 use mathlib.Core.Path.{_≡_, refl}
 use mathlib.Core.List.{List, [], _∷_, _++_, map}
 use Prim.Native.Nat.{ℕ}
@@ -127,6 +127,17 @@ encoded =
     ∷ ("v\n" of "<?xml version='1.0' encoding='ISO-8859-1'?><g/>" within 40 refused 2 at 1)
     ∷ []
 
+-- self takes the place of the step before, descendant-or-self that or any below; a first self step selects nothing; two colons are 2
+pub staying : List Row
+staying =
+    ("/g/self::g/v\n" of "<g><v/></g>" gives "<g><v></v></g>" and 1)
+    ∷ ("/g/self::h/v\n" of "<g><v/></g>" gives "<g></g>" and 0)
+    ∷ ("/self::g\n" of "<g><g/></g>" gives "<g></g>" and 0)
+    ∷ ("/descendant-or-self::v\n" of "<v><v/></v>" gives "<v><v></v></v>" and 2)
+    ∷ ("//v/descendant-or-self::v #\n" of "<g>a<v><v/></v></g>" gives "<g><v><v/></v></g>" and 2)
+    ∷ ("//self::g\n" of "<g/>" within 40 refused 2 at 1)
+    ∷ []
+
 abbrev answered : Row → Outcome
 answered r =
     let a = answerOf (r .list) (r .doc) (r .room) in
@@ -160,3 +171,11 @@ unfolding encoded answerOf bytesAfter judgeOf otherEncoding scanned scanFrom sta
     guess number utf8 isScalar isSpace isName isNameStart isNameMore listPaths listAnswer judge lines soundAt within lineAt steps readAll
     endAt markAt attributeAt stepAt testAt kindAt printStep printLine
 encodings = refl
+
+pub steps-stay : Holds staying
+unfolding staying answerOf bytesAfter judgeOf otherEncoding scanned scanFrom startOf blank checkOf spaceEnd cutOf countOf verdicts verdictOf
+    forestOf tokensOf tokensFrom itemAt kindOf declares endsAt tagAt endTagAt tagOf endTagOf pieceNamed before gather
+    attributeOf smallTag textOf eqOf spaceOf skip valueOf quotedOf many pieceOf isMark referenceOf entityRefOf charRefOf
+    isChar nameOf expect seek starts run character guess number utf8 isScalar isSpace isName isNameStart isNameMore listPaths
+    listAnswer judge lines soundAt within lineAt steps readAll endAt markAt attributeAt stepAt testAt kindAt printStep printLine
+steps-stay = refl
