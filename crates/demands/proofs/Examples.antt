@@ -1,6 +1,6 @@
 -- Document 01's examples a to l, one table under one statement: a list, a document and the room, and beside them the three numbers and what
 -- is written, by document 01. antt computes the numbers, and the whole buffer after, from a buffer of dots. Then more of the same kind;
--- documents that name an encoding; lists with self and descendant-or-self steps.
+-- documents that name an encoding; lists with self and descendant-or-self steps; lists with tests of attributes.
 use mathlib.Core.Path.{_≡_, refl}
 use mathlib.Core.List.{List, [], _∷_, _++_, map}
 use Prim.Native.Nat.{ℕ}
@@ -8,13 +8,13 @@ use Prim.Native.String.{String}
 use lib.ListN.{length, drop, replicate}
 use Rattle.xml.specs.Utf8.{utf8, isScalar}
 use Rattle.xml.specs.Notation.{bytes}
-use Rattle.xml.specs.Productions.{isChar, isSpace, isNameStart, isNameMore, isName, digitOf}
+use Rattle.xml.specs.Productions.{isChar, except, isSpace, isNameStart, isNameMore, isName, digitOf}
 use Rattle.xml.specs.Character.{valueOf as number, guess, character, starts, run}
 use Rattle.utf8.specs.Place.{endsAt}
 use Rattle.chars.specs.Name.{nameOf}
 use Rattle.chars.specs.Space.{spaceEnd}
 use Rattle.chars.specs.Check.{checkOf}
-use Rattle.paths.specs.Path.{printStep, printLine}
+use Rattle.paths.specs.Path.{isValue, printStep, printLine}
 use Rattle.paths.specs.Reader.{readAll, kindAt, testAt, stepAt, steps, attributeAt, markAt, endAt, lineAt}
 use Rattle.paths.specs.Judge.{within, soundAt, lines, judge, listAnswer, listPaths}
 use Rattle.matcher.specs.Says.{verdictOf}
@@ -25,6 +25,9 @@ use Rattle.readers.specs.Value.{pieceOf, quotedOf, valueOf}
 use Rattle.readers.specs.Named.{before, targetOf, instructionEnd, instructionOf, eqOf, pieceNamed, attributeOf, gather, tagOf}
 use Rattle.readers.specs.Named.{endTagOf, smallTag, versionOf, isLetter, isEncoding, encodingOf, yesOrNo, declarationOf, otherOf}
 use Rattle.readers.specs.Named.{otherEncoding}
+use Rattle.readers.specs.Sign.{nextOf, signsIn}
+use Rattle.attributes.specs.Normal.{linesFrom, lines as linesOfValue, charOf, encoded as encodedSigns, normal}
+use Rattle.attributes.specs.Held.{normalAt, heldOf, attributesIn, attributesOf, hasAttribute}
 use Rattle.tags.specs.Tag.{tagAt, endTagAt}
 use Rattle.items.specs.Item.{declares, kindOf, itemAt}
 use Rattle.document.specs.Place.{blank}
@@ -138,6 +141,17 @@ staying =
     ∷ ("//self::g\n" of "<g/>" within 40 refused 2 at 1)
     ∷ []
 
+-- a test looks at the element's own attributes, made normal; a chain element has none in the cut, and a plain one keeps its own
+pub tested : List Row
+tested =
+    ("//v[@k=\"x\"]\n" of "<g><v k='x'/><v k='y'/><v/></g>" gives "<g><v k='x'></v></g>" and 1)
+    ∷ ("//v[@k=\"\"]\n" of "<g><v/><v k=''/></g>" gives "<g><v k=''></v></g>" and 1)
+    ∷ ("//v[@k=\"a b\"] #\n" of "<g><v k='a\tb'>t</v><v k='a&#9;b'/></g>" gives "<g><v k='a\tb'>t</v></g>" and 1)
+    ∷ ("/g/*[@b=\"&\"]\n" of "<g><v/></g>" within 40 refused 2 at 1)
+    ∷ ("/g[@k=\"x\"]/v\n" of "<g><v/></g>" within 40 refused 2 at 1)
+    ∷ ("//v[@b=\"2\"]\n" of "<g><p b='2'><v a='1' b = \"&#50;\"/></p></g>" gives "<g><p><v a='1' b = \"&#50;\"></v></p></g>" and 1)
+    ∷ []
+
 abbrev answered : Row → Outcome
 answered r =
     let a = answerOf (r .list) (r .doc) (r .room) in
@@ -179,3 +193,12 @@ unfolding staying answerOf bytesAfter judgeOf otherEncoding scanned scanFrom sta
     isChar nameOf expect seek starts run character guess number utf8 isScalar isSpace isName isNameStart isNameMore listPaths
     listAnswer judge lines soundAt within lineAt steps readAll endAt markAt attributeAt stepAt testAt kindAt printStep printLine
 steps-stay = refl
+
+pub attributes-tested : Holds tested
+unfolding tested answerOf bytesAfter judgeOf otherEncoding scanned scanFrom startOf blank checkOf spaceEnd cutOf countOf verdicts verdictOf
+    forestOf tokensOf tokensFrom itemAt kindOf declares endsAt tagAt endTagAt tagOf endTagOf pieceNamed before gather
+    attributeOf smallTag textOf eqOf spaceOf skip valueOf quotedOf many pieceOf isMark referenceOf entityRefOf charRefOf digitsOf endsNumber
+    digitOf isDecimal isChar except nameOf expect seek starts run character guess number utf8 isScalar isSpace isName isNameStart isNameMore
+    listPaths listAnswer judge lines soundAt within lineAt steps readAll endAt markAt attributeAt stepAt testAt kindAt printStep printLine
+    isValue attributesOf attributesIn heldOf normalAt signsIn nextOf hasAttribute normal linesOfValue linesFrom charOf encodedSigns
+attributes-tested = refl
