@@ -1,5 +1,6 @@
-// The whole cut of a gazetteer by three lists, beside a copy of its bytes and beside other parsers, which check that it is well-formed; and
-// parts of it. A cut into no room measures and does not write. Where expat is there, each cut is first compared with that of tree.rs.
+// The whole cut of a gazetteer by five lists, beside a copy of its bytes and beside other parsers, which check that it is well-formed; and
+// parts of it. A cut into no room measures and does not write. Where expat is there, cuts are first compared with that of tree.rs, which
+// knows child and descendant steps alone; the cut by steps that stay is that by the same list without them.
 use crate::gazetteer;
 use crate::lists;
 use crate::ours::cutter::{cut, Answer};
@@ -35,10 +36,15 @@ fn compare(_: &str, _: &[u8], _: (&[u8], usize)) {
 
 type Row<'a> = (String, Work<'a>);
 
-/// A cut that is written, and the same that is only measured.
+/// A cut that is written, and the same that is only measured; compared first.
+fn compared<'a>(what: &str, list: &'a str, doc: &'a [u8]) -> [Row<'a>; 2] {
+    let (out, selected) = cut_of(list, doc);
+    compare(list, doc, (&out, selected));
+    rows_of(what, list, doc)
+}
+
 fn rows_of<'a>(what: &str, list: &'a str, doc: &'a [u8]) -> [Row<'a>; 2] {
     let (mut out, selected) = cut_of(list, doc);
-    compare(list, doc, (&out, selected));
     println!("{what}: {} paths, {} elements selected, {} bytes written", list.lines().count(), selected, out.len());
     let written = work(move || matches!(cut(black_box(list.as_bytes()), black_box(doc), &mut out), Answer::Written { .. }));
     let measured = work(move || matches!(cut(black_box(list.as_bytes()), black_box(doc), &mut []), Answer::Short(_)));
@@ -69,7 +75,7 @@ fn others(doc: &[u8]) -> Vec<Row<'_>> {
 }
 
 pub fn measure() {
-    let (text, long) = (gazetteer::document(), lists::long());
+    let (text, long, staying, tested) = (gazetteer::document(), lists::long(), lists::staying(), lists::tested());
     let doc = text.as_bytes();
     let elements = text.matches("</").count() + text.matches("/>").count();
     let high = doc.iter().filter(|&&b| b >= 0x80).count();
@@ -81,9 +87,12 @@ pub fn measure() {
         ("characters alone".to_string(), work(|| choughbell_characters(black_box(doc)))),
         ("document alone, judge".to_string(), work(|| matches!(judge(black_box(doc)), Judged::Sound))),
     ];
-    rows.extend(rows_of("cut, 8 steps a path", &long, doc));
-    rows.extend(rows_of("cut, atlas", lists::ATLAS, doc));
-    rows.extend(rows_of("cut, desk", lists::DESK, doc));
+    rows.extend(compared("cut, 8 steps a path", &long, doc));
+    assert!(cut_of(&staying, doc) == cut_of(&long, doc));
+    rows.extend(rows_of("cut, and 7 that stay", &staying, doc));
+    rows.extend(rows_of("cut, 8 steps and a test", &tested, doc));
+    rows.extend(compared("cut, atlas", lists::ATLAS, doc));
+    rows.extend(compared("cut, desk", lists::DESK, doc));
     rows.extend(others(doc));
     let (names, mut works): (Vec<String>, Vec<Work>) = rows.into_iter().unzip();
     let times = times(&mut works);
