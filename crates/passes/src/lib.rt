@@ -12,6 +12,7 @@ ghost use Rattle.matcher.specs.Fit.{Serves};
 ghost use Rattle.matcher.specs.State.{freshState};
 ghost use Rattle.paths.specs.Judge.{listPaths};
 ghost use Rattle.attributes.specs.Held.{attributesIn};
+ghost use Rattle.tests.specs.Passing.{somePlace};
 ghost use Rattle.passes.specs.Passed.{Passed};
 ghost use Rattle.passes.specs.Judged.{ByTests};
 use compiled::Compiled;
@@ -62,12 +63,13 @@ fn parent_of(level: usize, top: MatchState) -> MatchState
     top
 }
 
-// What the list says of an element: where the steps of no path select it, or no path has a test, its attributes are not looked at. They
-// stand in its tag, from behind the name, which has so many bytes, to the end of the head.
+// What the list says of an element. Where the steps of no path select it, or no path has a test (`tested`), its attributes are not looked
+// at. They stand in its tag, from behind the name, which has so many bytes, to the end of the head.
 fn judged(
     table: &Classes,
     list: &[u8],
     t: &Compiled,
+    tested: bool,
     doc: &[u8],
     parent: MatchState,
     fit: Fit,
@@ -75,7 +77,8 @@ fn judged(
     name: usize,
     head: usize,
 ) -> Verdict
-    requires { ⌜ (now table ≡ classTable) × Serves (now list) (now t) × (at + 1 + name ≤ head) × (head ≤ length (now doc)) ⌝ }
+    requires { ⌜ (now table ≡ classTable) × Serves (now list) (now t) × (tested ≡ somePlace (take 32 (drop 18368 (now t))))
+        × (at + 1 + name ≤ head) × (head ≤ length (now doc)) ⌝ }
     ensures { λ r. ⌜ ByTests (listPaths (now (list .entry)))
         (attributesIn 0 (take (head - (at + 1 + name)) (drop (at + 1 + name) (now (doc .entry))))) parent fit r ⌝ }
 {
@@ -83,7 +86,7 @@ fn judged(
     if let Verdict::Unselected = plain {
         return plain;
     }
-    if any(t) {
+    if tested {
         let from = at + 1 + name;
         let passing = passing(table, list, t, &doc[from..head]);
         return parent.verdict_on(fit.among(passing));
@@ -96,6 +99,7 @@ pub fn pass(table: &Classes, list: &[u8], t: &Compiled, doc: &[u8], out: &mut [u
     requires { ⌜ (now table ≡ classTable) × (length (now doc) ≤ 16777216) × Serves (now list) (now t) ⌝ }
     ensures { λ r. ⌜ Passed (now (list .entry)) (now (doc .entry)) (now (out .entry)) r (now (out .exit)) ⌝ }
 {
+    let tested = any(t);
     let fresh = MatchState::fresh();
     let mut states = [fresh; Open::LEVELS];
     let mut starts = [0usize; Open::LEVELS];
@@ -127,7 +131,7 @@ pub fn pass(table: &Classes, list: &[u8], t: &Compiled, doc: &[u8], out: &mut [u
                     let parent = parent_of(level, top);
                     let a = at + 1;
                     let fit = fit_of(list, t, &doc[a..a + name]);
-                    let verdict = judged(table, list, t, doc, parent, fit, at, name, head);
+                    let verdict = judged(table, list, t, tested, doc, parent, fit, at, name, head);
                     states[level] = parent.deeper(fit);
                     run = tag_step(
                         run,

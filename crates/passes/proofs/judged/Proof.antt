@@ -12,9 +12,6 @@ enum-told c = search judging
 returns : tie.Need-returns
 returns c = search judging
 
-any-requires : tie.Need-any-requires
-any-requires c κs = search judging
-
 add-from : tie.Need-add-from
 add-from c = search judging
 
@@ -52,7 +49,6 @@ judged-spec =
     verdict-on-requires
     enum-told
     returns
-    any-requires
     add-from
     add-from-2
     sub-passing

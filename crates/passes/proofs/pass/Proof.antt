@@ -12,14 +12,17 @@ use Rattle.passes.proofs.pass.Statement.{statement}
 use Rattle.passes.proofs.pass.Tie as tie
 
 abbrev Inv-loop : tie.InvT-loop
-Inv-loop table list t doc out₀ states₀ starts₀ lens₀ opened₀ run₀ at₀ first₀ out
+Inv-loop table list t doc out₀ tested states₀ starts₀ lens₀ opened₀ run₀ at₀ first₀ out
     states starts lens opened run at first =
     Passing list doc out₀ states starts lens opened run at first out
 
 abbrev μ-loop : tie.MeasureT-loop
-μ-loop table list t doc out₀ states₀ starts₀ lens₀ opened₀ run₀ at₀ first₀ out
+μ-loop table list t doc out₀ tested states₀ starts₀ lens₀ opened₀ run₀ at₀ first₀ out
     states starts lens opened run at first =
     length doc - at
+
+any-requires : tie.Need-any-requires Inv-loop μ-loop
+any-requires c κs = search needs
 
 fresh-requires : tie.Need-fresh-requires Inv-loop μ-loop
 fresh-requires c κs = search needs
@@ -39,7 +42,7 @@ loop-holds c =
 
 item-requires : tie.Need-item-requires Inv-loop μ-loop
 item-requires c κs =
-    c .before .before .before .before .before .before .before .before .pre .0
+    c .before .before .before .before .before .before .before .before .before .pre .0
 
 place-requires : tie.Need-place-requires Inv-loop μ-loop
 place-requires c κs = (
@@ -81,7 +84,7 @@ keep-requires c κs =
       names .lens-long,
       pass-next v (c .before .before .before .before .before .before .before .item .ensures) (c .before .before .before .before
           .place .ensures) (c .before .before .enum-told2 .given .1) (c .before .before .before .before .before .before .before
-          .before .before .before .before .before .before .before .before .before .pre .1),
+          .before .before .before .before .before .before .before .before .before .before .pre .1),
     )
 
 enum-known-next : tie.Need-enum-known-next Inv-loop μ-loop
@@ -106,7 +109,7 @@ add-a c =
     .before .before .item .ensures) (c .before .before .before .before .before .before .before .before .before .before .before
     .place .ensures) (c .before .before .before .before .before .before .before .before .before .enum-told2 .given .1) (c .before
     .before .before .before .before .before .before .before .before .before .before .before .before .before .before .before
-    .before .before .before .before .before .before .before .pre .1)
+    .before .before .before .before .before .before .before .before .pre .1)
 
 add-fit-of : tie.Need-add-fit-of Inv-loop μ-loop
 add-fit-of c =
@@ -115,7 +118,7 @@ add-fit-of c =
     .before .before .item .ensures) (c .before .before .before .before .before .before .before .before .before .before .before
     .place .ensures) (c .before .before .before .before .before .before .before .before .before .enum-told2 .given .1) (c .before
     .before .before .before .next .given .1) (c .before .before .before .before .before .before .before .before .before .before
-    .before .before .before .before .before .before .before .before .before .before .before .before .before .pre .1)
+    .before .before .before .before .before .before .before .before .before .before .before .before .before .before .pre .1)
 
 sub-fit-of : tie.Need-sub-fit-of Inv-loop μ-loop
 sub-fit-of c = search needs
@@ -135,7 +138,7 @@ part-fit-of-end c =
 fit-of-requires : tie.Need-fit-of-requires Inv-loop μ-loop
 fit-of-requires c κs =
     c .before .before .before .before .before .before .before .before .before .before .before .before .before .before .before
-    .before .before .before .before .before .before .before .before .before .pre .2
+    .before .before .before .before .before .before .before .before .before .before .pre .2
 
 judged-requires : tie.Need-judged-requires Inv-loop μ-loop
 judged-requires c κs =
@@ -147,7 +150,8 @@ judged-requires c κs =
     let q = c₁ .before .before .before .before .before .place .ensures in
     let h = c₁ .before .before .before .enum-told2 .given .1 in
     let s = c .before .before .before .before .before .before .next .given .1 in
-    (c₃ .pre .0, c₃ .pre .2, tag-behind v e q h s, tag-head v e q h s)
+    let g = c₂ .before .before .before .before .before .before .any .ensures in
+    (c₃ .before .pre .0, c₃ .before .pre .2, g, tag-behind v e q h s, tag-head v e q h s)
 
 deeper-requires : tie.Need-deeper-requires Inv-loop μ-loop
 deeper-requires c κs = search needs
@@ -186,7 +190,7 @@ tag-step-requires c κs =
     .ensures in (
       pass-ready v (c .before .before .before .before .before .before .before .before .before .before .before .before .before
           .before .before .before .before .before .before .before .before .before .before .before .before .before .before .before
-          .before .before .pre .1) (pass-within v e q h),
+          .before .before .before .pre .1) (pass-within v e q h),
       v .order,
       tag-from v e q h s,
       tag-to v e q h s,
@@ -200,7 +204,7 @@ after-requires c κs =
     .before .before .before .before .before .before .before .before .before .before .before .loop .inv) (c .before .before
     .before .before .before .before .before .before .before .before .before .before .before .before .before .before .before
     .before .before .before .before .before .before .before .before .before .before .before .before .before .before .before
-    .before .pre .1)
+    .before .before .pre .1)
 
 loop-less : tie.Need-loop-less Inv-loop μ-loop
 loop-less c =
@@ -224,7 +228,7 @@ loop-again c =
     let h = c₂ .before .before .before .before .enum-told2 .given .1 in
     let s = c₁ .before .before .before .before .before .before .before .next .given .1 in
     let k = c₂ .before .keep .ensures in
-    let sound = c₃ .before .before .before .before .before .before .before .before .before .before .pre .2 .sound in
+    let sound = c₃ .before .before .before .before .before .before .before .before .before .before .before .pre .2 .sound in
     let i = c₁ .before .before .before .before .before .innermost .ensures in
     let p = c₁ .before .before .before .parent-of .ensures in
     let f = c₁ .before .fit-of .ensures in
@@ -240,7 +244,7 @@ other-step-requires c κs =
     let h = c .before .before .before .before .before .before .before .enum-told2 .given .1 in
     let k = c .before .before .before .before .keep .ensures in (
       pass-ready v (c .before .before .before .before .before .before .before .before .before .before .before .before .before
-          .before .before .before .before .before .before .before .before .pre .1) (pass-within v e q h),
+          .before .before .before .before .before .before .before .before .before .pre .1) (pass-within v e q h),
       v .order,
       pass-inside v e q h,
       v .judging .within,
@@ -251,7 +255,7 @@ after-requires-2 : tie.Need-after-requires-2 Inv-loop μ-loop
 after-requires-2 c κs =
     pass-deep (c .before .before .before .before .before .before .before .before .before .before .before .before .before .before
     .before .before .loop .inv) (c .before .before .before .before .before .before .before .before .before .before .before
-    .before .before .before .before .before .before .before .before .before .before .before .before .before .pre .1)
+    .before .before .before .before .before .before .before .before .before .before .before .before .before .before .pre .1)
 
 end-of-requires : tie.Need-end-of-requires Inv-loop μ-loop
 end-of-requires c κs = search needs
@@ -281,6 +285,7 @@ pass-spec =
     (tie.spec
     Inv-loop
     μ-loop
+    any-requires
     fresh-requires
     none-requires
     none-requires-2
