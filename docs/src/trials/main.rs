@@ -9,6 +9,7 @@ mod big;
 mod fuzz;
 #[path = "../speed/gazetteer.rs"]
 mod gazetteer;
+#[allow(dead_code)]
 #[path = "../speed/lists.rs"]
 mod lists;
 mod narrow;
