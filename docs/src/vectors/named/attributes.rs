@@ -1,7 +1,7 @@
 // Document 02, Q-4, the list: "The last step of a line, and only the last, may carry one such test, before the space and #", with the
 // readings. Which elements pass is in passing.rs, what their values mean in values.rs.
 
-use super::{kept, refused, Named};
+use super::{bad_list as bad, kept, large_list as large, refused, sound_list as sound, Named};
 
 pub fn all() -> Vec<Named> {
     let mut cases = tests();
@@ -17,20 +17,6 @@ pub fn all() -> Vec<Named> {
     cases.extend(mark());
     cases.extend(colons());
     cases
-}
-
-/// Sound, and the document's one element `g`, which has no attributes, is not selected.
-fn sound(list: impl AsRef<[u8]>) -> Named {
-    kept(list, "<g/>", "<g></g>", 0)
-}
-
-/// The first line is malformed.
-fn bad(list: impl AsRef<[u8]>) -> Named {
-    refused(list, "<g/>", 2, 1)
-}
-
-fn large(list: impl AsRef<[u8]>) -> Named {
-    refused(list, "<g/>", 3, 1)
 }
 
 fn tests() -> Vec<Named> {

@@ -1,7 +1,7 @@
 // Document 02, Q-6, the list: "Add `/self::` and `/descendant-or-self::` before a test", and "any other name test with two colons side by
 // side is 2", with the readings R-18 to R-21. What these steps select is in same_place.rs.
 
-use super::{kept, refused, Named};
+use super::{bad_list as bad, kept, large_list as large, refused, sound_list as sound, Named};
 
 pub fn all() -> Vec<Named> {
     let mut cases = axes();
@@ -14,20 +14,6 @@ pub fn all() -> Vec<Named> {
     cases.extend(order());
     cases.extend(documents());
     cases
-}
-
-/// Sound, and the document's one element `g` is not selected.
-fn sound(list: impl AsRef<[u8]>) -> Named {
-    kept(list, "<g/>", "<g></g>", 0)
-}
-
-/// The first line is malformed.
-fn bad(list: impl AsRef<[u8]>) -> Named {
-    refused(list, "<g/>", 2, 1)
-}
-
-fn large(list: impl AsRef<[u8]>) -> Named {
-    refused(list, "<g/>", 3, 1)
 }
 
 fn axes() -> Vec<Named> {

@@ -1,7 +1,7 @@
 // The path list: what a line is, how it is at fault, and which line is named. Sizes are in limits.rs, characters of names in characters.rs,
 // the axes of document 02 in axes.rs.
 
-use super::{kept, refused, Named};
+use super::{kept, refused, sound_list as sound, Named};
 
 pub fn all() -> Vec<Named> {
     let mut cases = sound_lists();
@@ -10,11 +10,6 @@ pub fn all() -> Vec<Named> {
     cases.extend(lines());
     cases.extend(bytes());
     cases
-}
-
-/// Sound, and the document's one element `g` is not selected.
-fn sound(list: &str) -> Named {
-    kept(list, "<g/>", "<g></g>", 0)
 }
 
 /// This line is malformed.

@@ -77,6 +77,21 @@ fn refused(list: impl AsRef<[u8]>, doc: impl AsRef<[u8]>, number: u64, second: u
     Named { case: case(list, doc, 40), numbers: (number, second as u64, 0), cut: Vec::new() }
 }
 
+/// The list is sound, and the document's one element `g` is not selected.
+fn sound_list(list: impl AsRef<[u8]>) -> Named {
+    kept(list, "<g/>", "<g></g>", 0)
+}
+
+/// The first line is malformed.
+fn bad_list(list: impl AsRef<[u8]>) -> Named {
+    refused(list, "<g/>", 2, 1)
+}
+
+/// The first line is too large.
+fn large_list(list: impl AsRef<[u8]>) -> Named {
+    refused(list, "<g/>", 3, 1)
+}
+
 /// The document is one element, and every item in it is sound: a path with a mark keeps it as it came.
 fn sound(doc: impl AsRef<[u8]>) -> Named {
     let cut = doc.as_ref().to_vec();
