@@ -58,7 +58,8 @@ use Rattle.output.proofs.Steps.{open-is}
 use Rattle.passes.specs.Passed.{Passed}
 use Rattle.passes.specs.declared.Outcome.the-variants.{Fine as Ended, Fault}
 use Rattle.passes.proofs.Rests.{Rest, untagged, rest-start, rest-over, rest-tag, rest-other}
-use Rattle.passes.proofs.States.{none, above, Held, name-here, span-below, held-kept, held-deeper, held-same, parent-is}
+use Rattle.passes.proofs.States.{none, above, Held, Stored, name-here, span-below, held-start, held-kept, held-deeper, held-same}
+use Rattle.passes.proofs.States.{parent-is, stored-long}
 
 pub record Passing (list d o₀ : List ℕ) (states : List MatchState) (starts lens : List ℕ) (opened : Open) (run : Run) (at : ℕ)
     (first : Bool) (o : List ℕ) : Type 0 where
@@ -77,8 +78,9 @@ pub pass-start : (list d o : List ℕ) {m : MatchState} {opened : Open} {run : R
     → opened ≡ record { level = record { 0 = 0 }; rooted = false }
     → run ≡ record { reached = record { 0 = 0 }; kept = false; len = 0; count = 0 }
     → at ≡ startOf d
+    → m ≡ freshState
     → Passing list d o (replicate 64 m) (replicate 64 0) (replicate 64 0) opened run at true o
-pass-start list d o {m} {at = at} p r q =
+pass-start list d o {m} {at = at} p r q f =
     rw (p, r)
     (record {
       judging = judge-start d refl q;
@@ -92,7 +94,7 @@ pass-start list d o {m} {at = at} p r q =
             num-is = refl;
             text = record { long = refl; laid = refl };
           };
-      held = record { state = λ i h. absurd (omega arith) };
+      held = held-start (listPaths list) f d (replicate 64 0) (replicate 64 0);
       order = omega arith;
       far = omega arith;
       few = omega arith;
@@ -321,11 +323,10 @@ module _ {list d o₀ : List ℕ} {states : List MatchState} {starts lens : List
           (omega (arith, tag-level, v .judging .names .starts-long))
           (omega (arith, tag-level, v .judging .names .lens-long)))
 
-      module _ (sound : listAnswer list ≡ SoundList) {k : ℕ} (ek : k ≡ opened .level .0 - 1) {parent : MatchState}
-          (ep : (opened .level .0 ≡ 0 → parent ≡ freshState) × ((opened .level .0 ≡ 0 → ⊥) → parent ≡ getD states k none))
+      module _ (sound : listAnswer list ≡ SoundList) {parent : MatchState} (ep : parent ≡ getD states (opened .level .0) none)
           {fit : Fit} (ef : fit ≡ fitFor (listPaths list) (part d (at + 1) (at + 1 + n))) where
         parent-state : parent ≡ stateOf (listPaths list) (above d starts lens (opened .level .0))
-        parent-state = parent-is (v .held) ek ep
+        parent-state = parent-is (v .held) tag-level ep
 
         fit-is : fit ≡ fitFor (listPaths list) (nameFrom d (at + 1) n)
         fit-is = ef ∙ ap (fitFor (listPaths list)) (name-part d (at + 1) n)
@@ -386,34 +387,34 @@ module _ {list d o₀ : List ℕ} {states : List MatchState} {starts lens : List
         verdict-judged (untested ew u) = verdict-untested ew u
         verdict-judged (passing ew) = verdict-passing ew refl (ap (passingOf (listPaths list)) (sym tag-attributes))
 
-        state-is : {m′ : MatchState} → m′ ≡ deeperOf parent fit
-            → m′ ≡ deeperOf (stateOf (listPaths list) (above d starts lens (opened .level .0))) (fitFor (listPaths list) (nameFrom d (at
-            + 1) n))
-        state-is em =
-            em ∙ ap (λ (y : MatchState). deeperOf y fit) parent-state ∙ ap (deeperOf (stateOf (listPaths list) (above d starts lens
-            (opened .level .0)))) fit-is
+        -- the state below the element
+        abbrev pub TagStored : List MatchState → Type 0
+        TagStored = Stored states (opened .level .0) (deeperOf parent fit)
 
-        held-next : {m′ : MatchState} → m′ ≡ deeperOf parent fit → (empty : Bool)
-            → Held (listPaths list) (set states (opened .level .0) m′) d (set starts (opened .level .0) (at + 1))
-            (set lens (opened .level .0) n) (deeper empty (opened .level .0))
-        held-next {m′} em empty =
+        state-is : deeperOf parent fit
+            ≡ deeperOf (stateOf (listPaths list) (above d starts lens (opened .level .0))) (fitFor (listPaths list) (nameFrom d (at + 1) n))
+        state-is =
+            ap (λ (y : MatchState). deeperOf y fit) parent-state
+            ∙ ap (deeperOf (stateOf (listPaths list) (above d starts lens (opened .level .0)))) fit-is
+
+        held-next : {states′ : List MatchState} → TagStored states′ → (empty : Bool)
+            → Held (listPaths list) states′ d (set starts (opened .level .0) (at + 1)) (set lens (opened .level .0) n)
+            (deeper empty (opened .level .0))
+        held-next {states′} et empty =
             let ls : opened .level .0 < length starts = omega (arith, tag-level, v .judging .names .starts-long) in
             let ll : opened .level .0 < length lens = omega (arith, tag-level, v .judging .names .lens-long) in
-            let lt : opened .level .0 < length states = omega (arith, tag-level, v .long) in
             by-deeper
-            (Held (listPaths list) (set states (opened .level .0) m′) d (set starts (opened .level .0) (at + 1)) (set lens (opened .level
-            .0) n))
+            (Held (listPaths list) states′ d (set starts (opened .level .0) (at + 1)) (set lens (opened .level .0) n))
             empty (opened .level .0)
-            (held-same (v .held) (at + 1) n m′ ls ll lt (state-is em))
-            (held-deeper (v .held) (at + 1) n m′ ls ll lt (state-is em))
+            (held-same (v .held) (at + 1) n ls ll (v .long) state-is et)
+            (held-deeper (v .held) (at + 1) n ls ll (v .long) state-is et)
 
-        pub pass-tag : {w : Verdict} → TagVerdict w → {m′ : MatchState} → m′ ≡ deeperOf parent fit → {run′ : Run} {o′ : List
-            ℕ}
+        pub pass-tag : {w : Verdict} → TagVerdict w → {states′ : List MatchState} → TagStored states′ → {run′ : Run} {o′ : List ℕ}
             → Moves d starts′ lens′ (opened .level .0) run o
             (onTag w (nameAt d starts′ lens′ (opened .level .0)) (part d at b) (part d at f) m) 2 (deeper m (opened .level .0)) run′ o′
             → {opened′ : Open} → opened′ ≡ openAfter (Start n b f m t) opened
-            → Passing list d o₀ (set states (opened .level .0) m′) starts′ lens′ opened′ run′ f false o′
-        pass-tag {w} ew {m′} em {run′} {o′} mv {opened′} eo =
+            → Passing list d o₀ states′ starts′ lens′ opened′ run′ f false o′
+        pass-tag {w} ew et {run′} {o′} mv {opened′} eo =
             record {
               judging = scan-on (v .judging) e q h es el (eo ∙ sym (ap (λ (j : Item). openAfter j opened) s)) (sym (ap (endOf at) s));
               x = onTag w (nameFrom d (at + 1) n) (part d at b) (part d at f) m (v .x);
@@ -421,11 +422,11 @@ module _ {list d o₀ : List ℕ} {states : List MatchState} {starts lens : List
               stands =
                   rw (name-is, level) at
                   (mv .moves o₀ (v .x) (rw (es, lens-is) (stands-kept (v .order) (v .stands) (at + 1) n)));
-              held = rw (es, lens-is, ← level) (held-next em m);
+              held = rw (es, lens-is, ← level) (held-next et m);
               order = rw level at (mv .order);
               far = omega (arith, mv .far, v .far, places .0, places .1);
               few = omega (arith, mv .few, v .few, places .0, places .1);
-              long = length-set states (opened .level .0) m′ ∙ v .long;
+              long = stored-long states (opened .level .0) (deeperOf parent fit) et ∙ v .long;
               room = mv .same ∙ v .room;
             }
           where

@@ -2,14 +2,16 @@
 // the buffer as far as the buffer reaches. Into one byte a pass measures; into a buffer that is long enough it writes.
 //
 //     levels          1     2     3                 starts, lens   the names of the open elements, by their places
-//     <g><p><v>       g     p     v                 states         below each of them, what each path has come to
+//     <g><p><v>       g     p     v                 states         what each path has come to, below each of them
 //     <g><p><v></v>   g     p     .                 an end tag goes back to the state of the parent
+//
+// State 0 is the fresh one, under which the root stands, and state k the one below level k. No element stands below level 64, so there is
+// none of it.
 ghost use mathlib.Core.Path.{_≡_};
 ghost use Prim.Native.Nat.{_+_, _-_, _≤_};
 ghost use lib.ListN.{length, take, drop};
 ghost use Rattle.points.specs.Class.{classTable};
 ghost use Rattle.matcher.specs.Fit.{Serves};
-ghost use Rattle.matcher.specs.State.{freshState};
 ghost use Rattle.paths.specs.Judge.{listPaths};
 ghost use Rattle.attributes.specs.Held.{attributesIn};
 ghost use Rattle.tests.specs.Passing.{somePlace};
@@ -41,26 +43,6 @@ use tests::passing;
 pub enum Outcome {
     Fine(usize, usize),
     Fault(Why, usize),
-}
-
-// The index of the innermost open element; 0 where nothing is open.
-fn innermost(level: usize) -> usize
-    ensures { λ r. ⌜ r ≡ level - 1 ⌝ }
-{
-    if level == 0 {
-        return 0;
-    }
-    level - 1
-}
-
-// The state under which an element stands: that of the innermost open element, or a fresh one.
-fn parent_of(level: usize, top: MatchState) -> MatchState
-    ensures { λ r. ⌜ (level ≡ 0 → r ≡ freshState) × ((level ≡ 0 → ⊥) → r ≡ top) ⌝ }
-{
-    if level == 0 {
-        return MatchState::fresh();
-    }
-    top
 }
 
 // What the list says of an element. Where the steps of no path select it, or no path has a test (`tested`), its attributes are not looked
@@ -127,12 +109,13 @@ pub fn pass(table: &Classes, list: &[u8], t: &Compiled, doc: &[u8], out: &mut [u
                     empty,
                     twice: _,
                 } = next {
-                    let top = states[innermost(level)];
-                    let parent = parent_of(level, top);
+                    let parent = states[level];
                     let a = at + 1;
                     let fit = fit_of(list, t, &doc[a..a + name]);
+                    if level + 1 < Open::LEVELS {
+                        states[level + 1] = parent.deeper(fit);
+                    }
                     let verdict = judged(table, list, t, tested, doc, parent, fit, at, name, head);
-                    states[level] = parent.deeper(fit);
                     run = tag_step(
                         run,
                         InputLevel(level),

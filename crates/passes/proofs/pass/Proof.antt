@@ -1,5 +1,7 @@
 -- `pass` meets its contract. The invariant is `Passing`: the code's state stands for an engine from which the rest of the pass comes to
 -- what it comes to from the start, and the scan does too. Each need is handed its law of proofs/Passing.antt.
+use mathlib.Core.Path.{refl}
+use mathlib.Core.Logic.{⊎-elim, inr}
 use Prim.Native.Nat.{_-_}
 use borrow.Author.Needs.{needs}
 use lib.ListN.{length}
@@ -8,6 +10,7 @@ use Rattle.passes.proofs.Passing.{Passing, pass-start, pass-fault, pass
 use Rattle.passes.proofs.Passing.{pass-fits, pass-inside, pass-less, pass-placed, pass-other, tag-level, tag-from, tag-to}
 use Rattle.passes.proofs.Passing.{tag-inside, tag-name, tag-fits, tag-less, tag-placed, tag-behind, tag-head}
 use Rattle.passes.proofs.Passing.{verdict-judged, pass-tag}
+use Rattle.passes.proofs.States.{stored}
 use Rattle.passes.proofs.pass.Statement.{statement}
 use Rattle.passes.proofs.pass.Tie as tie
 
@@ -38,7 +41,7 @@ start-of-requires c κs = search needs
 
 loop-holds : tie.Need-loop-holds Inv-loop μ-loop
 loop-holds c =
-    pass-start _ _ _ (c .before .before .none .ensures) (c .before .none2 .ensures) (c .start-of .ensures)
+    pass-start _ _ _ (c .before .before .none .ensures) (c .before .none2 .ensures) (c .start-of .ensures) (c .before .before .before .fresh .ensures)
 
 item-requires : tie.Need-item-requires Inv-loop μ-loop
 item-requires c κs =
@@ -47,8 +50,7 @@ item-requires c κs =
 place-requires : tie.Need-place-requires Inv-loop μ-loop
 place-requires c κs = (
   c .before .before .before .loop .inv .judging .names,
-  scan-inside (c .before .before .before .loop .inv .judging) (c .before
-      .before .item .ensures),
+  scan-inside (c .before .before .before .loop .inv .judging) (c .before .before .item .ensures),
 )
 
 enum-known-why : tie.Need-enum-known-why Inv-loop μ-loop
@@ -59,8 +61,7 @@ same-length c = search needs
 
 returns : tie.Need-returns Inv-loop μ-loop
 returns c =
-    pass-fault (c .before .before .before .before .before .before .before .loop .inv) (c .before .before .before .before .before
-    .before .item .ensures) (c .before .before .before .place .ensures) _ (c .before .why .given .1)
+    pass-fault (c .before .before .before .before .before .before .before .loop .inv) (c .before .before .before .before .before .before .item .ensures) (c .before .before .before .place .ensures) _ (c .before .why .given .1)
 
 enum-told : tie.Need-enum-told Inv-loop μ-loop
 enum-told c = search needs
@@ -82,43 +83,28 @@ keep-requires c κs =
     let names = v .judging .names in (
       names .starts-long,
       names .lens-long,
-      pass-next v (c .before .before .before .before .before .before .before .item .ensures) (c .before .before .before .before
-          .place .ensures) (c .before .before .enum-told2 .given .1) (c .before .before .before .before .before .before .before
-          .before .before .before .before .before .before .before .before .before .before .pre .1),
+      pass-next v (c .before .before .before .before .before .before .before .item .ensures) (c .before .before .before .before .place .ensures) (c .before .before .enum-told2 .given .1) (c .before .before .before .before .before .before .before .before .before .before .before .before .before .before .before .before .before .pre .1),
     )
 
 enum-known-next : tie.Need-enum-known-next Inv-loop μ-loop
 enum-known-next c = search needs
 
-innermost-requires : tie.Need-innermost-requires Inv-loop μ-loop
-innermost-requires c κs = search needs
+mul-parent : tie.Need-mul-parent Inv-loop μ-loop
+mul-parent c =
+    let below = tag-level (c .before .before .before .before .before .before .before .before .before .before .before .before .loop .inv) (c .before .before .before .before .before .before .before .before .before .before .before .item .ensures) (c .before .before .before .before .before .before .before .before .place .ensures) (c .before .before .before .before .before .before .enum-told2 .given .1) (c .before .next .given .1) in
+    search (needs, below)
 
-mul-top : tie.Need-mul-top Inv-loop μ-loop
-mul-top c = search needs
-
-array-copy-out-top : tie.Need-array-copy-out-top Inv-loop μ-loop
-array-copy-out-top c = search needs
-
-parent-of-requires : tie.Need-parent-of-requires Inv-loop μ-loop
-parent-of-requires c κs = search needs
+array-copy-out-parent : tie.Need-array-copy-out-parent Inv-loop μ-loop
+array-copy-out-parent c =
+    tag-level (c .before .before .before .before .before .before .before .before .before .before .before .before .loop .inv) (c .before .before .before .before .before .before .before .before .before .before .before .item .ensures) (c .before .before .before .before .before .before .before .before .place .ensures) (c .before .before .before .before .before .before .enum-told2 .given .1) (c .before .next .given .1)
 
 add-a : tie.Need-add-a Inv-loop μ-loop
 add-a c =
-    pass-fits (c .before .before .before .before .before .before .before .before .before .before .before .before .before .before
-    .before .loop .inv) (c .before .before .before .before .before .before .before .before .before .before .before .before
-    .before .before .item .ensures) (c .before .before .before .before .before .before .before .before .before .before .before
-    .place .ensures) (c .before .before .before .before .before .before .before .before .before .enum-told2 .given .1) (c .before
-    .before .before .before .before .before .before .before .before .before .before .before .before .before .before .before
-    .before .before .before .before .before .before .before .before .pre .1)
+    pass-fits (c .before .before .before .before .before .before .before .before .before .before .before .before .before .loop .inv) (c .before .before .before .before .before .before .before .before .before .before .before .before .item .ensures) (c .before .before .before .before .before .before .before .before .before .place .ensures) (c .before .before .before .before .before .before .before .enum-told2 .given .1) (c .before .before .before .before .before .before .before .before .before .before .before .before .before .before .before .before .before .before .before .before .before .before .pre .1)
 
 add-fit-of : tie.Need-add-fit-of Inv-loop μ-loop
 add-fit-of c =
-    tag-fits (c .before .before .before .before .before .before .before .before .before .before .before .before .before .before
-    .before .loop .inv) (c .before .before .before .before .before .before .before .before .before .before .before .before
-    .before .before .item .ensures) (c .before .before .before .before .before .before .before .before .before .before .before
-    .place .ensures) (c .before .before .before .before .before .before .before .before .before .enum-told2 .given .1) (c .before
-    .before .before .before .next .given .1) (c .before .before .before .before .before .before .before .before .before .before
-    .before .before .before .before .before .before .before .before .before .before .before .before .before .before .pre .1)
+    tag-fits (c .before .before .before .before .before .before .before .before .before .before .before .before .before .loop .inv) (c .before .before .before .before .before .before .before .before .before .before .before .before .item .ensures) (c .before .before .before .before .before .before .before .before .before .place .ensures) (c .before .before .before .before .before .before .before .enum-told2 .given .1) (c .before .before .next .given .1) (c .before .before .before .before .before .before .before .before .before .before .before .before .before .before .before .before .before .before .before .before .before .before .pre .1)
 
 sub-fit-of : tie.Need-sub-fit-of Inv-loop μ-loop
 sub-fit-of c = search needs
@@ -128,69 +114,55 @@ part-fit-of-start c = search needs
 
 part-fit-of-end : tie.Need-part-fit-of-end Inv-loop μ-loop
 part-fit-of-end c =
-    let inside = tag-name (c .before .before .before .before .before .before .before .before .before .before .before .before
-    .before .before .before .loop .inv) (c .before .before .before .before .before .before .before .before .before .before
-    .before .before .before .before .item .ensures) (c .before .before .before .before .before .before .before .before .before
-    .before .before .place .ensures) (c .before .before .before .before .before .before .before .before .before .enum-told2
-    .given .1) (c .before .before .before .before .next .given .1) in
+    let inside = tag-name (c .before .before .before .before .before .before .before .before .before .before .before .before .before .loop .inv) (c .before .before .before .before .before .before .before .before .before .before .before .before .item .ensures) (c .before .before .before .before .before .before .before .before .before .place .ensures) (c .before .before .before .before .before .before .before .enum-told2
+    .given .1) (c .before .before .next .given .1) in
     search (needs, inside)
 
 fit-of-requires : tie.Need-fit-of-requires Inv-loop μ-loop
 fit-of-requires c κs =
-    c .before .before .before .before .before .before .before .before .before .before .before .before .before .before .before
-    .before .before .before .before .before .before .before .before .before .before .pre .2
+    c .before .before .before .before .before .before .before .before .before .before .before .before .before .before .before .before .before .before .before .before .before .before .before .pre .2
 
-judged-requires : tie.Need-judged-requires Inv-loop μ-loop
-judged-requires c κs =
-    let c₁ = c .before .before .before .before .before .before .before .before in
-    let c₂ = c₁ .before .before .before .before .before .before .before .before in
-    let c₃ = c₂ .before .before .before .before .before .before .before .before .before in
-    let v = c₂ .before .loop .inv in
-    let e = c₂ .item .ensures in
-    let q = c₁ .before .before .before .before .before .place .ensures in
-    let h = c₁ .before .before .before .enum-told2 .given .1 in
-    let s = c .before .before .before .before .before .before .next .given .1 in
-    let g = c₂ .before .before .before .before .before .before .any .ensures in
-    (c₃ .before .pre .0, c₃ .before .pre .2, g, tag-behind v e q h s, tag-head v e q h s)
+add-if1 : tie.Need-add-if1 Inv-loop μ-loop
+add-if1 c =
+    let below = tag-level (c .before .before .before .before .before .before .before .before .before .before .before .before .before .before .before .loop .inv) (c .before .before .before .before .before .before .before .before .before .before .before .before .before .before .item .ensures) (c .before .before .before .before .before .before .before .before .before .before .before .place .ensures) (c .before .before .before .before .before .before .before .before .before .enum-told2 .given .1) (c .before .before .before .before .next .given .1) in
+    search (needs, below)
 
 deeper-requires : tie.Need-deeper-requires Inv-loop μ-loop
 deeper-requires c κs = search needs
 
+add-states : tie.Need-add-states Inv-loop μ-loop
+add-states c = search needs
+
 mul-states : tie.Need-mul-states Inv-loop μ-loop
-mul-states c =
-    let below = tag-level (c .before .before .before .before .before .before .before .before .before .before .before .before
-    .before .before .before .before .before .before .before .loop .inv) (c .before .before .before .before .before .before
-    .before .before .before .before .before .before .before .before .before .before .before .before .item .ensures) (c .before
-    .before .before .before .before .before .before .before .before .before .before .before .before .before .before .place
-    .ensures) (c .before .before .before .before .before .before .before .before .before .before .before .before .before
-    .enum-told2 .given .1) (c .before .before .before .before .before .before .before .before .next .given .1) in
-    search (needs, below)
+mul-states c = search needs
 
 array-set-from-states : tie.Need-array-set-from-states Inv-loop μ-loop
-array-set-from-states c =
-    tag-level (c .before .before .before .before .before .before .before .before .before .before .before .before .before .before
-    .before .before .before .before .before .loop .inv) (c .before .before .before .before .before .before .before .before
-    .before .before .before .before .before .before .before .before .before .before .item .ensures) (c .before .before .before
-    .before .before .before .before .before .before .before .before .before .before .before .before .place .ensures) (c .before
-    .before .before .before .before .before .before .before .before .before .before .before .before .enum-told2 .given .1) (c
-    .before .before .before .before .before .before .before .before .next .given .1)
+array-set-from-states c = search needs
+
+judged-requires : tie.Need-judged-requires Inv-loop μ-loop
+judged-requires c κs =
+    let v = c .before .before .before .before .before .before .before .before .before .before .before .before .before .before .before .before .loop .inv in
+    let e = c .before .before .before .before .before .before .before .before .before .before .before .before .before .before .before .item .ensures in
+    let q = c .before .before .before .before .before .before .before .before .before .before .before .before .place .ensures in
+    let h = c .before .before .before .before .before .before .before .before .before .before .enum-told2 .given .1 in
+    let s = c .before .before .before .before .before .next .given .1 in (
+      c .before .before .before .before .before .before .before .before .before .before .before .before .before .before .before .before .before .before .before .before .before .before .before .before .before .pre .0,
+      c .before .before .before .before .before .before .before .before .before .before .before .before .before .before .before .before .before .before .before .before .before .before .before .before .before .pre .2,
+      c .before .before .before .before .before .before .before .before .before .before .before .before .before .before .before .before .before .before .before .before .before .any .ensures,
+      tag-behind v e q h s,
+      tag-head v e q h s,
+    )
 
 tag-step-requires : tie.Need-tag-step-requires Inv-loop μ-loop
 tag-step-requires c κs =
-    let v = c .before .before .before .before .before .before .before .before .before .before .before .before .before .before
-    .before .before .before .before .before .before .before .before .loop .inv in
-    let e = c .before .before .before .before .before .before .before .before .before .before .before .before .before .before
-    .before .before .before .before .before .before .before .item .ensures in
-    let q = c .before .before .before .before .before .before .before .before .before .before .before .before .before .before
-    .before .before .before .before .place .ensures in
-    let h = c .before .before .before .before .before .before .before .before .before .before .before .before .before .before
-    .before .before .enum-told2 .given .1 in
-    let s = c .before .before .before .before .before .before .before .before .before .before .before .next .given .1 in
-    let k = c .before .before .before .before .before .before .before .before .before .before .before .before .before .keep
+    let v = c .before .before .before .before .before .before .before .before .before .before .before .before .before .before .before .before .before .before .before .before .loop .inv in
+    let e = c .before .before .before .before .before .before .before .before .before .before .before .before .before .before .before .before .before .before .before .item .ensures in
+    let q = c .before .before .before .before .before .before .before .before .before .before .before .before .before .before .before .before .place .ensures in
+    let h = c .before .before .before .before .before .before .before .before .before .before .before .before .before .before .enum-told2 .given .1 in
+    let s = c .before .before .before .before .before .before .before .before .before .next .given .1 in
+    let k = c .before .before .before .before .before .before .before .before .before .before .before .keep
     .ensures in (
-      pass-ready v (c .before .before .before .before .before .before .before .before .before .before .before .before .before
-          .before .before .before .before .before .before .before .before .before .before .before .before .before .before .before
-          .before .before .before .pre .1) (pass-within v e q h),
+      pass-ready v (c .before .before .before .before .before .before .before .before .before .before .before .before .before .before .before .before .before .before .before .before .before .before .before .before .before .before .before .before .before .pre .1) (pass-within v e q h),
       v .order,
       tag-from v e q h s,
       tag-to v e q h s,
@@ -200,41 +172,26 @@ tag-step-requires c κs =
 
 after-requires : tie.Need-after-requires Inv-loop μ-loop
 after-requires c κs =
-    pass-deep (c .before .before .before .before .before .before .before .before .before .before .before .before .before .before
-    .before .before .before .before .before .before .before .before .before .before .before .loop .inv) (c .before .before
-    .before .before .before .before .before .before .before .before .before .before .before .before .before .before .before
-    .before .before .before .before .before .before .before .before .before .before .before .before .before .before .before
-    .before .before .pre .1)
+    pass-deep (c .before .before .before .before .before .before .before .before .before .before .before .before .before .before .before .before .before .before .before .before .before .before .before .loop .inv) (c .before .before .before .before .before .before .before .before .before .before .before .before .before .before .before .before .before .before .before .before .before .before .before .before .before .before .before .before .before .before .before .before .pre .1)
 
 loop-less : tie.Need-loop-less Inv-loop μ-loop
 loop-less c =
-    tag-less (c .before .before .before .before .before .before .before .before .before .before .before .before .before .before
-    .before .before .before .before .before .before .before .before .before .before .before .before .loop .inv) (c .before
-    .before .before .before .before .before .before .before .before .before .before .before .before .before .before .before
-    .before .before .before .before .before .before .before .before .before .item .ensures) (c .before .before .before .before
-    .before .before .before .before .before .before .before .before .before .before .before .before .before .before .before
-    .before .before .before .place .ensures) (c .before .before .before .before .before .before .before .before .before .before
-    .before .before .before .before .before .before .before .before .before .before .enum-told2 .given .1) (c .before .before
-    .before .before .before .before .before .before .before .before .before .before .before .before .before .next .given .1)
+    tag-less (c .before .before .before .before .before .before .before .before .before .before .before .before .before .before .before .before .before .before .before .before .before .before .before .before .loop .inv) (c .before .before .before .before .before .before .before .before .before .before .before .before .before .before .before .before .before .before .before .before .before .before .before .item .ensures) (c .before .before .before .before .before .before .before .before .before .before .before .before .before .before .before .before .before .before .before .before .place .ensures) (c .before .before .before .before .before .before .before .before .before .before .before .before .before .before .before .before .before .before .enum-told2 .given .1) (c .before .before .before .before .before .before .before .before .before .before .before .before .before .next .given .1)
 
 loop-again : tie.Need-loop-again Inv-loop μ-loop
 loop-again c =
-    let c₁ = c .before .before .before .before .before .before .before .before in
-    let c₂ = c₁ .before .before .before .before .before .before .before .before in
-    let c₃ = c₂ .before .before .before .before .before .before .before .before in
-    let v = c₃ .before .before .loop .inv in
-    let e = c₃ .before .item .ensures in
-    let q = c₂ .before .before .before .before .before .before .place .ensures in
-    let h = c₂ .before .before .before .before .enum-told2 .given .1 in
-    let s = c₁ .before .before .before .before .before .before .before .next .given .1 in
-    let k = c₂ .before .keep .ensures in
-    let sound = c₃ .before .before .before .before .before .before .before .before .before .before .before .pre .2 .sound in
-    let i = c₁ .before .before .before .before .before .innermost .ensures in
-    let p = c₁ .before .before .before .parent-of .ensures in
-    let f = c₁ .before .fit-of .ensures in
-    pass-tag v e q h s (k .0) (k .1) sound i p f (verdict-judged v e q h s (k .0) (k .1) sound i p f (c₁ .judged .ensures))
-    (c .before .before .before .before .before .before .before .deeper .ensures) (c .before .before .before .tag-step .ensures)
-    (c .after .ensures)
+    let v = c .before .before .before .before .before .before .before .before .before .before .before .before .before .before .before .before .before .before .before .before .before .before .before .before .loop .inv in
+    let e = c .before .before .before .before .before .before .before .before .before .before .before .before .before .before .before .before .before .before .before .before .before .before .before .item .ensures in
+    let q = c .before .before .before .before .before .before .before .before .before .before .before .before .before .before .before .before .before .before .before .before .place .ensures in
+    let h = c .before .before .before .before .before .before .before .before .before .before .before .before .before .before .before .before .before .before .enum-told2 .given .1 in
+    let s = c .before .before .before .before .before .before .before .before .before .before .before .before .before .next .given .1 in
+    let k = c .before .before .before .before .before .before .before .before .before .before .before .before .before .before .before .keep .ensures in
+    let sound = c .before .before .before .before .before .before .before .before .before .before .before .before .before .before .before .before .before .before .before .before .before .before .before .before .before .before .before .before .before .before .before .before .before .pre .2 .sound in
+    let f = c .before .before .before .before .before .before .before .before .before .fit-of .ensures in
+    pass-tag v e q h s (k .0) (k .1) sound refl f
+    (verdict-judged v e q h s (k .0) (k .1) sound refl f (c .before .before .before .before .before .before .before .judged .ensures))
+    (⊎-elim (λ z. stored _ (z .0 .taken) (z .1 .ensures) (z .2)) (λ z. inr (z .0 .left, z .1)) (c .before .before .before .before .before .before .before .before .if1 .came))
+    (c .before .before .before .tag-step .ensures) (c .after .ensures)
 
 other-step-requires : tie.Need-other-step-requires Inv-loop μ-loop
 other-step-requires c κs =
@@ -243,8 +200,7 @@ other-step-requires c κs =
     let q = c .before .before .before .before .before .before .before .before .before .place .ensures in
     let h = c .before .before .before .before .before .before .before .enum-told2 .given .1 in
     let k = c .before .before .before .before .keep .ensures in (
-      pass-ready v (c .before .before .before .before .before .before .before .before .before .before .before .before .before
-          .before .before .before .before .before .before .before .before .before .pre .1) (pass-within v e q h),
+      pass-ready v (c .before .before .before .before .before .before .before .before .before .before .before .before .before .before .before .before .before .before .before .before .before .before .pre .1) (pass-within v e q h),
       v .order,
       pass-inside v e q h,
       v .judging .within,
@@ -253,31 +209,20 @@ other-step-requires c κs =
 
 after-requires-2 : tie.Need-after-requires-2 Inv-loop μ-loop
 after-requires-2 c κs =
-    pass-deep (c .before .before .before .before .before .before .before .before .before .before .before .before .before .before
-    .before .before .loop .inv) (c .before .before .before .before .before .before .before .before .before .before .before
-    .before .before .before .before .before .before .before .before .before .before .before .before .before .before .pre .1)
+    pass-deep (c .before .before .before .before .before .before .before .before .before .before .before .before .before .before .before .before .loop .inv) (c .before .before .before .before .before .before .before .before .before .before .before .before .before .before .before .before .before .before .before .before .before .before .before .before .before .pre .1)
 
 end-of-requires : tie.Need-end-of-requires Inv-loop μ-loop
 end-of-requires c κs = search needs
 
 loop-less-2 : tie.Need-loop-less-2 Inv-loop μ-loop
 loop-less-2 c =
-    pass-less (c .before .before .before .before .before .before .before .before .before .before .before .before .before .before
-    .before .before .before .before .loop .inv) (c .before .before .before .before .before .before .before .before .before
-    .before .before .before .before .before .before .before .before .item .ensures) (c .before .before .before .before .before
-    .before .before .before .before .before .before .before .before .before .place .ensures) (c .before .before .before .before
-    .before .before .before .before .before .before .before .before .enum-told2 .given .1) (c .end-of .ensures)
+    pass-less (c .before .before .before .before .before .before .before .before .before .before .before .before .before .before .before .before .before .before .loop .inv) (c .before .before .before .before .before .before .before .before .before .before .before .before .before .before .before .before .before .item .ensures) (c .before .before .before .before .before .before .before .before .before .before .before .before .before .before .place .ensures) (c .before .before .before .before .before .before .before .before .before .before .before .before .enum-told2 .given .1) (c .end-of .ensures)
 
 loop-again-2 : tie.Need-loop-again-2 Inv-loop μ-loop
 loop-again-2 c =
     let k = c .before .before .before .before .before .before .before .before .before .keep .ensures in
-    pass-other (c .before .before .before .before .before .before .before .before .before .before .before .before .before .before
-    .before .before .before .before .loop .inv) (c .before .before .before .before .before .before .before .before .before
-    .before .before .before .before .before .before .before .before .item .ensures) (c .before .before .before .before .before
-    .before .before .before .before .before .before .before .before .before .place .ensures) (c .before .before .before .before
-    .before .before .before .before .before .before .before .before .enum-told2 .given .1) (k .0) (k .1)
-    (c .before .before .before .before .before .before .before .before .match2 .keys2) (c .before .before .before .before
-    .other-step .ensures) (c .before .after2 .ensures) (c .end-of .ensures)
+    pass-other (c .before .before .before .before .before .before .before .before .before .before .before .before .before .before .before .before .before .before .loop .inv) (c .before .before .before .before .before .before .before .before .before .before .before .before .before .before .before .before .before .item .ensures) (c .before .before .before .before .before .before .before .before .before .before .before .before .before .before .place .ensures) (c .before .before .before .before .before .before .before .before .before .before .before .before .enum-told2 .given .1) (k .0) (k .1)
+    (c .before .before .before .before .before .before .before .before .match2 .keys2) (c .before .before .before .before .other-step .ensures) (c .before .after2 .ensures) (c .end-of .ensures)
 
 pub pass-spec : {M : Type 1} → statement M
 pass-spec =
@@ -302,20 +247,20 @@ pass-spec =
     enum-told-2
     keep-requires
     enum-known-next
-    innermost-requires
-    mul-top
-    array-copy-out-top
-    parent-of-requires
+    mul-parent
+    array-copy-out-parent
     add-a
     add-fit-of
     sub-fit-of
     part-fit-of-start
     part-fit-of-end
     fit-of-requires
-    judged-requires
+    add-if1
     deeper-requires
+    add-states
     mul-states
     array-set-from-states
+    judged-requires
     tag-step-requires
     after-requires
     loop-less
