@@ -1,6 +1,6 @@
 -- Worked examples, a table under one statement: lists, elements by the names from the root down, and the verdicts by documents 01 and 02.
--- antt computes the verdicts by states and fits (`computed`), and so each is the one that matcher/specs/Says says (`meant`). The elements
--- have no attributes.
+-- antt computes the verdicts by states, fits and bits (`computed`), and so each is the one that matcher/specs/Says says (`meant`). The
+-- elements have no attributes.
 use mathlib.Core.Path.{_≡_, refl}
 use mathlib.Core.List.{List, [], _∷_, _++_, map, head-eq-of-cons-eq, tail-eq-of-cons-eq}
 use Prim.Native.Nat.{ℕ, zero, suc}
@@ -17,8 +17,9 @@ use Rattle.paths.specs.declared.ListAnswer.the-variants.{Sound}
 use Rattle.lookup.specs.Index.{padded}
 use Rattle.compiled.specs.Bits.{column, staysOf, goesOf, farOf, lastsOf, marksOf, fitOf}
 use Rattle.matcher.specs.Says.{Says}
-use Rattle.matcher.specs.Fit.{fitFor, passingOf, among, amongOf, fitWhere}
-use Rattle.matcher.specs.State.{flood, hitsOf, carried, hitsAt, carriedAt, freshState, deeperOf, stateOf, hitAt, anyHit, verdictBy}
+use Rattle.matcher.specs.Picked.{pickedOf}
+use Rattle.matcher.specs.Fit.{fitFor}
+use Rattle.matcher.specs.State.{flood, hitsOf, carried, hitsAt, carriedAt, freshState, deeperOf, stateOf, hitAt, selectingBy}
 use Rattle.matcher.specs.declared.Verdict.{Verdict}
 use Rattle.matcher.specs.declared.Verdict.the-variants.{Unselected, Selected, Marked}
 use Rattle.matcher.proofs.Meaning.{told}
@@ -171,7 +172,9 @@ rows =
     ∷ []
 
 abbrev verdictIn : Row → Verdict
-verdictIn r = verdictBy (stateOf (listPaths (r .list)) (r .above)) (fitWhere (listPaths (r .list)) (r .own) [])
+verdictIn r =
+    let ps = listPaths (r .list) in
+    pickedOf ps (selectingBy (stateOf ps (r .above)) (fitFor ps (r .own))) []
 
 -- every list is sound
 pub sound : map (λ r. listAnswer (r .list)) rows ≡ map (λ r. Sound) rows
@@ -183,8 +186,8 @@ sound = refl
 pub computed : map verdictIn rows ≡ map (λ r. r .verdict) rows
 unfolding rows listPaths listAnswer judge lines soundAt within lineAt steps readAll endAt markAt attributeAt stepAt testAt kindAt
     printStep printLine
-    nameOf run starts character guess valueOf utf8 isScalar isNameStart isNameMore isName verdictBy anyHit hitAt stateOf deeperOf freshState
-    carriedAt carried hitsAt hitsOf flood fitWhere amongOf among passingOf fitFor fitOf staysOf goesOf farOf lastsOf marksOf column padded
+    nameOf run starts character guess valueOf utf8 isScalar isNameStart isNameMore isName pickedOf selectingBy hitAt stateOf deeperOf
+    freshState carriedAt carried hitsAt hitsOf flood fitFor fitOf staysOf goesOf farOf lastsOf marksOf column padded
 computed = refl
 
 all-meant : (rs : List Row) → map (λ r. listAnswer (r .list)) rs ≡ map (λ r. Sound) rs → map verdictIn rs ≡ map (λ r. r .verdict) rs

@@ -11,7 +11,7 @@ use native.Mathlib.Omega.{arith}
 use lib.ListN.{length, getD, replicate}
 use lib.Bits.{bitAnd, and-zero-r}
 use Rattle.paths.specs.Path.{Step, Path, All, more}
-use Rattle.compiled.specs.Bits.{stepBits, lastBit, column, staysOf, goesOf, farOf}
+use Rattle.compiled.specs.Bits.{stepBits, lastBit, column, staysOf, goesOf, farOf, lastsOf, marksOf}
 use Rattle.compiled.proofs.Bits.{column-get}
 use Rattle.compiled.proofs.Listed.{listed-get}
 use Rattle.matcher.specs.Test.{lays}
@@ -24,16 +24,16 @@ use Rattle.matcher.proofs.Hits.{lays-none, hits-lays}
 
 -- ---- fits
 
--- of anything that steps may fit, where only the paths `of` can be hit
-abbrev pub fitWith : {A : Type 0} → (Step → A → Bool) → (Path → Bool) → List Path → A → Fit
-fitWith fits of ps x =
+-- of anything that steps may fit
+abbrev pub fitWith : {A : Type 0} → (Step → A → Bool) → List Path → A → Fit
+fitWith fits ps x =
     record {
       passes = column (stepBits (λ s. fits s x)) ps;
       stays = staysOf ps;
       goes = goesOf ps;
       far = farOf ps;
-      lasts = column (λ p. cond (of p) (lastBit p) 0) ps;
-      marks = column (λ p. cond (of p && p .marked) (lastBit p) 0) ps;
+      lasts = lastsOf ps;
+      marks = marksOf ps;
     }
 
 -- ---- path i
@@ -72,9 +72,9 @@ fresh-at zero i l = absurd (omega arith)
 fresh-at (suc n) zero l = refl
 fresh-at (suc n) (suc i) l = fresh-at n i (omega arith)
 
-module _ {A : Type 0} (fits : Step → A → Bool) (of : Path → Bool) (ps : List Path) where
+module _ {A : Type 0} (fits : Step → A → Bool) (ps : List Path) where
   abbrev fit : A → Fit
-  fit x = fitWith fits of ps x
+  fit x = fitWith fits ps x
 
   module _ (state : List ℕ) (x : A) (i : ℕ) where
     hits-at : hitsAt state (fit x .passes) (fit x .stays) (fit x .goes) i
@@ -128,15 +128,15 @@ some-hit true h l = refl
 some-hit false h l = ap nonzero (and-zero-r h)
 
 module _ {A : Type 0} (Fits : Step → A → Type 0) (fits : Step → A → Bool) (decides : (s : Step) (x : A) → Fits s x ↔ (fits s x ≡ true))
-    (of : Path → Bool) (ps : List Path) (short : All (λ p. length (p .steps) ≤ 16) ps) (above : List A) (x : A) where
+    (ps : List Path) (short : All (λ p. length (p .steps) ≤ 16) ps) (above : List A) (x : A) where
   -- a hit of path i's last step, if it is one of `which`
   pub among-hit : (which : Path → Bool) (i : ℕ) → i < 32
-      → nonzero (hitAt (down (fitWith fits of ps) freshState above .bits) (fitWith fits of ps x .passes) (staysOf ps) (goesOf ps)
+      → nonzero (hitAt (down (fitWith fits ps) freshState above .bits) (fitWith fits ps x .passes) (staysOf ps) (goesOf ps)
       (column (λ p. cond (which p) (lastBit p) 0) ps) i)
       ≡ which (pathAt ps i) && lays fits (above ++ x ∷ []) (stepsAt ps i)
   unfolding hitAt
   among-hit which i l =
-      ap₂ (λ (h w : ℕ). nonzero (bitAnd h w)) (path-hits fits of ps above x i l) (column-get last ps i)
+      ap₂ (λ (h w : ℕ). nonzero (bitAnd h w)) (path-hits fits ps above x i l) (column-get last ps i)
       ∙ go ps short i
     where
       last : Path → ℕ

@@ -64,11 +64,11 @@ module _ {state passes stays goes lasts marks : List ℕ} {selected marked p : �
   join-more l d =
       record { p-in = omega arith; selected-is = joined-more lasts d (v .selected-is); marked-is = joined-more marks d (v .marked-is) }
 
-nonzero-not : (n : ℕ) → (n ≡ 0 → ⊥) → nonzero n ≡ true
+pub nonzero-not : (n : ℕ) → (n ≡ 0 → ⊥) → nonzero n ≡ true
 nonzero-not zero h = absurd (h refl)
 nonzero-not (suc n) h = refl
 
-nonzero-zero : (n : ℕ) → n ≡ 0 → nonzero n ≡ false
+pub nonzero-zero : (n : ℕ) → n ≡ 0 → nonzero n ≡ false
 nonzero-zero zero h = refl
 nonzero-zero (suc n) h = absurd (omega arith)
 

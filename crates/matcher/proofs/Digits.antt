@@ -8,7 +8,7 @@ use lib.Bits.{bitAnd, bitOr, and-step, or-step, and-le-l}
 use lib.Pow.{mod-pow-add}
 use lib.Dec.{eqb}
 use Rattle.compiled.specs.Bits.{bit}
-use Rattle.matcher.specs.Fit.{odd}
+use Rattle.matcher.specs.Picked.{odd}
 use Rattle.matcher.specs.State.{flood, hitsOf, carried}
 
 low : (x : ℕ) → x % 2 ≡ bit (odd x)

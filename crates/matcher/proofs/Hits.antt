@@ -13,7 +13,7 @@ use Rattle.paths.specs.Path.{Step}
 use Rattle.compiled.specs.Bits.{bit}
 use Rattle.matcher.specs.Select.{Reaches, PassesName}
 use Rattle.matcher.specs.Test.{lays, passesName, selects}
-use Rattle.matcher.specs.Fit.{odd}
+use Rattle.matcher.specs.Picked.{odd}
 use Rattle.matcher.specs.State.{flood, hitsOf, nonzero}
 use Rattle.matcher.proofs.Places.{lays-iff, passes-decides}
 use Rattle.matcher.proofs.Digits.{and-bit}

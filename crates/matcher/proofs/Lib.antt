@@ -7,7 +7,6 @@ pub mod Digits
 pub mod Telling
 pub mod Hits
 pub mod AllPaths
-pub mod Tested
 pub mod Verdicts
 pub mod Meaning
 pub mod Fill
@@ -15,5 +14,5 @@ pub mod Rows
 pub mod Serving
 pub mod Sums
 pub mod Carrying
-pub mod Narrowing
+pub mod Selecting
 pub mod OneAnswer

@@ -1,7 +1,7 @@
 -- What the matcher says is what is meant. `says`, `says-only`: the verdict computed is the one that specs/Says.antt says, and no other is.
--- `told`, `told-only`: so is the verdict by the state carried down to an element's parent and the element's fit, for every sound list. Then
--- where no look at attributes is needed for it, and how one is taken.
-use mathlib.Core.Path.{_≡_, refl, sym, ap, _∙_}
+-- `told`, `told-only`: so is the verdict by an element's attributes and the paths that the state carried down to its parent and its fit
+-- tell, for every sound list. Then where no look at attributes is needed for it.
+use mathlib.Core.Path.{_≡_, refl, sym, _∙_}
 use mathlib.Core.Bool.{Bool, true, false, false≢true, _&&_, _||_}
 use mathlib.Core.List.{List, [], _∷_, _++_}
 use mathlib.Core.Logic.{_↔_}
@@ -16,12 +16,13 @@ use Rattle.attributes.proofs.Has.{has-found, found-has}
 use Rattle.compiled.proofs.OverLines.{sound-sized}
 use Rattle.matcher.specs.Pick.{PassesTest, Picks, passesTest, picks}
 use Rattle.matcher.specs.Says.{Some, this, later, BySome, ByMarked, Says, some, decided, verdictOf}
-use Rattle.matcher.specs.Fit.{fitFor, Untested, passingOf, amongOf, fitWhere}
-use Rattle.matcher.specs.State.{stateOf, verdictBy}
+use Rattle.matcher.specs.Picked.{pickedOf, Untested}
+use Rattle.matcher.specs.Fit.{fitFor}
+use Rattle.matcher.specs.State.{stateOf, verdictBy, selectingBy}
 use Rattle.matcher.specs.declared.Verdict.{Verdict}
 use Rattle.matcher.specs.declared.Verdict.the-variants.{Unselected, Selected, Marked}
 use Rattle.matcher.proofs.Places.{selects-iff}
-use Rattle.matcher.proofs.Verdicts.{namesVerdict, verdict-plain, verdict-carried, unselected-picked, untested-verdict}
+use Rattle.matcher.proofs.Verdicts.{namesVerdict, verdict-plain, selecting-are, picked-verdict, unselected-picked, untested-verdict}
 
 -- ---- one of several
 
@@ -113,31 +114,29 @@ module _ (d : List ℕ) (sound : listAnswer d ≡ Sound) (names : List (List ℕ
   abbrev plain : Verdict
   plain = verdictBy (stateOf (listPaths d) names) (fitFor (listPaths d) n)
 
-  pub verdict-told : verdictBy (stateOf (listPaths d) names) (fitWhere (listPaths d) n xs) ≡ verdictOf (listPaths d) (names ++ n ∷ []) xs
+  -- the verdict by the paths whose steps select the element
+  abbrev picked : Verdict
+  picked = pickedOf (listPaths d) (selectingBy (stateOf (listPaths d) names) (fitFor (listPaths d) n)) xs
+
+  pub verdict-told : picked ≡ verdictOf (listPaths d) (names ++ n ∷ []) xs
   verdict-told =
       let s = sound-sized d sound in
-      verdict-carried (listPaths d) (s .few) (s .short) names n xs
+      picked-verdict (listPaths d) (names ++ n ∷ []) xs (selecting-are (listPaths d) (s .few) (s .short) names n)
 
-  pub told : Says (listPaths d) (names ++ n ∷ []) xs (verdictBy (stateOf (listPaths d) names) (fitWhere (listPaths d) n xs))
+  pub told : Says (listPaths d) (names ++ n ∷ []) xs picked
   told = rw verdict-told (says (listPaths d) (names ++ n ∷ []) xs)
 
-  pub told-only : (v : Verdict) → Says (listPaths d) (names ++ n ∷ []) xs v
-      → v ≡ verdictBy (stateOf (listPaths d) names) (fitWhere (listPaths d) n xs)
+  pub told-only : (v : Verdict) → Says (listPaths d) (names ++ n ∷ []) xs v → v ≡ picked
   told-only v h = says-only (listPaths d) (names ++ n ∷ []) xs v h ∙ sym verdict-told
 
-  plain-names : plain ≡ namesVerdict (λ p. true) (listPaths d) (names ++ n ∷ [])
+  plain-names : plain ≡ namesVerdict (listPaths d) (names ++ n ∷ [])
   plain-names =
       let s = sound-sized d sound in
       verdict-plain (listPaths d) (s .few) (s .short) names n
 
-  -- three ways to the verdict: no path's steps select the element; no path has a test; by the paths whose test it passes
+  -- two ways to the verdict without them: no path's steps select the element; no path has a test
   pub unselected-told : plain ≡ Unselected → plain ≡ verdictOf (listPaths d) (names ++ n ∷ []) xs
   unselected-told e = e ∙ sym (unselected-picked (listPaths d) (names ++ n ∷ []) xs (sym plain-names ∙ e))
 
   pub untested-told : Untested (listPaths d) → plain ≡ verdictOf (listPaths d) (names ++ n ∷ []) xs
   untested-told u = plain-names ∙ sym (untested-verdict (listPaths d) (names ++ n ∷ []) xs u)
-
-  pub passing-told : {k : ℕ} → k ≡ passingOf (listPaths d) xs
-      → verdictBy (stateOf (listPaths d) names) (amongOf (fitFor (listPaths d) n) k) ≡ verdictOf (listPaths d) (names ++ n ∷ []) xs
-  unfolding fitWhere
-  passing-told e = ap (λ (k : ℕ). verdictBy (stateOf (listPaths d) names) (amongOf (fitFor (listPaths d) n) k)) e ∙ verdict-told

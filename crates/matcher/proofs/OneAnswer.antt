@@ -3,18 +3,14 @@
 use mathlib.Core.Path.{sym, _∙_}
 use Rattle.contracts.specs.One.{OneResult}
 use Rattle.matcher.proofs.fit.fit_of.Reads as fit-of
-use Rattle.matcher.proofs.fit.Fit.among.Reads as among
 use Rattle.matcher.proofs.state.MatchState.fresh.Reads as fresh
 use Rattle.matcher.proofs.state.MatchState.deeper.Reads as deeper
 use Rattle.matcher.proofs.state.MatchState.verdict_on.Reads as verdict-on
+use Rattle.matcher.proofs.state.MatchState.selecting.Reads as selecting
 
 -- `fit::fit_of`
 pub fit-of-one : OneResult fit-of.Asked fit-of.Learnt
 fit-of-one κs a z z′ e e′ x p q = p ∙ sym q
-
--- `fit::Fit::among`
-pub among-one : OneResult among.Asked among.Learnt
-among-one κs a z z′ e e′ x p q = p ∙ sym q
 
 -- `state::MatchState::fresh`
 pub fresh-one : OneResult fresh.Asked fresh.Learnt
@@ -27,3 +23,7 @@ deeper-one κs a z z′ e e′ x p q = p ∙ sym q
 -- `state::MatchState::verdict_on`
 pub verdict-on-one : OneResult verdict-on.Asked verdict-on.Learnt
 verdict-on-one κs a z z′ e e′ x p q = p ∙ sym q
+
+-- `state::MatchState::selecting`
+pub selecting-one : OneResult selecting.Asked selecting.Learnt
+selecting-one κs a z z′ e e′ x p q = p ∙ sym q

@@ -1,32 +1,33 @@
--- The verdict: the state of an element's parent and the element's fit give it, `verdict-laid` for anything that steps may fit,
--- `verdict-plain` for names and `verdict-carried` for names and attributes. Some path is hit where some path can be laid; a path past the
--- last can be laid nowhere. Then where the verdict on names is that with attributes: where it is that no path selects, and where no path
--- has a test.
+-- The verdict: the state of an element's parent and the element's fit give it, `verdict-laid` for anything that steps may fit and
+-- `verdict-plain` for names. Some path is hit where some path can be laid; a path past the last can be laid nowhere. They give the paths
+-- whose steps select the element, too, as bits, `selecting-are`; and these with its attributes give the verdict, `picked-verdict`. Then
+-- where the verdict on names is that with attributes: where it is that no path selects, and where no path has a test.
 use mathlib.Core.Path.{_≡_, refl, sym, ap, ap₂, _∙_}
-use mathlib.Core.Bool.{Bool, true, false, _&&_, _||_, or-assoc, or-false, and-false, true≢false}
-use mathlib.Core.List.{List, [], _∷_, _++_}
+use mathlib.Core.Bool.{Bool, true, false, _&&_, _||_, or-assoc, or-false, and-assoc, true≢false}
+use mathlib.Core.List.{List, [], _∷_, _++_, map}
 use mathlib.Core.Logic.{_↔_}
 use mathlib.Core.Option.{Option}
-use Prim.Native.Nat.{ℕ, zero, suc, _+_, _≤_, _<_}
+use Prim.Native.Nat.{ℕ, zero, suc, _+_, _*_, _≤_, _<_}
 use native.Mathlib.Omega.{arith}
 use lib.ListN.{length}
 use lib.Bits.{bitOr, or-zero-l, or-add-and, and-le-r}
 use Rattle.xml.proofs.Bools.{and-right}
 use Rattle.paths.specs.Path.{Step, AttributeTest, Path, All, more}
 use Rattle.attributes.specs.Attribute.{Attribute}
-use Rattle.compiled.specs.Bits.{lastsOf, marksOf, fitOf}
+use Rattle.compiled.specs.Bits.{bit, bitsOf, lastsOf, marksOf, fitOf}
+use Rattle.compiled.specs.Built.{listed}
 use Rattle.matcher.specs.Select.{PassesName}
 use Rattle.matcher.specs.Test.{lays, passesName, selects}
 use Rattle.matcher.specs.Pick.{passesTest, picks}
 use Rattle.matcher.specs.Says.{some, decided, verdictOf}
-use Rattle.matcher.specs.Fit.{fitFor, fitWhere, Untested}
-use Rattle.matcher.specs.State.{freshState, deeperOf, down, stateOf, joined, nonzero, hitAt, anyHit, verdictBy}
+use Rattle.matcher.specs.Picked.{someSet, pickedOf, Untested}
+use Rattle.matcher.specs.Fit.{fitFor}
+use Rattle.matcher.specs.State.{freshState, down, stateOf, joined, nonzero, hitAt, anyHit, verdictBy, selectingBy}
 use Rattle.matcher.specs.declared.Verdict.{Verdict}
 use Rattle.matcher.specs.declared.Verdict.the-variants.{Unselected}
-use Rattle.matcher.specs.declared.state.MatchState.{MatchState}
 use Rattle.matcher.proofs.Places.{passes-decides}
 use Rattle.matcher.proofs.Hits.{lays-none}
-use Rattle.matcher.proofs.Tested.{where-with}
+use Rattle.matcher.proofs.Digits.{bit-half, bit-odd}
 use Rattle.matcher.proofs.AllPaths.{fitWith, noPath, pathAt, stepsAt, among-hit}
 
 -- ---- some hit
@@ -64,6 +65,29 @@ upto-some f e (p ∷ ps) zero l = absurd (omega arith)
 upto-some f e (p ∷ ps) (suc k) l =
     upto-first (λ i. f (pathAt (p ∷ ps) i)) k ∙ ap (λ (b : Bool). f p || b) (upto-some f e ps k (omega arith))
 
+-- ---- bits of all paths
+
+listed-same : (f g : ℕ → Bool) (i n : ℕ) → ((k : ℕ) → k < i + n → f k ≡ g k) → listed f i n ≡ listed g i n
+listed-same f g i zero h = refl
+listed-same f g i (suc n) h =
+    ap₂ (λ (b : Bool) (bs : List Bool). b ∷ bs) (h i (omega arith)) (listed-same f g (suc i) n (λ k l. h k (omega arith)))
+
+listed-later : (f : ℕ → Bool) (i n : ℕ) → listed f (suc i) n ≡ listed (λ k. f (suc k)) i n
+listed-later f i zero = refl
+listed-later f i (suc n) = ap (λ (bs : List Bool). f (suc i) ∷ bs) (listed-later f (suc i) n)
+
+bits-none : (b : Bool) → b ≡ false → (i n : ℕ) → bitsOf (listed (λ k. b) i n) ≡ 0
+bits-none b e i zero = refl
+bits-none b e i (suc n) = ap₂ (λ (c : Bool) (k : ℕ). bit c + 2 * k) e (bits-none b e (suc i) n)
+
+bits-listed : (f : Path → Bool) → f noPath ≡ false → (ps : List Path) (n : ℕ) → length ps ≤ n
+    → bitsOf (listed (λ i. f (pathAt ps i)) 0 n) ≡ bitsOf (map f ps)
+bits-listed f e [] n l = bits-none (f noPath) e 0 n
+bits-listed f e (p ∷ ps) zero l = absurd (omega arith)
+bits-listed f e (p ∷ ps) (suc n) l =
+    ap (λ (k : ℕ). bit (f p) + 2 * k)
+    (ap bitsOf (listed-later (λ i. f (pathAt (p ∷ ps) i)) 0 n) ∙ bits-listed f e ps n (omega arith))
+
 -- ---- tests on all paths
 
 some-same : {f g : Path → Bool} → ((p : Path) → f p ≡ g p) → (ps : List Path) → some f ps ≡ some g ps
@@ -80,11 +104,6 @@ some-fewer f g h (p ∷ ps) e = go (f p) (g p) (h p) e (some-fewer f g h ps)
     go true false q e r = absurd (true≢false (sym (q refl)))
     go false false q e r = r e
 
-and-turned : (a b c : Bool) → (a && b) && c ≡ b && (a && c)
-and-turned true b c = refl
-and-turned false true c = refl
-and-turned false false c = refl
-
 decided-none : (b c : Bool) → decided b c ≡ Unselected → c ≡ false
 decided-none true c e = cc
 decided-none false true e = cc
@@ -92,80 +111,75 @@ decided-none false false e = refl
 
 -- ---- the verdict
 
--- the paths `of` that can be laid to an element, those that are marked and all
-pub verdict-laid : {A : Type 0} (Fits : Step → A → Type 0) (fits : Step → A → Bool)
-    (decides : (s : Step) (x : A) → Fits s x ↔ (fits s x ≡ true)) (of : Path → Bool) (ps : List Path) → length ps ≤ 32
-    → All (λ p. length (p .steps) ≤ 16) ps → (above : List A) (x : A)
-    → verdictBy (down (fitWith fits of ps) freshState above) (fitWith fits of ps x)
-    ≡ decided (some (λ p. (of p && p .marked) && lays fits (above ++ x ∷ []) (p .steps)) ps)
-    (some (λ p. of p && lays fits (above ++ x ∷ []) (p .steps)) ps)
-unfolding verdictBy anyHit
-verdict-laid Fits fits decides of ps few short above x =
-    let f = fitWith fits of ps x in
-    let bits = down (fitWith fits of ps) freshState above .bits in
-    let unlaid : (b : Bool) → (b && lays fits (above ++ x ∷ []) []) ≡ false
-    = λ b. ap (λ (c : Bool). b && c) (lays-none fits above x) ∙ and-false b in
-    ap₂ decided
-    (nonzero-joined (hitAt bits (f .passes) (f .stays) (f .goes) (f .marks))
-    (λ i. (of (pathAt ps i) && pathAt ps i .marked) && lays fits (above ++ x ∷ []) (stepsAt ps i)) 32
-    (among-hit Fits fits decides of ps short above x (λ p. of p && p .marked))
-    ∙ upto-some (λ p. (of p && p .marked) && lays fits (above ++ x ∷ []) (p .steps)) (unlaid (of noPath && false)) ps 32 few)
-    (nonzero-joined (hitAt bits (f .passes) (f .stays) (f .goes) (f .lasts))
-    (λ i. of (pathAt ps i) && lays fits (above ++ x ∷ []) (stepsAt ps i)) 32
-    (among-hit Fits fits decides of ps short above x of)
-    ∙ upto-some (λ p. of p && lays fits (above ++ x ∷ []) (p .steps)) (unlaid (of noPath)) ps 32 few)
+module _ {A : Type 0} (Fits : Step → A → Type 0) (fits : Step → A → Bool) (decides : (s : Step) (x : A) → Fits s x ↔ (fits s x ≡ true))
+    (ps : List Path) (few : length ps ≤ 32) (short : All (λ p. length (p .steps) ≤ 16) ps) (above : List A) (x : A) where
+  -- the paths that can be laid to an element, those that are marked and all
+  pub verdict-laid : verdictBy (down (fitWith fits ps) freshState above) (fitWith fits ps x)
+      ≡ decided (some (λ p. p .marked && lays fits (above ++ x ∷ []) (p .steps)) ps) (some (λ p. lays fits (above ++ x ∷ []) (p .steps)) ps)
+  unfolding verdictBy anyHit lastsOf marksOf
+  verdict-laid =
+      let f = fitWith fits ps x in
+      let bits = down (fitWith fits ps) freshState above .bits in
+      let unlaid = lays-none fits above x in
+      ap₂ decided
+      (nonzero-joined (hitAt bits (f .passes) (f .stays) (f .goes) (f .marks))
+      (λ i. pathAt ps i .marked && lays fits (above ++ x ∷ []) (stepsAt ps i)) 32
+      (among-hit Fits fits decides ps short above x (λ p. p .marked))
+      ∙ upto-some (λ p. p .marked && lays fits (above ++ x ∷ []) (p .steps)) refl ps 32 few)
+      (nonzero-joined (hitAt bits (f .passes) (f .stays) (f .goes) (f .lasts)) (λ i. lays fits (above ++ x ∷ []) (stepsAt ps i)) 32
+      (among-hit Fits fits decides ps short above x (λ p. true))
+      ∙ upto-some (λ p. lays fits (above ++ x ∷ []) (p .steps)) unlaid ps 32 few)
 
--- ---- states do not look at last steps
-
-deeper-same : (of : Path → Bool) (ps : List Path) (m : MatchState) (n : List ℕ)
-    → deeperOf m (fitWith passesName of ps n) ≡ deeperOf m (fitFor ps n)
-unfolding deeperOf fitFor fitOf
-deeper-same of ps m n = refl
-
-down-same : (of : Path → Bool) (ps : List Path) (m : MatchState) (names : List (List ℕ))
-    → down (fitWith passesName of ps) m names ≡ down (fitFor ps) m names
-down-same of ps m [] = refl
-down-same of ps m (n ∷ names) =
-    ap (λ (x : MatchState). down (fitWith passesName of ps) x names) (deeper-same of ps m n)
-    ∙ down-same of ps (deeperOf m (fitFor ps n)) names
-
-state-same : (of : Path → Bool) (ps : List Path) (names : List (List ℕ))
-    → stateOf ps names ≡ down (fitWith passesName of ps) freshState names
-unfolding stateOf
-state-same of ps names = sym (down-same of ps freshState names)
+  -- the paths that can be laid to it, as bits
+  pub selecting-laid : selectingBy (down (fitWith fits ps) freshState above) (fitWith fits ps x)
+      ≡ bitsOf (map (λ p. lays fits (above ++ x ∷ []) (p .steps)) ps)
+  unfolding selectingBy lastsOf
+  selecting-laid =
+      ap bitsOf (listed-same _ (λ i. lays fits (above ++ x ∷ []) (stepsAt ps i)) 0 32
+      (λ k l. among-hit Fits fits decides ps short above x (λ p. true) k l))
+      ∙ bits-listed (λ p. lays fits (above ++ x ∷ []) (p .steps)) (lays-none fits above x) ps 32 few
 
 -- ---- on names
 
--- of the paths `of`, whether a marked one selects, and whether any does
-abbrev pub namesVerdict : (Path → Bool) → List Path → List (List ℕ) → Verdict
-namesVerdict of ps names =
-    decided (some (λ p. (of p && p .marked) && selects (p .steps) names) ps) (some (λ p. of p && selects (p .steps) names) ps)
+-- whether a marked path selects, and whether any does
+abbrev pub namesVerdict : List Path → List (List ℕ) → Verdict
+namesVerdict ps names = decided (some (λ p. p .marked && selects (p .steps) names) ps) (some (λ p. selects (p .steps) names) ps)
 
 module _ (ps : List Path) (few : length ps ≤ 32) (short : All (λ p. length (p .steps) ≤ 16) ps) (names : List (List ℕ)) (n : List ℕ) where
-  of-carried : (of : Path → Bool) → verdictBy (stateOf ps names) (fitWith passesName of ps n) ≡ namesVerdict of ps (names ++ n ∷ [])
-  of-carried of =
-      ap (λ (m : MatchState). verdictBy m (fitWith passesName of ps n)) (state-same of ps names)
-      ∙ verdict-laid PassesName passesName passes-decides of ps few short names n
-
   -- without a look at attributes
-  pub verdict-plain : verdictBy (stateOf ps names) (fitFor ps n) ≡ namesVerdict (λ p. true) ps (names ++ n ∷ [])
-  unfolding fitFor fitOf lastsOf marksOf
-  verdict-plain = of-carried (λ p. true)
+  pub verdict-plain : verdictBy (stateOf ps names) (fitFor ps n) ≡ namesVerdict ps (names ++ n ∷ [])
+  unfolding stateOf fitFor fitOf
+  verdict-plain = verdict-laid PassesName passesName passes-decides ps few short names n
 
-  -- with those of the element
-  pub verdict-carried : (xs : List Attribute) → verdictBy (stateOf ps names) (fitWhere ps n xs) ≡ verdictOf ps (names ++ n ∷ []) xs
-  unfolding verdictOf
-  verdict-carried xs =
-      ap (verdictBy (stateOf ps names)) (where-with ps few n xs)
-      ∙ of-carried (λ p. passesTest (p .test) xs)
-      ∙ ap (λ (b : Bool). decided b (some (λ p. picks p (names ++ n ∷ []) xs) ps))
-      (some-same (λ p. and-turned (passesTest (p .test) xs) (p .marked) (selects (p .steps) (names ++ n ∷ []))) ps)
+  pub selecting-are : selectingBy (stateOf ps names) (fitFor ps n) ≡ bitsOf (map (λ p. selects (p .steps) (names ++ n ∷ [])) ps)
+  unfolding stateOf fitFor fitOf
+  selecting-are = selecting-laid PassesName passesName passes-decides ps few short names n
+
+-- ---- with attributes
+
+some-set : (f g : Path → Bool) (ps : List Path) → someSet f ps (bitsOf (map g ps)) ≡ some (λ p. f p && g p) ps
+some-set f g [] = refl
+some-set f g (p ∷ ps) =
+    ap₂ (λ (b : Bool) (k : ℕ). (f p && b) || someSet f ps k) (bit-odd (g p) (bitsOf (map g ps))) (bit-half (g p) (bitsOf (map g ps)))
+    ∙ ap (λ (b : Bool). (f p && g p) || b) (some-set f g ps)
+
+-- by the paths whose steps select
+pub picked-verdict : (ps : List Path) (names : List (List ℕ)) (xs : List Attribute) {s : ℕ}
+    → s ≡ bitsOf (map (λ p. selects (p .steps) names) ps) → pickedOf ps s xs ≡ verdictOf ps names xs
+unfolding pickedOf verdictOf
+picked-verdict ps names xs e =
+    let g : Path → Bool = λ p. selects (p .steps) names in
+    ap (λ (k : ℕ). pickedOf ps k xs) e
+    ∙ ap₂ decided
+    (some-set (λ p. p .marked && passesTest (p .test) xs) g ps
+    ∙ some-same (λ p. and-assoc (p .marked) (passesTest (p .test) xs) (g p)) ps)
+    (some-set (λ p. passesTest (p .test) xs) g ps)
 
 -- ---- where attributes need no look
 
 module _ (ps : List Path) (names : List (List ℕ)) (xs : List Attribute) where
   -- no path's steps select the element
-  pub unselected-picked : namesVerdict (λ p. true) ps names ≡ Unselected → verdictOf ps names xs ≡ Unselected
+  pub unselected-picked : namesVerdict ps names ≡ Unselected → verdictOf ps names xs ≡ Unselected
   unfolding verdictOf
   unselected-picked e =
       let h =
@@ -178,7 +192,7 @@ module _ (ps : List Path) (names : List (List ℕ)) (xs : List Attribute) where
       ap₂ decided none-marked none-picked
 
   -- no path has a test
-  pub untested-verdict : Untested ps → verdictOf ps names xs ≡ namesVerdict (λ p. true) ps names
+  pub untested-verdict : Untested ps → verdictOf ps names xs ≡ namesVerdict ps names
   unfolding verdictOf
   untested-verdict u = ap₂ decided (marks ps u) (lasts ps u)
     where

@@ -1,12 +1,14 @@
 -- The matcher on numbers of 16 bits. Bit j of a path's state: its step j + 1 may take the next place from above, if it goes below at all.
 -- In order: the steps of one path that take an element's place, and its bits one level deeper; a state, from a fresh one down to an
--- element; what a state and a fit say of an element. An element's fit is in specs/Fit.antt.
+-- element; what a state and a fit say of an element: the verdict on its name, and the paths whose steps select it, as bits. An element's
+-- fit is in specs/Fit.antt.
 use mathlib.Core.Bool.{Bool, true, false}
 use mathlib.Core.List.{List, [], _∷_}
 use Prim.Native.Nat.{ℕ, zero, suc, _+_, _-_, _*_, _%_}
 use lib.ListN.{getD, replicate}
 use lib.Bits.{bitAnd, bitOr}
 use Rattle.paths.specs.Path.{Path}
+use Rattle.compiled.specs.Bits.{bitsOf}
 use Rattle.compiled.specs.Built.{listed}
 use Rattle.matcher.specs.Fit.{fitFor}
 use Rattle.matcher.specs.Says.{decided}
@@ -74,3 +76,9 @@ anyHit m f among = nonzero (joined (hitAt (m .bits) (f .passes) (f .stays) (f .g
 
 unfoldable pub verdictBy : MatchState → Fit → Verdict
 verdictBy m f = decided (anyHit m f (f .marks)) (anyHit m f (f .lasts))
+
+-- ---- the paths that select
+
+-- bit p says that the last step of path p takes the element's place
+unfoldable pub selectingBy : MatchState → Fit → ℕ
+selectingBy m f = bitsOf (listed (λ p. nonzero (hitAt (m .bits) (f .passes) (f .stays) (f .goes) (f .lasts) p)) 0 32)

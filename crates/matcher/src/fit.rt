@@ -1,12 +1,10 @@
 // What an element's name passes, for each path, with what the list says of the path's steps: all that matching needs of an element.
-// A name is looked up among the distinct names of the list, by its bytes. Where paths have attribute tests, the fit is narrowed to those
-// whose test the element passes.
+// A name is looked up among the distinct names of the list, by its bytes.
 ghost use mathlib.Core.Path.{_≡_};
-ghost use mathlib.Core.Bool.{cond};
 ghost use Rattle.paths.specs.Judge.{listPaths};
 ghost use Prim.Native.Nat.{_+_, _≤_};
 ghost use lib.ListN.{length, take, drop};
-ghost use Rattle.matcher.specs.Fit.{fitFor, Serves, odd, amongOf};
+ghost use Rattle.matcher.specs.Fit.{fitFor, Serves};
 use crate::state::MatchState;
 use compiled::Compiled;
 use compiled::layout;
@@ -64,46 +62,5 @@ pub fn fit_of(list: &[u8], t: &Compiled, name: &[u8]) -> Fit
         far,
         lasts,
         marks,
-    }
-}
-
-// A path's number, if the lowest bit is set.
-fn if_set(bits: u32, number: u16) -> u16
-    ensures { λ r. ⌜ r ≡ cond (odd bits) number 0 ⌝ }
-{
-    if bits % 2 == 1 {
-        return number;
-    }
-    0
-}
-
-impl Fit {
-    // The fit with the last steps of those paths only whose bit is set: bit p is path p's.
-    pub fn among(self, passing: u32) -> Fit
-        ensures { λ r. ⌜ r ≡ amongOf self passing ⌝ }
-    {
-        let passes = self.passes;
-        let stays = self.stays;
-        let goes = self.goes;
-        let far = self.far;
-        let lasts = self.lasts;
-        let marks = self.marks;
-        let mut lasts_among = [0u16; MatchState::PATHS];
-        let mut marks_among = [0u16; MatchState::PATHS];
-        let mut p: usize = 0;
-        while p < MatchState::PATHS {
-            let bits = passing >> (p as u32);
-            lasts_among[p] = if_set(bits, lasts[p]);
-            marks_among[p] = if_set(bits, marks[p]);
-            p += 1;
-        }
-        Fit {
-            passes,
-            stays,
-            goes,
-            far,
-            lasts: lasts_among,
-            marks: marks_among,
-        }
     }
 }

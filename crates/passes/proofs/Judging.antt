@@ -1,22 +1,23 @@
--- The verdict on an element by `judged`: where the steps of no path select it; where no path has a test; by the paths whose test it passes,
--- its attributes being those of the bytes behind its name.
-use mathlib.Core.Path.{_≡_, refl, sym, ap, _∙_}
+-- The verdict on an element by `judged`: where the steps of no path select it; where no path has a test; by the tests of the paths whose
+-- steps select it, its attributes being those of the bytes behind its name.
+use mathlib.Core.Path.{_≡_, sym, _∙_}
 use mathlib.Core.Bool.{Bool, false}
 use mathlib.Core.List.{List}
 use Prim.Native.Nat.{ℕ, _+_, _-_}
 use borrow.Author.Needs.{needs}
-use lib.ListN.{length, take, drop}
+use lib.ListN.{take, drop}
 use Rattle.paths.specs.Judge.{listPaths}
 use Rattle.attributes.specs.Held.{attributesIn}
-use Rattle.matcher.specs.Fit.{Serves, passingOf, amongOf}
-use Rattle.matcher.specs.State.{verdictBy}
+use Rattle.matcher.specs.Picked.{pickedOf}
+use Rattle.matcher.specs.Fit.{Serves}
+use Rattle.matcher.specs.State.{verdictBy, selectingBy}
 use Rattle.matcher.specs.declared.Verdict.{Verdict}
 use Rattle.matcher.specs.declared.Verdict.the-variants.{Unselected}
 use Rattle.matcher.specs.declared.fit.Fit.{Fit}
 use Rattle.matcher.specs.declared.state.MatchState.{MatchState}
 use Rattle.tests.specs.Passing.{somePlace}
 use Rattle.tests.proofs.AnyTest.{any-untested}
-use Rattle.passes.specs.Judged.{ByTests, unselected, untested, passing}
+use Rattle.passes.specs.ByTests.{ByTests, unselected, untested, tested}
 
 module _ (list d : List ℕ) (at n h : ℕ) (m : MatchState) (f : Fit) where
   -- the verdict, by the attributes in the head of the tag at a place
@@ -30,8 +31,8 @@ module _ (list d : List ℕ) (at n h : ℕ) (m : MatchState) (f : Fit) where
       → b ≡ somePlace (take 32 (drop 18368 t)) → b ≡ false → Judges w
   judged-untested s e g y = untested e (any-untested s (sym y ∙ g))
 
-  pub judged-passing : {k : ℕ} → k ≡ passingOf (listPaths list) (attributesIn 0 (take (h - (at + 1 + n)) (drop (at + 1 + n) d)))
-      → {g : Fit} → g ≡ amongOf f k → {w : Verdict} → w ≡ verdictBy m g → Judges w
-  judged-passing ek eg ew = passing (ew ∙ ap (verdictBy m) (eg ∙ ap (amongOf f) ek))
+  pub judged-tested : {k : ℕ} → k ≡ selectingBy m f → {w : Verdict}
+      → w ≡ pickedOf (listPaths list) k (attributesIn 0 (take (h - (at + 1 + n)) (drop (at + 1 + n) d))) → Judges w
+  judged-tested ek ew = tested (rw ek at ew)
 
-pub ruleset judging = (judged-unselected, judged-untested, judged-passing, needs)
+pub ruleset judging = (judged-unselected, judged-untested, judged-tested, needs)

@@ -35,21 +35,22 @@ use Rattle.document.proofs.Placing.{not-among}
 use Rattle.document.proofs.Judging.{Judging, judge-start, judge-fault, judge-over, fine-ahead, scan-inside, scan-less, scan-on}
 use Rattle.attributes.specs.Held.{attributesIn, attributesOf}
 use Rattle.attributes.proofs.Placed.{attributes-behind}
-use Rattle.matcher.specs.Fit.{fitFor, Untested, passingOf, amongOf}
 use Rattle.matcher.specs.Says.{verdictOf}
-use Rattle.matcher.specs.State.{freshState, deeperOf, verdictBy, stateOf}
+use Rattle.matcher.specs.Picked.{pickedOf, Untested}
+use Rattle.matcher.specs.Fit.{fitFor}
+use Rattle.matcher.specs.State.{freshState, deeperOf, verdictBy, selectingBy, stateOf}
 use Rattle.matcher.specs.declared.Verdict.{Verdict}
 use Rattle.matcher.specs.declared.Verdict.the-variants.{Unselected}
 use Rattle.matcher.specs.declared.fit.Fit.{Fit}
 use Rattle.matcher.specs.declared.state.MatchState.{MatchState}
-use Rattle.matcher.proofs.Meaning.{unselected-told, untested-told, passing-told}
+use Rattle.matcher.proofs.Meaning.{verdict-told, unselected-told, untested-told}
 use Rattle.xml.specs.Forest.{Tag}
 use Rattle.trees.specs.Cut.{on}
 use Rattle.trees.specs.Grown.{part, tagOf, tokensOf}
 use Rattle.trees.specs.Engine.{Engine, engine, begun, openOf, run as runs}
 use Rattle.trees.specs.Written.{rootFirst, verdicts, cutOf, countOf}
 use Rattle.trees.proofs.Told.{run-cut}
-use Rattle.passes.specs.Judged.{ByTests, unselected, untested, passing}
+use Rattle.passes.specs.ByTests.{ByTests, unselected, untested, tested}
 use Rattle.output.specs.Act.{onTag, onOther, levelAfter}
 use Rattle.output.specs.Levels.{nameAt, Placed, Stands, Moves, Ready}
 use Rattle.output.specs.declared.Run.{Run}
@@ -356,7 +357,7 @@ module _ {list d o₀ : List ℕ} {states : List MatchState} {starts lens : List
             ∙ ap (λ (y : MatchState). verdictBy y fit) parent-state
             ∙ ap (verdictBy (stateOf (listPaths list) (above d starts lens (opened .level .0)))) fit-is
 
-        -- three ways to the list's verdict: no path's steps select the element; no path has a test; by the paths whose test it passes
+        -- three ways to the list's verdict: no path's steps select the element; no path has a test; by the tests of those that select it
         pub verdict-unselected : {w : Verdict} → w ≡ verdictBy parent fit → w ≡ Unselected → TagVerdict w
         verdict-unselected ew eu =
             verdict-is (plain-is ew
@@ -368,14 +369,13 @@ module _ {list d o₀ : List ℕ} {states : List MatchState} {starts lens : List
             verdict-is (plain-is ew
             ∙ untested-told list sound (above d starts lens (opened .level .0)) (nameFrom d (at + 1) n) (attributesOf tag) u)
 
-        pub verdict-passing : {w : Verdict} {fit′ : Fit} {passing : ℕ} → w ≡ verdictBy parent fit′ → fit′ ≡ amongOf fit passing
-            → passing ≡ passingOf (listPaths list) (attributesOf tag) → TagVerdict w
-        verdict-passing {fit′ = fit′} {passing} ew ea eq =
+        pub verdict-tested : {w : Verdict} → w ≡ pickedOf (listPaths list) (selectingBy parent fit) (attributesOf tag) → TagVerdict w
+        verdict-tested ew =
             let m = stateOf (listPaths list) (above d starts lens (opened .level .0)) in
             verdict-is (ew
-            ∙ ap (λ (y : MatchState). verdictBy y fit′) parent-state
-            ∙ ap (verdictBy m) (ea ∙ ap (λ (y : Fit). amongOf y passing) fit-is)
-            ∙ passing-told list sound (above d starts lens (opened .level .0)) (nameFrom d (at + 1) n) (attributesOf tag) eq)
+            ∙ ap (λ (y : MatchState). pickedOf (listPaths list) (selectingBy y fit) (attributesOf tag)) parent-state
+            ∙ ap (λ (y : Fit). pickedOf (listPaths list) (selectingBy m y) (attributesOf tag)) fit-is
+            ∙ verdict-told list sound (above d starts lens (opened .level .0)) (nameFrom d (at + 1) n) (attributesOf tag))
 
         -- the attributes are those that stand behind the name
         tag-attributes : attributesOf tag ≡ attributesIn 0 (take (b - (at + 1 + n)) (drop (at + 1 + n) d))
@@ -385,7 +385,7 @@ module _ {list d o₀ : List ℕ} {states : List MatchState} {starts lens : List
             parent fit w → TagVerdict w
         verdict-judged (unselected ew eu) = verdict-unselected ew eu
         verdict-judged (untested ew u) = verdict-untested ew u
-        verdict-judged (passing ew) = verdict-passing ew refl (ap (passingOf (listPaths list)) (sym tag-attributes))
+        verdict-judged (tested ew) = verdict-tested (ew ∙ ap (pickedOf (listPaths list) (selectingBy parent fit)) (sym tag-attributes))
 
         -- the state below the element
         abbrev pub TagStored : List MatchState → Type 0

@@ -16,7 +16,7 @@ ghost use Rattle.paths.specs.Judge.{listPaths};
 ghost use Rattle.attributes.specs.Held.{attributesIn};
 ghost use Rattle.tests.specs.Passing.{somePlace};
 ghost use Rattle.passes.specs.Passed.{Passed};
-ghost use Rattle.passes.specs.Judged.{ByTests};
+ghost use Rattle.passes.specs.ByTests.{ByTests};
 use compiled::Compiled;
 use document::InputLevel;
 use document::Open;
@@ -37,7 +37,7 @@ use output::step::tag_step;
 use points::table::Classes;
 use tags::Item;
 use tests::any;
-use tests::passing;
+use tests::picked;
 
 // What a pass comes to: the length of the cut and the number of elements selected, or the item at fault.
 pub enum Outcome {
@@ -46,7 +46,8 @@ pub enum Outcome {
 }
 
 // What the list says of an element. Where the steps of no path select it, or no path has a test (`tested`), its attributes are not looked
-// at. They stand in its tag, from behind the name, which has so many bytes, to the end of the head.
+// at; else the tests of the paths that select it are tried. Attributes stand in the tag, from behind the name, which has so many bytes, to
+// the end of the head.
 fn judged(
     table: &Classes,
     list: &[u8],
@@ -70,8 +71,8 @@ fn judged(
     }
     if tested {
         let from = at + 1 + name;
-        let passing = passing(table, list, t, &doc[from..head]);
-        return parent.verdict_on(fit.among(passing));
+        let selecting = parent.selecting(fit);
+        return picked(table, list, t, selecting, &doc[from..head]);
     }
     plain
 }

@@ -18,7 +18,8 @@ use Rattle.lookup.specs.Index.{padded}
 use Rattle.compiled.specs.Compiled.{testPlace, testPlaces, testsOf}
 use Rattle.compiled.proofs.Lookup.{tests-part}
 use Rattle.compiled.proofs.OverLines.{sound-sized}
-use Rattle.matcher.specs.Fit.{Serves, Untested}
+use Rattle.matcher.specs.Fit.{Serves}
+use Rattle.matcher.specs.Picked.{Untested}
 use Rattle.tests.specs.Passing.{isTest, anyTest, somePlace}
 
 zeros-none : (xs : List ℕ) (n : ℕ) → somePlace (xs ++ replicate n 0) ≡ somePlace xs

@@ -59,7 +59,7 @@ get-at : {A : Type 0} (f : Path → A) (x : A) (done : List Path) (q : Path) (re
 get-at f x [] q rest = refl
 get-at f x (p ∷ done) q rest = get-at f x done q rest
 
-last-some : (q : Path) → 0 < lastBit q
+pub last-some : (q : Path) → 0 < lastBit q
 last-some q =
     let i : 0 ≤ length (q .steps) - 1 = omega arith in
     let z : 2 ^ 0 ≤ 2 ^ (length (q .steps) - 1) = pow-le-pow-right {n = 2} (omega arith) i in
@@ -85,7 +85,7 @@ module _ {d t : List ℕ} (s : Serves d t) {p : ℕ} (l : p < 32) where
   abbrev ps : List Path
   ps = listPaths d
 
-  column : (i : ℕ) (r : List ℕ) → take 32 (drop i (tablesOf ps)) ≡ r → getD t (i + p) 0 ≡ getD r p 0
+  pub column : (i : ℕ) (r : List ℕ) → take 32 (drop i (tablesOf ps)) ≡ r → getD t (i + p) 0 ≡ getD r p 0
   column i r e =
       ap (λ (u : List ℕ). getD u (i + p) 0) (s .tables)
       ∙ sym (getD-drop i (tablesOf ps) p 0)

@@ -18,23 +18,20 @@ add-from c = search judging
 add-from-2 : tie.Need-add-from-2
 add-from-2 c = search judging
 
-sub-passing : tie.Need-sub-passing
-sub-passing c = search judging
+selecting-requires : tie.Need-selecting-requires
+selecting-requires c κs = search judging
 
-part-passing-start : tie.Need-part-passing-start
-part-passing-start c = search judging
+sub-picked : tie.Need-sub-picked
+sub-picked c = search judging
 
-part-passing-end : tie.Need-part-passing-end
-part-passing-end c = search judging
+part-picked-start : tie.Need-part-picked-start
+part-picked-start c = search judging
 
-passing-requires : tie.Need-passing-requires
-passing-requires c κs = search judging
+part-picked-end : tie.Need-part-picked-end
+part-picked-end c = search judging
 
-among-requires : tie.Need-among-requires
-among-requires c κs = search judging
-
-verdict-on-requires-2 : tie.Need-verdict-on-requires-2
-verdict-on-requires-2 c κs = search judging
+picked-requires : tie.Need-picked-requires
+picked-requires c κs = search judging
 
 returns-2 : tie.Need-returns-2
 returns-2 c = search judging
@@ -51,11 +48,10 @@ judged-spec =
     returns
     add-from
     add-from-2
-    sub-passing
-    part-passing-start
-    part-passing-end
-    passing-requires
-    among-requires
-    verdict-on-requires-2
+    selecting-requires
+    sub-picked
+    part-picked-start
+    part-picked-end
+    picked-requires
     returns-2
     returns-3)
