@@ -1,7 +1,9 @@
 -- `picked_from` meets its contract, and ends: it calls itself with half of the bits, which are the measure.
 -- proofs/Picking.antt has the laws.
 use Rattle.tests.proofs.Picking.{picking, pick-number}
-use Prim.Native.Nat.{ℕ, _<_}
+use mathlib.Core.Path.{_≡_}
+use Prim.Native.Nat.{ℕ, _%_, _<_}
+use native.Mathlib.Omega.{arith}
 use borrow.Fn.Kinds.{In}
 use borrow.Fn.PlainCycle.{Measures, is, falls, and}
 use Rattle.tests.proofs.picked_from.Reads as picked-from
@@ -64,7 +66,10 @@ picked-from-returns-2 : (t : ℕ) → picked-from-lts.Need-returns-2 (
   with-path-reads.Asked,
   with-path-reads.Learnt,
 ) (picked-from-at t) picked-from.Post
-picked-from-returns-2 t c = search picking
+picked-from-returns-2 t c =
+    let start = c .before .before .before .before .before .before in
+    let unset : start .args .selecting % 2 ≡ 0 = omega arith in
+    search picking
 
 picked-from-passes-requires : (t : ℕ) → picked-from-lts.Need-passes-requires (
   picked-from-below t,
