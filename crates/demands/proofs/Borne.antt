@@ -2,14 +2,12 @@
 -- order: a tag by its derivation; the tags of a document. What a tag bears is one list, and its names are those that the document's
 -- derivation has, of which none stands twice.
 use mathlib.Core.Path.{_≡_, refl, ap, _∙_}
-use mathlib.Core.Bool.{Bool}
 use mathlib.Core.List.{List, [], _++_, append-nil}
 use Prim.Native.Nat.{ℕ}
 use Rattle.xml.specs.Notation.{Rule, Reads, text, opt}
 use Rattle.xml.specs.Productions.{S, Name as NameRule}
-use Rattle.xml.specs.Forest.{Name, Tag, Forest, nil, other, elem}
-use Rattle.xml.specs.Document as doc
-use Rattle.xml.specs.Document.{Unique, Opens, Content, After, Rooted, Document}
+use Rattle.xml.specs.Forest.{Name, Tag, Forest}
+use Rattle.xml.specs.Document.{Unique, Opens, Document}
 use Rattle.xml.proofs.Language.{language-reads}
 use Rattle.readers.specs.Meaning.{Chars}
 use Rattle.attributes.specs.Attribute.{Attribute, Bears, namesOf}
@@ -23,6 +21,7 @@ use Rattle.demands.proofs.Allowed.{star-then, allowed-chars}
 use Rattle.demands.proofs.Productions.{space-allowed, name-allowed}
 use Rattle.demands.proofs.Characters.{attributes-chars}
 use Rattle.demands.proofs.Reread.{Shaped, opens-shaped}
+use Rattle.demands.proofs.Each.{Each, document-each}
 
 -- ---- a tag
 
@@ -72,37 +71,11 @@ opens-borne {v = v} {ns = ns} o =
 -- ---- the tags of a document
 
 abbrev pub EachTag : (Tag → Type 0) → Forest → Type 0
-EachTag P nil = Unit {0}
-EachTag P (other raw rest) = EachTag P rest
-EachTag P (elem t kids close rest) = P t × EachTag P kids × EachTag P rest
+EachTag P f = Each (λ (t : Tag) (close : List ℕ). P t) f
 
-module _ {Fits : ℕ → Name → List Name → Type 0} where
-  content-borne : {k : ℕ} {chars : Bool} {s t : List ℕ} {f : Forest} → Content Fits k chars s t f → EachTag Borne f
-  content-borne doc.end = tt
-  content-borne (doc.data-next e i r) = content-borne r
-  content-borne (doc.reference-next i r) = content-borne r
-  content-borne (doc.section-next i r) = content-borne r
-  content-borne (doc.instruction-next i r) = content-borne r
-  content-borne (doc.comment-next i r) = content-borne r
-  content-borne (doc.empty-next o h r) = (opens-borne o .0, tt, content-borne r)
-  content-borne (doc.element-next o h i x r) = (opens-borne o .0, content-borne i, content-borne r)
-
-  after-borne : {space : Bool} {s : List ℕ} {f : Forest} → After Fits space s f → EachTag Borne f
-  after-borne doc.over = tt
-  after-borne (doc.space-after i a) = after-borne a
-  after-borne (doc.instruction-after i a) = after-borne a
-  after-borne (doc.comment-after i a) = after-borne a
-
-  rooted-borne : {space : Bool} {s : List ℕ} {f : Forest} → Rooted Fits space s f → EachTag Borne f
-  rooted-borne (doc.space-before i r) = rooted-borne r
-  rooted-borne (doc.instruction-before i r) = rooted-borne r
-  rooted-borne (doc.comment-before i r) = rooted-borne r
-  rooted-borne (doc.empty-root o h a) = (opens-borne o .0, tt, after-borne a)
-  rooted-borne (doc.root o h i x a) = (opens-borne o .0, content-borne i, after-borne a)
-
-  pub document-borne : {s : List ℕ} {f : Forest} → Document Fits s f → EachTag Borne f
-  document-borne (doc.declared i r) = rooted-borne r
-  document-borne (doc.bare r) = rooted-borne r
+pub document-borne : {Fits : ℕ → Name → List Name → Type 0} {s : List ℕ} {f : Forest} → Document Fits s f → EachTag Borne f
+document-borne =
+    document-each (λ (t : Tag) (close : List ℕ). Borne t) (λ v ns s t o. opens-borne o .0) (λ v ns raw s a b t o x. opens-borne o .0)
 
 -- of every element of an accepted document
 pub accepted-borne : (d : List ℕ) → judgeOf d ≡ Sound → EachTag Borne (forestOf d)

@@ -45,7 +45,7 @@ written-first list d o n k e =
     rw (written list d o (ap numberOf e)) (take-at (cutOf list d) (drop (secondOf (answerOf list d (length o))) o) n (sym (z .2)))
 
 -- a sound list, a sound document and room enough
-answers : (list d : List ℕ) (room : ℕ) → listAnswer list ≡ lists.Sound → judgeOf d ≡ Sound → length (cutOf list d) ≤ room
+pub answers : (list d : List ℕ) (room : ℕ) → listAnswer list ≡ lists.Sound → judgeOf d ≡ Sound → length (cutOf list d) ≤ room
     → answerOf list d room ≡ Written (length (cutOf list d)) (countOf list d)
 unfolding answerOf
 answers list d room p q r = rw (p, q, le-ltb room (length (cutOf list d)) r) refl

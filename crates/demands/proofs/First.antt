@@ -132,16 +132,20 @@ scanned-document d n c e =
     passes-document (length d) d (startOf d) (start-inside d) (start-chars d c) n
     (scan-passes (suc (length d)) d (startOf d) true nothing e)
 
-pub sound-document : (d : List ℕ) → judgeOf d ≡ Sound
-    → (length d ≤ 16777216) × Chars d × Document Small (drop (startOf d) d) (forestOf d)
+-- a sound document is within the size, names no other encoding, is made of Chars, and no item of it is at fault
+pub sound-scanned : (d : List ℕ) → judgeOf d ≡ Sound
+    → (length d ≤ 16777216) × (NamesOther (drop (startOf d) d) → ⊥) × Chars d × (scanned d ≡ Sound)
 unfolding judgeOf
-sound-document d = go (ltb 16777216 (length d)) (otherEncoding (drop (startOf d) d)) (checkOf d) refl refl (check-says d)
+sound-scanned d = go (ltb 16777216 (length d)) (otherEncoding (drop (startOf d) d)) (checkOf d) refl refl (check-says d)
   where
     go : (b o : Bool) (r : Checked) → ltb 16777216 (length d) ≡ b → otherEncoding (drop (startOf d) d) ≡ o → CheckSays d r
         → cond b TooLong (cond o (OtherEncoding (startOf d)) (byChars r (scanned d))) ≡ Sound
-        → (length d ≤ 16777216) × Chars d × Document Small (drop (startOf d) d) (forestOf d)
+        → (length d ≤ 16777216) × (NamesOther (drop (startOf d) d) → ⊥) × Chars d × (scanned d ≡ Sound)
     go true o r q n x e = absurd (false≢true cc)
     go false true r q n x e = absurd (false≢true cc)
     go false false (BadAt k) q n x e = absurd (false≢true cc)
-    go false false All q n x e =
-        (ltb-false 16777216 (length d) q, x, scanned-document d (named-none (drop (startOf d) d) n) x e)
+    go false false All q n x e = (ltb-false 16777216 (length d) q, named-none (drop (startOf d) d) n, x, e)
+
+pub sound-document : (d : List ℕ) → judgeOf d ≡ Sound
+    → (length d ≤ 16777216) × Chars d × Document Small (drop (startOf d) d) (forestOf d)
+sound-document d e = let (l, n, c, s) = sound-scanned d e in (l, c, scanned-document d n c s)

@@ -1,7 +1,7 @@
 -- The demands of the request: Demands.antt has the three and is to be opened first, the other files have what they rest on beside the
 -- other crates' theorems. In order: the demands; numbers and bytes of every answer; what is selected, counted and written; what is
--- accepted, by production [1]; repeated lines; the attributes of elements; the cut of a cut; the first fault; the answers, both ways;
--- tables of numbers; the twelve examples; lines with tests; wrong filters.
+-- accepted, by production [1]; repeated lines; the attributes of elements; the cut of a cut; the first fault; the answers, both ways; the
+-- room that a cut takes; tables of numbers; the twelve examples; lines with tests; wrong filters.
 pub mod Demands
 pub mod Answered
 pub mod Selected
@@ -24,11 +24,13 @@ pub mod Narrow
 pub mod Repeated
 pub mod Reread
 pub mod Recut
+pub mod Each
 pub mod Borne
 pub mod Demand3
 pub mod Position
 pub mod Faults
 pub mod Answers
+pub mod Room
 pub mod Numbers
 pub mod Examples
 pub mod Tests
