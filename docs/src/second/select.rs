@@ -49,7 +49,7 @@ fn passes(test: &AttributeTest, attributes: &[Attribute]) -> bool {
 
 /// Can places be chosen for these steps so that the last of them has this place? Places count from 1; "before the first
 /// step is place 0", so no steps at all have place 0 and no other. "place 0 is no element, so no step takes it".
-fn can_be_laid(steps: &[Step], names: &[&str], place: usize) -> bool {
+pub fn can_be_laid(steps: &[Step], names: &[&str], place: usize) -> bool {
     let (last, earlier) = match steps.split_last() {
         Some(split) => split,
         None => return place == 0,
@@ -62,7 +62,7 @@ fn can_be_laid(steps: &[Step], names: &[&str], place: usize) -> bool {
 }
 
 /// "each name test equals the name there, `*` any name"
-fn fits(test: &Test, name: &str) -> bool {
+pub fn fits(test: &Test, name: &str) -> bool {
     match test {
         Test::Any => true,
         Test::Name(wanted) => *wanted == name,
@@ -71,7 +71,7 @@ fn fits(test: &Test, name: &str) -> bool {
 
 /// "a child step stands exactly one place below the step before, a descendant step at least one"; "Self takes the same
 /// place as the step before, descendant-or-self that place or any below".
-fn may_follow(axis: &Axis, before: usize, place: usize) -> bool {
+pub fn may_follow(axis: &Axis, before: usize, place: usize) -> bool {
     match axis {
         Axis::Child => place == before + 1,
         Axis::Descendant => place >= before + 1,

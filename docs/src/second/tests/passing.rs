@@ -1,8 +1,7 @@
 //! Document 02, Q-4, which elements pass: "if it has that attribute and the value ... equals it byte for byte", with reading
 //! R-15; "Chain elements still lose their attributes"; and demand 3 with tests, reading R-17.
 
-use super::{fault, kept};
-use crate::whole;
+use super::{cut_of, fault, kept};
 
 const DOC: &str = "<g><p k='x'>1<v k=\"x\"/></p><p k='y'><v k='x'>2</v></p><p><v l='x'/></p><p k=''/></g>";
 
@@ -80,8 +79,8 @@ fn several_lines() {
 
 /// The cut by the narrow list of the cut by the wide list is the narrow cut.
 fn same_after(wide: &str, narrow: &str) {
-    let (wide_cut, _) = whole(wide.as_bytes(), DOC.as_bytes()).unwrap();
-    assert_eq!(whole(narrow.as_bytes(), &wide_cut), whole(narrow.as_bytes(), DOC.as_bytes()));
+    let (wide_cut, _) = cut_of(wide, DOC);
+    assert_eq!(cut_of(narrow, wide_cut), cut_of(narrow, DOC));
 }
 
 #[test]
@@ -97,8 +96,8 @@ fn demand_3() {
 #[test]
 fn reading_r_17_another_test_is_another_path() {
     let doc = "<g><p k='x'><v k='y'/></p></g>";
-    let (wide_cut, _) = whole(b"//*[@k=\"y\"]\n", doc.as_bytes()).unwrap();
+    let (wide_cut, _) = cut_of("//*[@k=\"y\"]\n", doc);
     assert_eq!(wide_cut, b"<g><p><v k='y'></v></p></g>");
-    assert_eq!(whole(b"//*[@k=\"x\"]\n", &wide_cut), Ok((b"<g></g>".to_vec(), 0)));
-    assert_eq!(whole(b"//*[@k=\"x\"]\n", doc.as_bytes()), Ok((b"<g><p k='x'></p></g>".to_vec(), 1)));
+    assert_eq!(cut_of("//*[@k=\"x\"]\n", wide_cut), (b"<g></g>".to_vec(), 0));
+    assert_eq!(cut_of("//*[@k=\"x\"]\n", doc), (b"<g><p k='x'></p></g>".to_vec(), 1));
 }

@@ -2,7 +2,7 @@
 //! descendant-or-self that place or any below; place 0 is no element, so no step takes it." With reading R-22. How such
 //! lines read is in `axes`.
 
-use super::kept;
+use super::{cut_of, kept};
 
 #[test]
 fn self_steps() {
@@ -112,7 +112,7 @@ fn a_cut_of_a_wider_cut_is_the_narrow_cut() {
     let doc = "<g k='0'> <p k='1'>x<v k='2'>y<n/></v ></p><!--c--><v/><q><p/></q></g>";
     let narrow = "//p/self::p/v #\n/g/descendant-or-self::q\n";
     let wide = "//v\n//p\n/g/descendant-or-self::q #\n//p/self::p/v #\n";
-    let (wide_cut, _) = crate::whole(wide.as_bytes(), doc.as_bytes()).unwrap();
+    let (wide_cut, _) = cut_of(wide, doc);
     let expected = "<g><p><v k='2'>y<n/></v ></p><q></q></g>";
     kept(narrow, doc, expected, 2);
     kept(narrow, wide_cut, expected, 2);

@@ -1,7 +1,7 @@
 //! What paths select: child and descendant steps, `*`, choices that must be taken back, and the count. The last test is
 //! the request's third demand on one document.
 
-use super::kept;
+use super::{cut_of, kept};
 
 #[test]
 fn the_first_step() {
@@ -83,7 +83,7 @@ fn the_deepest_path_on_the_deepest_chain() {
 fn a_cut_of_a_wider_cut_is_the_narrow_cut() {
     let doc = "<g k='0'> <p k='1'>x<v k='2'>y<n/></v ></p><!--c--><v/><q><p/></q></g>";
     let (narrow, wide) = ("//p/v #\n//q\n", "//v\n//p\n//q #\n//p/v #\n");
-    let (wide_cut, _) = crate::whole(wide.as_bytes(), doc.as_bytes()).unwrap();
+    let (wide_cut, _) = cut_of(wide, doc);
     let expected = "<g><p><v k='2'>y<n/></v ></p><q></q></g>";
     kept(narrow, doc, expected, 2);
     kept(narrow, wide_cut, expected, 2);

@@ -63,3 +63,17 @@ fn names_of_more_than_one_byte_a_character() {
 fn order_is_that_of_the_document() {
     kept("//b #\n//a\n", "<g><a/><b/><a>x</a><b>y</b></g>", "<g><a></a><b/><a></a><b>y</b></g>", 4);
 }
+
+/// Q-13: "a cut of an accepted document of n bytes has at most 2 × n − 1 bytes". `kept` asks for that in every test. A
+/// document that is one empty tag reaches it: it has three bytes more than the name, its cut five more than the name twice.
+#[test]
+fn the_longest_cut_for_its_document() {
+    kept("", "<g/>", "<g></g>", 0);
+    for length in [1, 2, 254, 255] {
+        let name = "n".repeat(length);
+        let (doc, bytes) = (format!("<{name}/>"), format!("<{name}></{name}>"));
+        assert_eq!(bytes.len(), 2 * doc.len() - 1);
+        kept("", &doc, &bytes, 0);
+        kept("//*\n", &doc, &bytes, 1);
+    }
+}
