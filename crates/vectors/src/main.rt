@@ -1,5 +1,5 @@
-// Cuts the cases of three packs and prints what each answer is: number, second and third, and a digest of the whole buffer afterwards. The
-// file `stdout` has what is right: the second program, docs/src/second, makes it from the same packs.
+// Cuts the cases of three packs and prints what each answer is: number, second, third and fourth, and a digest of the whole buffer
+// afterwards. The file `stdout` has what is right: the second program, docs/src/second, makes it from the same packs.
 //
 //     suite    the files of the W3C's conformance suite that have no document type
 //     named    cases chosen by hand

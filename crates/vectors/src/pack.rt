@@ -5,7 +5,7 @@
 // So a case that begins as the one before costs little. A pack ends where the file does, or at a head that asks for more than there is.
 ghost use Rattle.io.specs.Counts.{Counts};
 use super::digest;
-use exported::Numbers;
+use exported::FourNumbers;
 use libc::STDOUT_FILENO;
 
 const HEAD: usize = 10;
@@ -31,13 +31,15 @@ fn extended(fd: i32, text: &mut [u8], keep: usize, more: usize) -> usize
     keep + io::read_full(fd, &mut text[keep..keep + more])
 }
 
-// A line: three numbers in decimal, and the digest.
-fn print(numbers: Numbers, digest: u32) {
+// A line: four numbers in decimal, and the digest.
+fn print(numbers: FourNumbers, digest: u32) {
     io::print_decimal(STDOUT_FILENO, numbers.number);
     io::write_all(STDOUT_FILENO, b" ");
     io::print_decimal(STDOUT_FILENO, numbers.second);
     io::write_all(STDOUT_FILENO, b" ");
     io::print_decimal(STDOUT_FILENO, numbers.third);
+    io::write_all(STDOUT_FILENO, b" ");
+    io::print_decimal(STDOUT_FILENO, numbers.fourth);
     io::write_all(STDOUT_FILENO, b" ");
     io::print_hex(STDOUT_FILENO, digest as u64, 8);
     io::write_all(STDOUT_FILENO, b"\n");

@@ -4,8 +4,11 @@
 use crate::crc::crc32;
 use crate::made::Case;
 
-/// A program: from a list, a document and a buffer the three numbers.
-pub type Program = fn(&[u8], &[u8], &mut [u8]) -> (u64, u64, u64);
+/// The four numbers of a single cut, in order.
+pub type Four = [u64; 4];
+
+/// A program: from a list, a document and a buffer the four numbers.
+pub type Program = fn(&[u8], &[u8], &mut [u8]) -> Four;
 
 /// The buffer before a call: byte i is i modulo 251. 251 is prime, so no shift of the bytes by a power of two looks like the bytes
 /// themselves.
@@ -17,7 +20,7 @@ pub fn fresh(room: usize) -> Vec<u8> {
 }
 
 /// The program's numbers, and the buffer after the call.
-pub fn ask(case: &Case, program: Program) -> ((u64, u64, u64), Vec<u8>) {
+pub fn ask(case: &Case, program: Program) -> (Four, Vec<u8>) {
     let mut out = fresh(case.room);
     let numbers = program(&case.list, &case.doc, &mut out);
     (numbers, out)
@@ -25,12 +28,12 @@ pub fn ask(case: &Case, program: Program) -> ((u64, u64, u64), Vec<u8>) {
 
 /// The line of the answers for this case.
 pub fn line(case: &Case, program: Program) -> String {
-    let ((number, second, third), out) = ask(case, program);
-    format!("{number} {second} {third} {:08x}", crc32(&out))
+    let ([number, second, third, fourth], out) = ask(case, program);
+    format!("{number} {second} {third} {fourth} {:08x}", crc32(&out))
 }
 
 /// The second program.
-pub fn second(list: &[u8], doc: &[u8], out: &mut [u8]) -> (u64, u64, u64) {
-    let numbers = second::cut(list, doc, out);
-    (numbers.number, numbers.second, numbers.third)
+pub fn second(list: &[u8], doc: &[u8], out: &mut [u8]) -> Four {
+    let second::Numbers { number, second, third, fourth } = second::cut(list, doc, out);
+    [number, second, third, fourth]
 }

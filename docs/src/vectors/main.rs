@@ -80,7 +80,7 @@ fn counts(folder: &str) -> Result<bool, String> {
         let cases = read(folder, name)?;
         let mut by_number = [0; 11];
         for case in &cases {
-            by_number[ask(case, second).0 .0 as usize] += 1;
+            by_number[ask(case, second).0[0] as usize] += 1;
         }
         println!("{name}: {} cases", cases.len());
         for (number, count) in by_number.iter().enumerate() {

@@ -10,7 +10,7 @@ pub fn show(case: &Case) {
     println!("document, {} bytes", case.doc.len());
     bytes(&case.doc);
     println!("room {}", case.room);
-    let ((number, length, _), out) = ask(case, second);
+    let ([number, length, ..], out) = ask(case, second);
     println!("answer {}", line(case, second));
     if number == 0 {
         bytes(&out[..length as usize]);

@@ -82,7 +82,7 @@ fn verdict(accepted: bool) -> &'static str {
 /// Whether the row's verdict is the program's; nothing if the file is not here.
 fn judged(folder: &str, row: &Row, program: Program) -> Option<bool> {
     let doc = fs::read(Path::new(folder).join(&row.file)).ok()?;
-    let ((number, place, _), _) = ask(&case("//*\n", &doc), program);
+    let ([number, place, ..], _) = ask(&case("//*\n", &doc), program);
     let right = (number == 0) == row.accepted;
     if !right {
         println!("wrong: {} should be {}, answer {number} {place}", row.file, verdict(row.accepted));

@@ -4,12 +4,12 @@
 mod ours;
 
 use std::panic::{catch_unwind, set_hook};
-use vectors::asked::{line, second};
+use vectors::asked::{line, second, Four};
 use vectors::pack::{read, PACKS};
 
-fn changed(list: &[u8], doc: &[u8], out: &mut [u8]) -> (u64, u64, u64) {
+fn changed(list: &[u8], doc: &[u8], out: &mut [u8]) -> Four {
     let numbers = ours::exported::choughbell_cut(list, doc, out);
-    (numbers.number, numbers.second, numbers.third)
+    [numbers.number, numbers.second, numbers.third, numbers.fourth]
 }
 
 fn main() {

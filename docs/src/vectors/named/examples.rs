@@ -1,4 +1,5 @@
-// Document 01's twelve examples, a to l, and its "Errors that look right": what each error would lose or add.
+// Document 01's twelve examples, a to l, with the name tests tried in each, and its "Errors that look right": what each error would lose or
+// add.
 
 use super::{kept, refused, Named};
 
@@ -13,14 +14,14 @@ pub fn all() -> Vec<Named> {
 
 fn table() -> Vec<Named> {
     vec![
-        kept("", "<g/>", "<g></g>", 0),
-        kept("//v\n", B, "<g><p><v></v></p></g>", 1),
-        kept("/v\n", B, "<g></g>", 0),
-        kept("//a/b\n", "<a><c/><b/></a>", "<a><b></b></a>", 1),
-        kept("//a/a/b\n", "<a><a><a><b/></a></a></a>", "<a><a><a><b></b></a></a></a>", 1),
-        kept("//n #\n", F, "<g><v><n>Aar</n></v></g>", 1),
-        kept("//v\n", F, "<g><v k=\"1\"></v></g>", 1),
-        kept("//v #\n//n\n", "<g><v><n/></v></g>", "<g><v><n/></v></g>", 2),
+        kept("", "<g/>", "<g></g>", 0).tried(0),
+        kept("//v\n", B, "<g><p><v></v></p></g>", 1).tried(3),
+        kept("/v\n", B, "<g></g>", 0).tried(1),
+        kept("//a/b\n", "<a><c/><b/></a>", "<a><b></b></a>", 1).tried(3 + 2),
+        kept("//a/a/b\n", "<a><a><a><b/></a></a></a>", "<a><a><a><b></b></a></a></a>", 1).tried(4 + 3 + 2),
+        kept("//n #\n", F, "<g><v><n>Aar</n></v></g>", 1).tried(3),
+        kept("//v\n", F, "<g><v k=\"1\"></v></g>", 1).tried(3),
+        kept("//v #\n//n\n", "<g><v><n/></v></g>", "<g><v><n/></v></g>", 2).tried(3 + 3),
         refused("//v\n", "<g><v></g>", 7, 6),
         refused("//v\n", "", 7, 0),
         refused("v\n", "<g/>", 2, 1),

@@ -1,8 +1,8 @@
 // The cases written by hand, with what documents 01 and 02 say of each, and the check that the second program says the same. The tables are
 // in the files by topic: examples.rs and readings.rs, lists.rs, characters.rs, the items (markup.rs, tags.rs, references.rs,
 // declarations.rs), places.rs, selection.rs, written.rs, limits.rs (list) and sizes.rs (document), order.rs; of document 02, encodings.rs,
-// axes.rs and same_place.rs, attributes.rs, values.rs and passing.rs. A case that is kept has its whole cut there, so its second number is
-// the cut's length.
+// axes.rs and same_place.rs, attributes.rs, values.rs and passing.rs, name_tests.rs. A case that is kept has its whole cut there, so its
+// second number is the cut's length. How many name tests are tried is told in examples.rs and name_tests.rs alone; a refusal tries none.
 
 // Tables have one case a line.
 #[rustfmt::skip]
@@ -23,6 +23,8 @@ mod limits;
 mod lists;
 #[rustfmt::skip]
 mod markup;
+#[rustfmt::skip]
+mod name_tests;
 #[rustfmt::skip]
 mod order;
 #[rustfmt::skip]
@@ -50,10 +52,11 @@ use crate::show::show;
 use vectors::asked::{ask, fresh, second};
 use vectors::made::Case;
 
-/// A case, and by hand: its three numbers, and the cut under 0.
+/// A case, and by hand: its first three numbers, the fourth where it is told, and the cut under 0.
 pub struct Named {
     case: Case,
-    numbers: (u64, u64, u64),
+    numbers: [u64; 3],
+    tried: Option<u64>,
     cut: Vec<u8>,
 }
 
@@ -63,18 +66,24 @@ impl Named {
         self.case.room = room;
         self
     }
+
+    /// The same, and so many name tests are tried.
+    fn tried(mut self, tests: u64) -> Named {
+        self.tried = Some(tests);
+        self
+    }
 }
 
 /// Answer 0: the cut, and how many elements are selected.
 fn kept(list: impl AsRef<[u8]>, doc: impl AsRef<[u8]>, cut: impl AsRef<[u8]>, selected: u64) -> Named {
     let cut = cut.as_ref().to_vec();
     let length = cut.len();
-    Named { case: case(list, doc, length + 5), numbers: (0, length as u64, selected), cut }
+    Named { case: case(list, doc, length + 5), numbers: [0, length as u64, selected], tried: None, cut }
 }
 
 /// Any other answer: its number and second number.
 fn refused(list: impl AsRef<[u8]>, doc: impl AsRef<[u8]>, number: u64, second: usize) -> Named {
-    Named { case: case(list, doc, 40), numbers: (number, second as u64, 0), cut: Vec::new() }
+    Named { case: case(list, doc, 40), numbers: [number, second as u64, 0], tried: Some(0), cut: Vec::new() }
 }
 
 /// The list is sound, and the document's one element `g` is not selected.
@@ -129,6 +138,7 @@ fn tables() -> Vec<Vec<Named>> {
         attributes::all(),
         values::all(),
         passing::all(),
+        name_tests::all(),
     ]
 }
 
@@ -140,7 +150,7 @@ pub fn cases() -> Vec<Case> {
 pub fn agree() -> bool {
     let wrong: Vec<Named> = tables().into_iter().flatten().filter(|named| !agrees(named)).collect();
     for named in &wrong {
-        println!("by hand {:?}, but the second program says otherwise:", named.numbers);
+        println!("by hand {:?} {:?}, but the second program says otherwise:", named.numbers, named.tried);
         show(&named.case);
     }
     wrong.is_empty()
@@ -151,5 +161,5 @@ fn agrees(named: &Named) -> bool {
     let (numbers, out) = ask(&named.case, second);
     let mut after = fresh(named.case.room);
     after[..named.cut.len()].copy_from_slice(&named.cut);
-    numbers == named.numbers && out == after
+    numbers[..3] == named.numbers && named.tried.map_or(true, |tests| tests == numbers[3]) && out == after
 }
