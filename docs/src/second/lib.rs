@@ -55,7 +55,7 @@ pub fn whole(list: &[u8], doc: &[u8]) -> Result<Whole, Numbers> {
     let paths = list::paths(list)?;
     let mut root = document::root(doc)?;
     select::mark(&mut root, &mut Vec::new(), &paths);
-    let tried = tried::count(&root, &mut Vec::new(), &paths);
+    let tried = tried::count(&root, &paths);
     Ok(Whole { bytes: write::cut(&root, doc), selected: select::count(&root), tried })
 }
 
