@@ -1,6 +1,6 @@
-// Documents of 16,777,216 bytes, one less and one more, sound and at fault at their end or by their encoding; and the gazetteer by lists
-// that are thin, wide and long. A line says what each run answered.
-use crate::same::{both, cut};
+// Documents of 16,777,216 bytes, one less and one more, sound and at fault at their end or by their encoding; many name tests; and the
+// gazetteer by lists that are thin, wide and long. A line says what each run answered.
+use crate::same::{both, cut, reached};
 use crate::{gazetteer, lists, narrow};
 
 const MOST: usize = 16_777_216;
@@ -18,9 +18,11 @@ fn sized(length: usize) -> Vec<u8> {
     doc
 }
 
-fn say(what: &str, list: &str, doc: &[u8], room: usize) {
+/// Says what was answered, and hands back how many name tests were tried.
+fn say(what: &str, list: &str, doc: &[u8], room: usize) -> u64 {
     let (answer, _) = both(list.as_bytes(), doc, room);
-    println!("{what}: {} {} {}", answer.number, answer.second, answer.third);
+    println!("{what}: {} {} {} {}", answer.number, answer.second, answer.third, answer.fourth);
+    answer.fourth
 }
 
 fn sizes() {
@@ -56,6 +58,16 @@ fn declared() {
     say(&format!("{} bytes in another encoding", MOST + 1), "//n\n", &doc, MOST);
 }
 
+/// The most elements that a document can have and the most steps that a list can have, each step tried at each element: there can be no
+/// more name tests. The cut needs nearly twice the document's length.
+fn name_tests() {
+    let list = format!("//*{}\n", "/self::*".repeat(15)).repeat(32);
+    let doc = format!("<g>{}</g>", "<v/>".repeat(4_194_302)).into_bytes();
+    let what = "4194303 elements by 512 steps";
+    assert_eq!(say(what, &list, &doc, 2 * doc.len()), 4_194_303 * 512);
+    assert_eq!(say(&format!("{what}, no room"), &list, &doc, 0), 0);
+}
+
 fn gazetteer() {
     let doc = gazetteer::document().into_bytes();
     let long = lists::long();
@@ -72,8 +84,10 @@ fn gazetteer() {
 }
 
 pub fn run() {
+    reached();
     sizes();
     ends();
     declared();
+    name_tests();
     gazetteer();
 }

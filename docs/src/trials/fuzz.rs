@@ -7,6 +7,7 @@ use vectors::made::{batch, narrower, Random};
 const SAID: usize = 10;
 
 pub fn run(cases: usize, seed: u64) {
+    same::reached();
     let mut random = Random::new(seed);
     let (mut tried, mut narrowed, mut numbers) = (0, 0, [0usize; 11]);
     while tried < cases {

@@ -1,10 +1,12 @@
-// The function that the static library exports, beside the second program: the same numbers, and the same bytes in the whole buffer.
+// The function that the static library exports, beside the second program: the same four numbers, and the same bytes in the whole buffer.
 //
-//     big                  documents at the most bytes that one may have and about it, and a gazetteer of 8 MiB by several lists
+//     big                  documents at the most bytes that one may have and about it, many name tests, and a gazetteer of 8 MiB by several
+//                          lists
 //     fuzz CASES [SEED]    so many cases of the generator that makes the pack `made`, from other seeds
 //     suite FOLDER         the W3C's files in a folder: both programs have to give the suite's verdict as well
 //
-// The first two try demand 3 as well. The first difference ends the run, and is shown.
+// The first two try demand 3 as well, and that the longest cut for its document is reached. The first difference ends the run, and is
+// shown.
 mod big;
 mod fuzz;
 #[path = "../speed/gazetteer.rs"]
@@ -19,6 +21,7 @@ mod narrow;
 mod numbers;
 mod same;
 
+use vectors::asked::Four;
 use vectors::suite::verdicts;
 
 fn main() {
@@ -36,8 +39,8 @@ fn main() {
 }
 
 /// What both programs answer.
-fn answered(list: &[u8], doc: &[u8], out: &mut [u8]) -> (u64, u64, u64) {
+fn answered(list: &[u8], doc: &[u8], out: &mut [u8]) -> Four {
     let (numbers, bytes) = same::both(list, doc, out.len());
     out.copy_from_slice(&bytes);
-    (numbers.number, numbers.second, numbers.third)
+    [numbers.number, numbers.second, numbers.third, numbers.fourth]
 }

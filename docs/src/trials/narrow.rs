@@ -1,4 +1,5 @@
-// Demand 3 on one document: the cut by the narrow list of the cut by the wide list is the narrow cut, with the same number selected.
+// Demand 3 on one document: the cut by the narrow list of the cut by the wide list is the narrow cut, with the same number selected. The
+// wide cut may have fewer elements than the document, so name tests are not compared.
 use crate::same::cut;
 
 /// Tries it on a document and its cut by the wide list, if that is itself within the document size, and says whether it is.
