@@ -16,10 +16,10 @@ use Rattle.compiled.proofs.Bits.{column-get}
 use Rattle.compiled.proofs.Listed.{listed-get}
 use Rattle.matcher.specs.Test.{lays}
 use Rattle.matcher.specs.Fit.{fitFor}
-use Rattle.matcher.specs.State.{hitsOf, carried, hitsAt, carriedAt, freshState, deeperOf, down, stateOf, nonzero, hitAt}
+use Rattle.matcher.specs.State.{hitsOf, carried, hitsAt, carriedAt, freshState, deeperOf, down, stateOf, nonzero, hitAt, triedOf}
 use Rattle.matcher.specs.declared.fit.Fit.{Fit}
 use Rattle.matcher.specs.declared.state.MatchState.{MatchState}
-use Rattle.matcher.proofs.Telling.{stayBits, goBits, farBits, fitBits, downPath, pathHits}
+use Rattle.matcher.proofs.Telling.{stayBits, goBits, farBits, fitBits, downPath, pathHits, pathTried}
 use Rattle.matcher.proofs.Hits.{lays-none, hits-lays}
 
 -- ---- fits
@@ -84,6 +84,12 @@ module _ {A : Type 0} (fits : Step → A → Bool) (ps : List Path) where
         ap (λ (u : ℕ). hitsOf (getD state i 0) u (getD (staysOf ps) i 0) (getD (goesOf ps) i 0)) (bits-at (λ s. fits s x) ps i)
         ∙ ap₂ (hitsOf (getD state i 0) (fitBits fits (stepsAt ps i) x)) (stays-at ps i) (goes-at ps i)
 
+    tried-at : triedOf (getD state i 0) (getD (fit x .passes) i 0) (getD (fit x .stays) i 0) (getD (fit x .goes) i 0)
+        ≡ triedOf (getD state i 0) (fitBits fits (stepsAt ps i) x) (stayBits (stepsAt ps i)) (goBits (stepsAt ps i))
+    tried-at =
+        ap (λ (u : ℕ). triedOf (getD state i 0) u (getD (staysOf ps) i 0) (getD (goesOf ps) i 0)) (bits-at (λ s. fits s x) ps i)
+        ∙ ap₂ (triedOf (getD state i 0) (fitBits fits (stepsAt ps i) x)) (stays-at ps i) (goes-at ps i)
+
     carried-at : carriedAt state (fit x .passes) (fit x .stays) (fit x .goes) (fit x .far) i
         ≡ carried (getD state i 0) (fitBits fits (stepsAt ps i) x) (stayBits (stepsAt ps i)) (goBits (stepsAt ps i))
         (farBits (stepsAt ps i))
@@ -122,6 +128,14 @@ module _ {A : Type 0} (fits : Step → A → Bool) (ps : List Path) where
   path-hits above x i l =
       hits-at (down fit freshState above .bits) x i
       ∙ ap (λ (y : ℕ). hitsOf y (fitBits fits (stepsAt ps i) x) (stayBits (stepsAt ps i)) (goBits (stepsAt ps i))) (state-at above i l)
+
+  -- and the steps of path i that are tried there
+  pub path-tried : (above : List A) (x : A) (i : ℕ) → i < 32
+      → triedOf (getD (down fit freshState above .bits) i 0) (getD (fit x .passes) i 0) (getD (fit x .stays) i 0) (getD (fit x .goes) i 0)
+      ≡ pathTried fits (stepsAt ps i) above x
+  path-tried above x i l =
+      tried-at (down fit freshState above .bits) x i
+      ∙ ap (λ (y : ℕ). triedOf y (fitBits fits (stepsAt ps i) x) (stayBits (stepsAt ps i)) (goBits (stepsAt ps i))) (state-at above i l)
 
 some-hit : (b : Bool) (h l : ℕ) → nonzero (bitAnd h (cond b l 0)) ≡ b && nonzero (bitAnd h l)
 some-hit true h l = refl

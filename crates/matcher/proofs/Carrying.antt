@@ -1,16 +1,19 @@
--- The ways through `deeper` and `verdict_on`. `deeper`: the bits of the first p paths are carried. `verdict_on`: the hits of the first p
--- paths are joined, those that are last steps and those that are last steps of marked paths.
+-- The ways through `deeper`, `verdict_on` and `tests_on`. `deeper`: the bits of the first p paths are carried. `verdict_on`: the hits of
+-- the first p paths are joined, those that are last steps and those that are last steps of marked paths. `tests_on`: the tests of the first
+-- p paths are summed.
 use mathlib.Core.Path.{_≡_, refl, sym, ap, ap₂, _∙_}
 use mathlib.Core.Bool.{Bool, true, false}
 use mathlib.Core.List.{List}
-use Prim.Native.Nat.{ℕ, zero, suc, _+_, _≤_, _<_}
+use Prim.Native.Nat.{ℕ, zero, suc, _+_, _*_, _≤_, _<_}
 use native.Mathlib.Numerals.{add-one}
 use native.Mathlib.Omega.{arith}
 use borrow.Author.Needs.{needs}
 use lib.Bits.{bitAnd, bitOr}
+use lib.Count.{ones, ones-le}
 use lib.ListN.{getD, set, replicate}
 use Rattle.matcher.specs.Says.{decided}
 use Rattle.matcher.specs.State.{hitsOf, carried, hitsAt, carriedAt, deeperOf, joined, nonzero, hitAt, anyHit, verdictBy}
+use Rattle.matcher.specs.State.{triedOf, testsAt, summed, testsBy}
 use Rattle.matcher.specs.declared.Verdict.the-variants.{Unselected, Selected, Marked}
 use Rattle.matcher.specs.declared.fit.Fit.{Fit}
 use Rattle.matcher.specs.declared.state.MatchState.{MatchState}
@@ -94,3 +97,36 @@ module _ (m : MatchState) (f : Fit) {selected marked p : ℕ}
   join-none e h = whole (nonzero-zero marked e) (nonzero-zero selected h)
 
 pub ruleset joining = (join-start, join-more, join-marked, join-selected, join-none, needs)
+
+-- ---- `tests_on`
+
+pub record Summing (state passes stays goes : List ℕ) (tests p : ℕ) : Type 0 where
+  pub p-in : p ≤ 32
+  pub few : tests ≤ 16 * p
+  pub is : tests ≡ summed (testsAt state passes stays goes) p
+
+pub sum-start : (state passes stays goes : List ℕ) → Summing state passes stays goes 0 0
+sum-start state passes stays goes = record { p-in = omega arith; few = omega arith; is = refl }
+
+pub sum-more : {state passes stays goes : List ℕ} {tests p : ℕ} → Summing state passes stays goes tests p → p < 32
+    → {t : ℕ} → t ≡ triedOf (getD state p 0) (getD passes p 0) (getD stays p 0) (getD goes p 0) → t < 65536
+    → Summing state passes stays goes (tests + ones t) (p + 1)
+unfolding testsAt
+sum-more {p = p} v l {t} d s =
+    record {
+      p-in = omega arith;
+      few = let y = v .few in let z = ones-le 16 t s in omega arith;
+      is = rw (add-one p, d, v .is);
+    }
+
+pub sum-end : (m : MatchState) (f : Fit) {tests p : ℕ} → Summing (m .bits) (f .passes) (f .stays) (f .goes) tests p → 32 ≤ p
+    → tests ≡ testsBy m f
+unfolding testsBy
+sum-end m f {p = p} v l =
+    let z : p ≡ 32 = let y = v .p-in in omega arith in
+    v .is ∙ ap (summed (testsAt (m .bits) (f .passes) (f .stays) (f .goes))) z
+
+pub sum-few : {state passes stays goes : List ℕ} {tests p : ℕ} → Summing state passes stays goes tests p → tests ≤ 512
+sum-few v = omega (arith, v .few, v .p-in)
+
+pub ruleset summing = (sum-start, sum-more, sum-end, sum-few, needs)

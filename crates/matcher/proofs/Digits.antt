@@ -1,17 +1,17 @@
--- Numbers by their lowest bit: what `and`, `or`, a remainder of a power of two, the flood, the hits and one level deeper do to it and to
--- the rest. Stated over what is carried in from the bit below, since each step of a path takes one off.
+-- Numbers by their lowest bit: what `and`, `or`, a remainder of a power of two, the flood, the hits, one level deeper and the steps tried
+-- do to it and to the rest. Stated over what is carried in from the bit below, since each step of a path takes one off.
 use mathlib.Core.Path.{_≡_, refl, ap, ap₂, _∙_}
 use mathlib.Core.Bool.{Bool, true, false, not, _&&_, _||_}
 use Prim.Native.Nat.{ℕ, zero, suc, _+_, _-_, _*_, _/_, _%_, _^_, _≤_, _<_, min, max}
 use native.Mathlib.Omega.{arith}
-use lib.Bits.{bitAnd, bitOr, and-step, or-step, and-le-l}
+use lib.Bits.{bitAnd, bitOr, and-step, or-step, and-le-l, and-le-r, or-lt}
 use lib.Pow.{mod-pow-add}
 use lib.Dec.{eqb}
 use Rattle.compiled.specs.Bits.{bit}
 use Rattle.matcher.specs.Picked.{odd}
-use Rattle.matcher.specs.State.{flood, hitsOf, carried}
+use Rattle.matcher.specs.State.{flood, hitsOf, carried, triedOf}
 
-low : (x : ℕ) → x % 2 ≡ bit (odd x)
+pub low : (x : ℕ) → x % 2 ≡ bit (odd x)
 low x = go (x % 2) (omega arith)
   where
     go : (r : ℕ) → r < 2 → r ≡ bit (eqb r 1)
@@ -178,3 +178,46 @@ unfolding carried
 carried-in x f st go d =
     let h = hitsOf x f st go in
     ap (λ (z : ℕ). bitOr z (bitAnd x d)) (let y : h % 32768 * 2 ≡ 0 + 2 * (h % 32768) = omega arith in y)
+
+-- ---- the steps that are tried
+
+-- w bits of the hits count, and c is carried in: the step before takes the place
+abbrev pub triedIn : ℕ → Bool → ℕ → ℕ → ℕ → ℕ → ℕ
+triedIn w c h x st go = bitOr (bitAnd x go) (bitAnd (bit c + 2 * (h % 2 ^ w)) st)
+
+-- a step is tried: x says that it may take the place from above
+abbrev pub isTried : Bool → Bool → Bool → Bool → Bool
+isTried c x st go = (x && go) || (c && st)
+
+module _ (c : Bool) (h x : ℕ) (a : Bool) (st : ℕ) (g : Bool) (go : ℕ) where
+  tried-low : (y : ℕ) → bitOr (bitAnd x (bit g + 2 * go)) (bitAnd (bit c + 2 * y) (bit a + 2 * st))
+      ≡ bit (isTried c (odd x) a g) + 2 * bitOr (bitAnd (x / 2) go) (bitAnd y st)
+  tried-low y =
+      ap₂ bitOr (and-bit x g go) (and-bits c y a st)
+      ∙ or-bit (odd x && g) (bitAnd (x / 2) go) (c && a) (bitAnd y st)
+
+  pub tried-bit : (w : ℕ)
+      → triedIn (w + 1) c h x (bit a + 2 * st) (bit g + 2 * go)
+      ≡ bit (isTried c (odd x) a g) + 2 * triedIn w (odd h) (h / 2) (x / 2) st go
+  tried-bit w =
+      ap (λ (u : ℕ). bitOr (bitAnd x (bit g + 2 * go)) (bitAnd (bit c + 2 * u) (bit a + 2 * st)))
+      (ap (λ (u : ℕ). u % 2 ^ (w + 1)) (split h) ∙ mod-bit (odd h) (h / 2) w)
+      ∙ tried-low (bit (odd h) + 2 * (h / 2 % 2 ^ w))
+
+  -- no bit is carried: the lowest is as above
+  pub tried-last : odd (triedIn 0 c h x (bit a + 2 * st) (bit g + 2 * go)) ≡ isTried c (odd x) a g
+  tried-last = ap odd (tried-low (h % 1)) ∙ bit-odd (isTried c (odd x) a g) _
+
+pub tried-in : (x f st go : ℕ) → triedOf x f st go ≡ triedIn 15 false (hitsOf x f st go) x st go
+unfolding triedOf
+tried-in x f st go =
+    let h = hitsOf x f st go in
+    ap (λ (z : ℕ). bitOr (bitAnd x go) (bitAnd z st)) (let y : h % 32768 * 2 ≡ 0 + 2 * (h % 32768) = omega arith in y)
+
+-- no bit past those of the kinds
+pub tried-below : (k x f st go : ℕ) → st < 2 ^ k → go < 2 ^ k → triedOf x f st go < 2 ^ k
+unfolding triedOf
+tried-below k x f st go l m =
+    or-lt k (bitAnd x go) (bitAnd ((hitsOf x f st go % 32768) * 2) st)
+    (let z = and-le-r x go in omega arith)
+    (let z = and-le-r ((hitsOf x f st go % 32768) * 2) st in omega arith)

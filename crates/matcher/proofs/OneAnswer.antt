@@ -7,6 +7,7 @@ use Rattle.matcher.proofs.state.MatchState.fresh.Reads as fresh
 use Rattle.matcher.proofs.state.MatchState.deeper.Reads as deeper
 use Rattle.matcher.proofs.state.MatchState.verdict_on.Reads as verdict-on
 use Rattle.matcher.proofs.state.MatchState.selecting.Reads as selecting
+use Rattle.matcher.proofs.state.MatchState.tests_on.Reads as tests-on
 
 -- `fit::fit_of`
 pub fit-of-one : OneResult fit-of.Asked fit-of.Learnt
@@ -27,3 +28,7 @@ verdict-on-one κs a z z′ e e′ x p q = p ∙ sym q
 -- `state::MatchState::selecting`
 pub selecting-one : OneResult selecting.Asked selecting.Learnt
 selecting-one κs a z z′ e e′ x p q = p ∙ sym q
+
+-- `state::MatchState::tests_on`
+pub tests-on-one : OneResult tests-on.Asked tests-on.Learnt
+tests-on-one κs a z z′ e e′ x p q = p .0 ∙ sym (q .0)

@@ -1,6 +1,6 @@
 -- One path, from place to place: bit by bit its state tells which steps may take the next place from above, and at an element its hits tell
--- which steps reach the element's place, `hits-told`. By the three tests of a kind only. In order: the bits of a path; one step; all steps;
--- down a list.
+-- which steps reach the element's place, `hits-told`, and which are tried there, `tried-told`. By the three tests of a kind only. In order:
+-- the bits of a path; one step; all steps; down a list.
 use mathlib.Core.Path.{_≡_, refl, sym, ap, _∙_, subst}
 use mathlib.Core.Bool.{Bool, true, false, false≢true, true≢false, _&&_, _||_}
 use mathlib.Core.List.{List, [], _∷_, _++_, append-assoc, map}
@@ -16,11 +16,13 @@ use Rattle.compiled.specs.Bits.{bit, bitsOf}
 use Rattle.matcher.specs.Select.{At, Stands, all, Reaches}
 use Rattle.matcher.specs.Moves.{Moves, same, down}
 use Rattle.matcher.specs.Picked.{odd}
-use Rattle.matcher.specs.State.{hitsOf, carried}
+use Rattle.matcher.specs.Tried.{TriedAt}
+use Rattle.matcher.specs.State.{hitsOf, carried, triedOf}
 use Rattle.matcher.proofs.Moving.{below-moves}
 use Rattle.matcher.proofs.Laying.{at-behind, at-one, reach-more, reach-last, reach-zero, reach-none}
 use Rattle.matcher.proofs.Digits.{bit-half, bit-odd, hitsIn, isHit, hits-bit, hits-in}
 use Rattle.matcher.proofs.Digits.{carriedIn, carried-bit, carried-none, carried-in}
+use Rattle.matcher.proofs.Digits.{triedIn, isTried, tried-bit, tried-last, tried-in}
 
 -- ---- the bits of a path
 
@@ -43,6 +45,10 @@ downPath fits ss state (x ∷ xs) = downPath fits ss (carried state (fitBits fit
 -- the hits at an element x below the elements `above`, from a fresh state
 abbrev pub pathHits : {A : Type 0} → (Step → A → Bool) → List Step → List A → A → ℕ
 pathHits fits ss above x = hitsOf (downPath fits ss 1 above) (fitBits fits ss x) (stayBits ss) (goBits ss)
+
+-- the steps tried there
+abbrev pub pathTried : {A : Type 0} → (Step → A → Bool) → List Step → List A → A → ℕ
+pathTried fits ss above x = triedOf (downPath fits ss 1 above) (fitBits fits ss x) (stayBits ss) (goBits ss)
 
 -- bit by bit, a number says of which steps, after those `done`, P holds
 abbrev pub Tells : (List Step → Step → Type 0) → List Step → List Step → ℕ → Type 0
@@ -74,6 +80,10 @@ module _ {A : Type 0} (Fits : Step → A → Type 0) (xs : List A) where
   abbrev pub ReachesAt : ℕ → List Step → Step → Type 0
   ReachesAt k done s = Reaches Fits xs (done ++ s ∷ []) k
 
+  -- a step is tried there
+  abbrev pub TriesAt : ℕ → List Step → Step → Type 0
+  TriesAt k done s = TriedAt Fits xs k (done, s)
+
   module _ (k : ℕ) (done : List Step) (s : Step) where
     -- c: the step before takes the place after k; x: this step may take that place from above
     arrives-on : (c x : Bool) → ((c ≡ true) ↔ Reaches Fits xs done (k + 1)) → ((x ≡ true) ↔ ArrivesAt k done s)
@@ -97,6 +107,41 @@ module _ {A : Type 0} (Fits : Step → A → Type 0) (xs : List A) where
         back b r n (inr l) =
             let w = wide b n l (far (s .kind)) refl in
             or-right c (x && far (s .kind)) (and-both x (far (s .kind)) (from .1 (b, r, l, λ q. absurd (true≢false (sym w ∙ q)))) w)
+
+    -- the step is tried at the place after k
+    tried-on : (c x : Bool) → ((c ≡ true) ↔ Reaches Fits xs done (k + 1)) → ((x ≡ true) ↔ ArrivesAt k done s)
+        → (isTried c x (stays (s .kind)) (goes (s .kind)) ≡ true) ↔ TriesAt (k + 1) done s
+    tried-on c x hit from = (
+      λ e. into (or-either (x && g) (c && st) e),
+      λ a. back (a .0) (a .1) (below-moves (s .kind) (a .0) (k + 1) .0 (a .2)),
+    )
+      where
+        st : Bool
+        st = stays (s .kind)
+
+        g : Bool
+        g = goes (s .kind)
+
+        into : ((x && g) ≡ true) ⊎ ((c && st) ≡ true) → TriesAt (k + 1) done s
+        into (inl e) =
+            let a = from .0 (and-left x g e) in
+            let l = a .2 in (
+              a .0,
+              a .1,
+              below-moves (s .kind) (a .0) (k + 1) .1
+                  (down (and-right x g e) (omega arith) (λ q. let z = a .3 q in omega arith)),
+            )
+        into (inr e) = (
+          k + 1,
+          hit .0 (and-left c st e),
+          below-moves (s .kind) (k + 1) (k + 1) .1 (same (and-right c st e) refl (omega arith)),
+        )
+
+        back : (b : ℕ) → Reaches Fits xs done b → Moves st g (far (s .kind)) b (k + 1) → isTried c x st g ≡ true
+        back b r (same q e z) =
+            or-right (x && g) (c && st) (and-both c st (hit .1 (subst (Reaches Fits xs done) (sym e) r)) q)
+        back b r (down q l m) =
+            or-left (x && g) (c && st) (and-both x g (from .1 (b, r, omega arith, λ w. let z = m w in omega arith)) q)
 
   module _ (fits : Step → A → Bool) (decides : (s : Step) (x : A) → Fits s x ↔ (fits s x ≡ true)) (k : ℕ) (n : A)
       (here : At xs (k + 1) n) where
@@ -177,6 +222,25 @@ module _ {A : Type 0} (Fits : Step → A → Type 0) (xs : List A) where
         (arrives-on k done s c (odd x) hit (from .0))
         (carried-tells ss w (omega arith) (done ++ s ∷ []) (odd h) (hits .0) (h / 2) (x / 2) (hits .1) (from .1))
 
+    tried-tells : (ss : List Step) (w : ℕ) → length ss ≤ w + 1 → (done : List Step) (c : Bool)
+        → ((c ≡ true) ↔ Reaches Fits xs done (k + 1)) → (h x : ℕ)
+        → Tells (ReachesAt (k + 1)) done ss h → Tells (ArrivesAt k) done ss x
+        → Tells (TriesAt (k + 1)) done ss (triedIn w c h x (stayBits ss) (goBits ss))
+    tried-tells [] w l done c hit h x hits from = tt
+    tried-tells (s ∷ []) zero l done c hit h x hits from = (
+      subst (λ (b : Bool). (b ≡ true) ↔ TriesAt (k + 1) done s) (sym (tried-last c h x (stays (s .kind)) 0 (goes (s .kind)) 0))
+          (tried-on k done s c (odd x) hit (from .0)),
+      tt,
+    )
+    tried-tells (s ∷ r ∷ ss) zero l done c hit h x hits from = absurd (omega arith)
+    tried-tells (s ∷ ss) (suc w) l done c hit h x hits from =
+        let y = triedIn w (odd h) (h / 2) (x / 2) (stayBits ss) (goBits ss) in
+        tells-bit (TriesAt (k + 1)) done s ss (isTried c (odd x) (stays (s .kind)) (goes (s .kind))) y
+        (ap (λ (v : ℕ). triedIn v c h x (stayBits (s ∷ ss)) (goBits (s ∷ ss))) (sym (add-one w))
+        ∙ tried-bit c h x (stays (s .kind)) (stayBits ss) (goes (s .kind)) (goBits ss) w)
+        (tried-on k done s c (odd x) hit (from .0))
+        (tried-tells ss w (omega arith) (done ++ s ∷ []) (odd h) (hits .0) (h / 2) (x / 2) (hits .1) (from .1))
+
     -- before the first step nothing takes the place
     nothing-hit : (false ≡ true) ↔ Reaches Fits xs [] (k + 1)
     nothing-hit = (λ e. absurd (false≢true e), λ r. absurd (let z = reach-none Fits xs r in omega arith))
@@ -186,6 +250,12 @@ module _ {A : Type 0} (Fits : Step → A → Type 0) (xs : List A) where
     hits-here ss x from =
         subst (Tells (ReachesAt (k + 1)) [] ss) (sym (hits-in x (fitBits fits ss n) (stayBits ss) (goBits ss)))
         (hits-tell ss [] false nothing-hit x from)
+
+    tried-here : (ss : List Step) → length ss ≤ 16 → (x : ℕ) → Tells (ArrivesAt k) [] ss x
+        → Tells (TriesAt (k + 1)) [] ss (triedOf x (fitBits fits ss n) (stayBits ss) (goBits ss))
+    tried-here ss l x from =
+        subst (Tells (TriesAt (k + 1)) [] ss) (sym (tried-in x (fitBits fits ss n) (stayBits ss) (goBits ss)))
+        (tried-tells ss 15 l [] false nothing-hit (hitsOf x (fitBits fits ss n) (stayBits ss) (goBits ss)) x (hits-here ss x from) from)
 
     deeper-here : (ss : List Step) → length ss ≤ 16 → (x : ℕ) → Tells (ArrivesAt k) [] ss x
         → Tells (ArrivesAt (k + 1)) [] ss (carried x (fitBits fits ss n) (stayBits ss) (goBits ss) (farBits ss))
@@ -221,8 +291,14 @@ module _ {A : Type 0} (Fits : Step → A → Type 0) (xs : List A) where
 
 module _ {A : Type 0} (Fits : Step → A → Type 0) (fits : Step → A → Bool) (decides : (s : Step) (x : A) → Fits s x ↔ (fits s x ≡ true))
     (ss : List Step) (short : length ss ≤ 16) (above : List A) (n : A) where
-  pub hits-told : Tells (ReachesAt Fits (above ++ n ∷ []) (length above + 1)) [] ss (pathHits fits ss above n)
-  hits-told =
+  from-above : Tells (ArrivesAt Fits (above ++ n ∷ []) (length above)) [] ss (downPath fits ss 1 above)
+  from-above =
       let xs = above ++ n ∷ [] in
-      hits-here Fits xs fits decides (length above) n (at-behind above n []) ss (downPath fits ss 1 above)
-      (tells-down Fits xs fits decides ss short above [] (n ∷ []) refl 1 0 (length above) refl (omega arith) (tells-fresh Fits xs ss))
+      tells-down Fits xs fits decides ss short above [] (n ∷ []) refl 1 0 (length above) refl (omega arith) (tells-fresh Fits xs ss)
+
+  pub hits-told : Tells (ReachesAt Fits (above ++ n ∷ []) (length above + 1)) [] ss (pathHits fits ss above n)
+  hits-told = hits-here Fits (above ++ n ∷ []) fits decides (length above) n (at-behind above n []) ss (downPath fits ss 1 above) from-above
+
+  pub tried-told : Tells (TriesAt Fits (above ++ n ∷ []) (length above + 1)) [] ss (pathTried fits ss above n)
+  tried-told =
+      tried-here Fits (above ++ n ∷ []) fits decides (length above) n (at-behind above n []) ss short (downPath fits ss 1 above) from-above

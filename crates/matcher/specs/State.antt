@@ -1,12 +1,13 @@
 -- The matcher on numbers of 16 bits. Bit j of a path's state: its step j + 1 may take the next place from above, if it goes below at all.
 -- In order: the steps of one path that take an element's place, and its bits one level deeper; a state, from a fresh one down to an
--- element; what a state and a fit say of an element: the verdict on its name, and the paths whose steps select it, as bits. An element's
--- fit is in specs/Fit.antt.
+-- element; what a state and a fit say of an element: the verdict on its name, the paths whose steps select it, as bits, and how many name
+-- tests are tried there. An element's fit is in specs/Fit.antt.
 use mathlib.Core.Bool.{Bool, true, false}
 use mathlib.Core.List.{List, [], _∷_}
 use Prim.Native.Nat.{ℕ, zero, suc, _+_, _-_, _*_, _%_}
 use lib.ListN.{getD, replicate}
 use lib.Bits.{bitAnd, bitOr}
+use lib.Count.{ones}
 use Rattle.paths.specs.Path.{Path}
 use Rattle.compiled.specs.Bits.{bitsOf}
 use Rattle.compiled.specs.Built.{listed}
@@ -82,3 +83,21 @@ verdictBy m f = decided (anyHit m f (f .marks)) (anyHit m f (f .lasts))
 -- bit p says that the last step of path p takes the element's place
 unfoldable pub selectingBy : MatchState → Fit → ℕ
 selectingBy m f = bitsOf (listed (λ p. nonzero (hitAt (m .bits) (f .passes) (f .stays) (f .goes) (f .lasts) p)) 0 32)
+
+-- ---- the name tests
+
+-- a step is tried where it may take the place from above, and where it may stay and the step before takes the place
+unfoldable pub triedOf : ℕ → ℕ → ℕ → ℕ → ℕ
+triedOf state passes stays goes = bitOr (bitAnd state goes) (bitAnd ((hitsOf state passes stays goes % 32768) * 2) stays)
+
+-- how many steps of path p are
+unfoldable pub testsAt : List ℕ → List ℕ → List ℕ → List ℕ → ℕ → ℕ
+testsAt state passes stays goes p = ones (triedOf (getD state p 0) (getD passes p 0) (getD stays p 0) (getD goes p 0))
+
+-- f 0 + f 1 + .. : n of them
+abbrev pub summed : (ℕ → ℕ) → ℕ → ℕ
+summed f zero = 0
+summed f (suc n) = summed f n + f n
+
+unfoldable pub testsBy : MatchState → Fit → ℕ
+testsBy m f = summed (testsAt (m .bits) (f .passes) (f .stays) (f .goes)) 32
