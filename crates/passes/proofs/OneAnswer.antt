@@ -9,7 +9,7 @@ use denote.Ref.{now}
 use Rattle.contracts.specs.One.{OneResult, OneOutcome}
 use Rattle.document.specs.Judge.{scanned}
 use Rattle.document.specs.declared.judge.Judged.the-variants.{Sound}
-use Rattle.trees.specs.Written.{cutOf, countOf}
+use Rattle.trees.specs.Written.{cutOf, countOf, testsOf}
 use Rattle.passes.specs.Passed.{judgedBy, Told, Passed}
 use Rattle.passes.specs.declared.Outcome.{Outcome}
 use Rattle.passes.specs.declared.Outcome.the-variants.{Fine, Fault}
@@ -19,11 +19,11 @@ use Rattle.passes.proofs.pass.Reads as pass
 outcome-one : (list d o : List ℕ) (r r′ : Outcome) (o₁ o₂ : List ℕ) → Passed list d o r o₁ → Passed list d o r′ o₂ → r ≡ r′
 outcome-one list d o r r′ o₁ o₂ p q = go r r′ (p .judged ∙ sym (q .judged)) (p .told) (q .told)
   where
-    go : (x y : Outcome) → judgedBy x ≡ judgedBy y → Told (cutOf list d) (countOf list d) o x o₁
-        → Told (cutOf list d) (countOf list d) o y o₂ → x ≡ y
-    go (Fine n c) (Fine m k) e s t = rw (s .0, s .1, t .0, t .1)
-    go (Fine n c) (Fault w at) e s t = absurd (false≢true cc)
-    go (Fault w at) (Fine m k) e s t = absurd (false≢true cc)
+    go : (x y : Outcome) → judgedBy x ≡ judgedBy y → Told (cutOf list d) (countOf list d) (testsOf list d) o x o₁
+        → Told (cutOf list d) (countOf list d) (testsOf list d) o y o₂ → x ≡ y
+    go (Fine n c m) (Fine n′ c′ m′) e s t = rw (s .0, s .1, s .2, t .0, t .1, t .2)
+    go (Fine n c m) (Fault w at) e s t = absurd (false≢true cc)
+    go (Fault w at) (Fine n c m) e s t = absurd (false≢true cc)
     go (Fault w at) (Fault v to) e s t = cc
 
 -- and the buffer, where the document is sound
@@ -31,8 +31,9 @@ laid-one : (list d o : List ℕ) (r r′ : Outcome) (o₁ o₂ : List ℕ) → P
     → scanned d ≡ Sound → o₁ ≡ o₂
 laid-one list d o r r′ o₁ o₂ p q sound = laid r o₁ (p .judged ∙ sound) (p .told) ∙ sym (laid r′ o₂ (q .judged ∙ sound) (q .told))
   where
-    laid : (x : Outcome) (b : List ℕ) → judgedBy x ≡ Sound → Told (cutOf list d) (countOf list d) o x b → b ≡ sets o 0 (cutOf list d)
-    laid (Fine n c) b e s = s .2
+    laid : (x : Outcome) (b : List ℕ) → judgedBy x ≡ Sound → Told (cutOf list d) (countOf list d) (testsOf list d) o x b → b ≡ sets
+        o 0 (cutOf list d)
+    laid (Fine n c m) b e s = s .3
     laid (Fault w at) b e s = absurd (false≢true cc)
 
 -- `pass`

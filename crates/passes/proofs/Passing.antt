@@ -38,7 +38,7 @@ use Rattle.attributes.proofs.Placed.{attributes-behind}
 use Rattle.matcher.specs.Says.{verdictOf}
 use Rattle.matcher.specs.Picked.{pickedOf, Untested}
 use Rattle.matcher.specs.Fit.{fitFor}
-use Rattle.matcher.specs.State.{freshState, deeperOf, verdictBy, selectingBy, stateOf}
+use Rattle.matcher.specs.State.{freshState, deeperOf, verdictBy, selectingBy, stateOf, testsBy}
 use Rattle.matcher.specs.declared.Verdict.{Verdict}
 use Rattle.matcher.specs.declared.Verdict.the-variants.{Unselected}
 use Rattle.matcher.specs.declared.fit.Fit.{Fit}
@@ -48,8 +48,8 @@ use Rattle.xml.specs.Forest.{Tag}
 use Rattle.trees.specs.Cut.{on}
 use Rattle.trees.specs.Grown.{part, tagOf, tokensOf}
 use Rattle.trees.specs.Engine.{Engine, engine, begun, openOf, run as runs}
-use Rattle.trees.specs.Written.{rootFirst, verdicts, cutOf, countOf}
-use Rattle.trees.proofs.Told.{run-cut}
+use Rattle.trees.specs.Written.{rootFirst, verdicts, cutOf, countOf, nameTests, testsOf}
+use Rattle.trees.proofs.Told.{run-cut, run-tests}
 use Rattle.passes.specs.ByTests.{ByTests, unselected, untested, tested}
 use Rattle.output.specs.Act.{onTag, onOther, levelAfter}
 use Rattle.output.specs.Levels.{nameAt, Placed, Stands, Moves, Ready}
@@ -58,20 +58,21 @@ use Rattle.output.proofs.Chains.{name-part}
 use Rattle.output.proofs.Steps.{open-is}
 use Rattle.passes.specs.Passed.{Passed}
 use Rattle.passes.specs.declared.Outcome.the-variants.{Fine as Ended, Fault}
-use Rattle.passes.proofs.Rests.{Rest, untagged, rest-start, rest-over, rest-tag, rest-other}
+use Rattle.passes.proofs.Rests.{Rest, untagged, rest-start, rest-over, sum-over, rest-tag, rest-other}
 use Rattle.passes.proofs.States.{none, above, Held, Stored, name-here, span-below, held-start, held-kept, held-deeper, held-same}
 use Rattle.passes.proofs.States.{parent-is, stored-long}
 
 pub record Passing (list d o₀ : List ℕ) (states : List MatchState) (starts lens : List ℕ) (opened : Open) (run : Run) (at : ℕ)
-    (first : Bool) (o : List ℕ) : Type 0 where
+    (first : Bool) (tests : ℕ) (o : List ℕ) : Type 0 where
   pub judging : Judging d starts lens opened at first
   pub x : Engine
-  pub rest : Rest (verdicts (listPaths list)) d at first x
+  pub rest : Rest (verdicts (listPaths list)) (nameTests (listPaths list)) d at first x tests
   pub stands : Stands d starts lens o₀ (opened .level .0) (run .reached .0) (run .kept) (run .len) (run .count) o x
   pub held : Held (listPaths list) states d starts lens (opened .level .0)
   pub order : run .reached .0 ≤ opened .level .0
   pub far : run .len ≤ at * 4294967296
   pub few : run .count ≤ at * 2
+  pub many : tests ≤ at * 512
   pub long : length states ≡ 64
   pub room : length o ≡ length o₀
 
@@ -80,13 +81,13 @@ pub pass-start : (list d o : List ℕ) {m : MatchState} {opened : Open} {run : R
     → run ≡ record { reached = record { 0 = 0 }; kept = false; len = 0; count = 0 }
     → at ≡ startOf d
     → m ≡ freshState
-    → Passing list d o (replicate 64 m) (replicate 64 0) (replicate 64 0) opened run at true o
+    → Passing list d o (replicate 64 m) (replicate 64 0) (replicate 64 0) opened run at true 0 o
 pass-start list d o {m} {at = at} p r q f =
     rw (p, r)
     (record {
       judging = judge-start d refl q;
       x = begun;
-      rest = rw q (rest-start (verdicts (listPaths list)) d);
+      rest = rw q (rest-start (verdicts (listPaths list)) (nameTests (listPaths list)) d);
       stands =
           record {
             kept-is = refl;
@@ -99,6 +100,7 @@ pass-start list d o {m} {at = at} p r q f =
       order = omega arith;
       far = omega arith;
       few = omega arith;
+      many = omega arith;
       long = length-replicate {A = MatchState} 64 m;
       room = refl;
     })
@@ -106,12 +108,12 @@ pass-start list d o {m} {at = at} p r q f =
 -- ---- out
 
 module _ {list d o₀ : List ℕ} {states : List MatchState} {starts lens : List ℕ} {opened : Open} {run : Run} {at : ℕ} {first : Bool}
-    {o : List ℕ} (v : Passing list d o₀ states starts lens opened run at first o) {i : Item} (e : i ≡ itemAt first d at)
+    {tests : ℕ} {o : List ℕ} (v : Passing list d o₀ states starts lens opened run at first tests o) {i : Item} (e : i ≡ itemAt first d at)
     {p : Placement} (q : p ≡ placement d at i (openedOf d starts lens opened)) where
   pub pass-fault : (why : Why) → p ≡ Faulty why → Passed list d o₀ (Fault why at) o
   pass-fault why h = record { judged = judge-fault (v .judging) e q why h; told = tt }
 
-  pub pass-over : p ≡ Over → Passed list d o₀ (Ended (run .len) (run .count)) o
+  pub pass-over : p ≡ Over → Passed list d o₀ (Ended (run .len) (run .count) tests) o
   pass-over h = record { judged = sound; told = go (v .x) (v .stands) (whole ∙ run-cut list d (sym sound)) }
     where
       sound : Sound ≡ scanned d
@@ -120,13 +122,16 @@ module _ {list d o₀ : List ℕ} {states : List MatchState} {starts lens : List
       whole : v .x ≡ runs (verdicts (listPaths list)) (tokensOf d) begun
       whole = rest-over (v .rest) e (openedOf d starts lens opened) (sym q ∙ h)
 
+      counted : tests ≡ testsOf list d
+      counted = sum-over (v .rest) e (openedOf d starts lens opened) (sym q ∙ h) ∙ run-tests list d (sym sound)
+
       go : (y : Engine) → Stands d starts lens o₀ (opened .level .0) (run .reached .0) (run .kept) (run .len) (run .count) o y
           → y ≡ engine false [] [] (cutOf list d) (countOf list d)
-          → (run .len ≡ length (cutOf list d)) × (run .count ≡ countOf list d) × (o ≡ sets o₀ 0 (cutOf list d))
+          → (run .len ≡ length (cutOf list d)) × (run .count ≡ countOf list d) × (tests ≡ testsOf list d) × (o ≡ sets o₀ 0 (cutOf list d))
       go (engine k p′ d′ w c) t z =
           let a : w ≡ cutOf list d = cc in
           let b : c ≡ countOf list d = cc in
-          (sym (t .text .long) ∙ ap length a, sym (t .num-is) ∙ b, t .text .laid ∙ ap (sets o₀ 0) a)
+          (sym (t .text .long) ∙ ap length a, sym (t .num-is) ∙ b, counted, t .text .laid ∙ ap (sets o₀ 0) a)
 
 -- ---- on
 
@@ -136,9 +141,12 @@ by-deeper P false l a c = c
 
 -- the numbers of a step are within 64 bits
 module _ {list d o₀ : List ℕ} {states : List MatchState} {starts lens : List ℕ} {opened : Open} {run : Run} {at : ℕ} {first : Bool}
-    {o : List ℕ} (v : Passing list d o₀ states starts lens opened run at first o) (small : length d ≤ 16777216) where
+    {tests : ℕ} {o : List ℕ} (v : Passing list d o₀ states starts lens opened run at first tests o) (small : length d ≤ 16777216) where
   pub pass-ready : at < length d → Ready d run 72057594037927936
   pass-ready l = record { small = small; near = omega (arith, v .far); few = omega (arith, v .few) }
+
+  pub pass-many : at < length d → {k : ℕ} → k ≤ 512 → Fits w64 (tests + k)
+  pass-many l h = record { fits = omega (arith, v .many) }
 
   pub pass-deep : opened .level .0 ≤ 64
   pass-deep = v .judging .names .deep
@@ -194,7 +202,7 @@ stands-kept {d} {starts} {lens} {level = level} {reached} h t a n =
     }
 
 module _ {list d o₀ : List ℕ} {states : List MatchState} {starts lens : List ℕ} {opened : Open} {run : Run} {at : ℕ} {first : Bool}
-    {o : List ℕ} (v : Passing list d o₀ states starts lens opened run at first o) {i : Item} (e : i ≡ itemAt first d at)
+    {tests : ℕ} {o : List ℕ} (v : Passing list d o₀ states starts lens opened run at first tests o) {i : Item} (e : i ≡ itemAt first d at)
     {p : Placement} (q : p ≡ placement d at i (openedOf d starts lens opened)) (h : p ≡ Fine) where
   inner : Inside d at i
   inner = scan-inside (v .judging) e
@@ -227,7 +235,7 @@ module _ {list d o₀ : List ℕ} {states : List MatchState} {starts lens : List
     pub pass-other : OneOf untagged (kindOf item.the-type i) → {run′ : Run} {o′ : List ℕ}
         → Moves d starts′ lens′ (opened .level .0) run o (onOther d at i) 1 (levelAfter i (opened .level .0)) run′ o′
         → {opened′ : Open} → opened′ ≡ openAfter i opened → {n : ℕ} → n ≡ endOf at i
-        → Passing list d o₀ states starts′ lens′ opened′ run′ n false o′
+        → Passing list d o₀ states starts′ lens′ opened′ run′ n false tests o′
     pass-other k {run′} {o′} m {opened′} eo {n} en =
         record {
           judging = scan-on (v .judging) e q h es el eo en;
@@ -238,6 +246,7 @@ module _ {list d o₀ : List ℕ} {states : List MatchState} {starts lens : List
           order = rw level at (m .order);
           far = omega (arith, m .far, v .far, ahead .0);
           few = omega (arith, m .few, v .few, ahead .0);
+          many = omega (arith, v .many, ahead .0);
           long = v .long;
           room = m .same ∙ v .room;
         }
@@ -392,7 +401,8 @@ module _ {list d o₀ : List ℕ} {states : List MatchState} {starts lens : List
         TagStored = Stored states (opened .level .0) (deeperOf parent fit)
 
         state-is : deeperOf parent fit
-            ≡ deeperOf (stateOf (listPaths list) (above d starts lens (opened .level .0))) (fitFor (listPaths list) (nameFrom d (at + 1) n))
+            ≡ deeperOf (stateOf (listPaths list) (above d starts lens (opened .level .0))) (fitFor (listPaths list) (nameFrom d (at
+            + 1) n))
         state-is =
             ap (λ (y : MatchState). deeperOf y fit) parent-state
             ∙ ap (deeperOf (stateOf (listPaths list) (above d starts lens (opened .level .0)))) fit-is
@@ -409,16 +419,27 @@ module _ {list d o₀ : List ℕ} {states : List MatchState} {starts lens : List
             (held-same (v .held) (at + 1) n ls ll (v .long) state-is et)
             (held-deeper (v .held) (at + 1) n ls ll (v .long) state-is et)
 
-        pub pass-tag : {w : Verdict} → TagVerdict w → {states′ : List MatchState} → TagStored states′ → {run′ : Run} {o′ : List ℕ}
+        tests-are : {k : ℕ} → k ≡ testsBy parent fit → k ≡ nameTests (listPaths list) (nameFrom d (at + 1) n ∷ openOf (v .x))
+        unfolding nameTests
+        tests-are ek =
+            ek
+            ∙ ap (λ (y : MatchState). testsBy y fit) parent-state
+            ∙ ap (testsBy (stateOf (listPaths list) (above d starts lens (opened .level .0)))) fit-is
+            ∙ ap (λ (ns : List (List ℕ)). testsBy (stateOf (listPaths list) (rootFirst ns)) (fitFor (listPaths list) (nameFrom d
+            (at + 1) n)))
+            (sym (open-is (v .stands) (v .order)))
+
+        pub pass-tag : {w : Verdict} → TagVerdict w → {states′ : List MatchState} → TagStored states′
+            → {k : ℕ} → (k ≡ testsBy parent fit) × (k ≤ 512) → {run′ : Run} {o′ : List ℕ}
             → Moves d starts′ lens′ (opened .level .0) run o
             (onTag w (nameAt d starts′ lens′ (opened .level .0)) (part d at b) (part d at f) m) 2 (deeper m (opened .level .0)) run′ o′
             → {opened′ : Open} → opened′ ≡ openAfter (Start n b f m t) opened
-            → Passing list d o₀ states′ starts′ lens′ opened′ run′ f false o′
-        pass-tag {w} ew et {run′} {o′} mv {opened′} eo =
+            → Passing list d o₀ states′ starts′ lens′ opened′ run′ f false (tests + k) o′
+        pass-tag {w} ew et {k} ek {run′} {o′} mv {opened′} eo =
             record {
               judging = scan-on (v .judging) e q h es el (eo ∙ sym (ap (λ (j : Item). openAfter j opened) s)) (sym (ap (endOf at) s));
               x = onTag w (nameFrom d (at + 1) n) (part d at b) (part d at f) m (v .x);
-              rest = rw ew (rest-tag (v .rest) (sym s ∙ e) tag-from (places .1) (places .2));
+              rest = rw (ew, tests-are (ek .0)) (rest-tag (v .rest) (sym s ∙ e) tag-from (places .1) (places .2));
               stands =
                   rw (name-is, level) at
                   (mv .moves o₀ (v .x) (rw (es, lens-is) (stands-kept (v .order) (v .stands) (at + 1) n)));
@@ -426,6 +447,7 @@ module _ {list d o₀ : List ℕ} {states : List MatchState} {starts lens : List
               order = rw level at (mv .order);
               far = omega (arith, mv .far, v .far, places .0, places .1);
               few = omega (arith, mv .few, v .few, places .0, places .1);
+              many = omega (arith, v .many, ek .1, places .0, places .1);
               long = stored-long states (opened .level .0) (deeperOf parent fit) et ∙ v .long;
               room = mv .same ∙ v .room;
             }

@@ -1,14 +1,16 @@
--- What is left of a pass: from a place on, the engine comes to what it comes to from the start. And what it does at one item: a tag; any
--- other item; at the end nothing is left.
+-- What is left of a pass: from a place on, the engine comes to what it comes to from the start, and so does a sum over the elements. And
+-- what they do at one item: a tag; any other item; at the end nothing is left.
 use mathlib.Core.Path.{_≡_, refl, sym, ap, _∙_}
-use mathlib.Core.Bool.{Bool, true, false}
+use mathlib.Core.Bool.{Bool, true, false, cond}
 use mathlib.Core.List.{List, [], _∷_, _++_}
 use Prim.Native.Nat.{ℕ, zero, suc, _+_, _-_, _≤_, _<_}
+use native.Mathlib.Nat.{zero-add}
 use native.Mathlib.Omega.{arith}
 use types.Run.{OneOf}
 use denote.Enum.Declared.{tagOf as kindOf}
 use lib.ListN.{length, take, drop}
 use lib.Seq.{take-add, drop-drop}
+use Rattle.xml.specs.Forest.{Name}
 use Rattle.tags.proofs.Item as item
 use Rattle.tags.specs.Kept.{nameFrom}
 use Rattle.items.specs.Item.{itemAt}
@@ -21,18 +23,22 @@ use Rattle.document.specs.declared.Placement.the-variants.{Fine, Over}
 use Rattle.document.proofs.Placing.{not-among}
 use Rattle.trees.specs.Cut.{Judge, on}
 use Rattle.trees.specs.Grown.{Token, part, tagOf, itemTokens, tokensFrom, tokensOf}
-use Rattle.trees.specs.Engine.{Engine, begun, openOf, onStart, onFinish, run}
+use Rattle.trees.specs.Engine.{Engine, begun, openOf, onStart, onFinish, onAside, run, outer, tallied}
 use Rattle.trees.proofs.Passes.{over-fine, over-nothing}
+use Rattle.trees.proofs.Told.{open-start, open-finish, open-aside}
 use Rattle.output.specs.Act.{onTag, onOther}
 
-pub record Rest (v : Judge) (d : List ℕ) (at : ℕ) (first : Bool) (x : Engine) : Type 0 where
+-- the engine x, and the sum t of the numbers that f gives for the elements so far
+pub record Rest (v : Judge) (f : List Name → ℕ) (d : List ℕ) (at : ℕ) (first : Bool) (x : Engine) (t : ℕ) : Type 0 where
   pub fuel : ℕ
   pub enough : length d - at < fuel
   pub same : run v (tokensFrom fuel d at first) x ≡ run v (tokensOf d) begun
+  pub sum : t + tallied f (tokensFrom fuel d at first) (openOf x) ≡ tallied f (tokensOf d) []
 
-pub rest-start : (v : Judge) (d : List ℕ) → Rest v d (startOf d) true begun
+pub rest-start : (v : Judge) (f : List Name → ℕ) (d : List ℕ) → Rest v f d (startOf d) true begun 0
 unfolding tokensOf
-rest-start v d = record { fuel = suc (length d); enough = omega arith; same = refl }
+rest-start v f d =
+    record { fuel = suc (length d); enough = omega arith; same = refl; sum = zero-add (tallied f (tokensOf d) []) }
 
 -- ---- one item
 
@@ -49,33 +55,49 @@ less n (suc j) l = (j, refl)
 abbrev pub untagged : List ℕ
 untagged = 0 ∷ 1 ∷ 2 ∷ 3 ∷ 4 ∷ 5 ∷ 7 ∷ 8 ∷ 9 ∷ 10 ∷ 11 ∷ []
 
--- what the engine makes of an item is what it makes of the item's tokens
+-- what the engine makes of an item is what it makes of the item's tokens; the sum follows
 abbrev Makes : Judge → List ℕ → ℕ → Item → Engine → Engine → Type 0
 Makes v d at i x y = (ts : List Token) → run v (itemTokens d at i ts) x ≡ run v ts y
 
-module _ {v : Judge} {d : List ℕ} {at : ℕ} {first : Bool} {x : Engine} (r : Rest v d at first x) {i : Item} (e : i ≡ itemAt first d at)
-  where
-    turn : (j : ℕ) × (r .fuel ≡ suc j) × (run v (itemTokens d at i (tokensFrom j d (endOf at i) false)) x ≡ run v (tokensOf d) begun)
-    turn =
-        let z = less (length d - at) (r .fuel) (r .enough) in (
-          z .0,
-          z .1,
-          ap (λ (ts : List Token). run v ts x)
-              (sym (tokens-step (z .0) d at first e) ∙ ap (λ (k : ℕ). tokensFrom k d at first) (sym (z .1))) ∙ r .same,
-        )
+abbrev Sums : (List Name → ℕ) → List ℕ → ℕ → Item → Engine → ℕ → Engine → ℕ → Type 0
+Sums f d at i x t y u = (ts : List Token) → t + tallied f (itemTokens d at i ts) (openOf x) ≡ u + tallied f ts (openOf y)
 
-    rest-on : {y : Engine} → Makes v d at i x y → at < endOf at i → endOf at i ≤ length d → Rest v d (endOf at i) false y
-    rest-on {y} m l h =
-        record {
-          fuel = turn .0;
-          enough = omega (arith, r .enough, turn .1);
-          same = sym (m (tokensFrom (turn .0) d (endOf at i) false)) ∙ turn .2;
-        }
+module _ {v : Judge} {f : List Name → ℕ} {d : List ℕ} {at : ℕ} {first : Bool} {x : Engine} {t : ℕ}
+    (r : Rest v f d at first x t) {i : Item}
+    (e : i ≡ itemAt first d at) where
+  left : (j : ℕ) × (r .fuel ≡ suc j)
+  left = less (length d - at) (r .fuel) (r .enough)
 
-    pub rest-over : (s : Opened) → placement d at i s ≡ Over → x ≡ run v (tokensOf d) begun
-    rest-over s q =
-        let z = over-nothing d at i s q in
-        ap (λ (j : Item). run v (itemTokens d at j (tokensFrom (turn .0) d (endOf at i) false)) x) (sym z) ∙ turn .2
+  abbrev behind : List Token
+  behind = tokensFrom (left .0) d (endOf at i) false
+
+  tokens-are : tokensFrom (r .fuel) d at first ≡ itemTokens d at i behind
+  tokens-are = ap (λ (k : ℕ). tokensFrom k d at first) (left .1) ∙ tokens-step (left .0) d at first e
+
+  run-turn : run v (itemTokens d at i behind) x ≡ run v (tokensOf d) begun
+  run-turn = ap (λ (ts : List Token). run v ts x) (sym tokens-are) ∙ r .same
+
+  sum-turn : t + tallied f (itemTokens d at i behind) (openOf x) ≡ tallied f (tokensOf d) []
+  sum-turn = ap (λ (ts : List Token). t + tallied f ts (openOf x)) (sym tokens-are) ∙ r .sum
+
+  rest-on : {y : Engine} {u : ℕ} → Makes v d at i x y → Sums f d at i x t y u → at < endOf at i → endOf at i ≤ length d
+      → Rest v f d (endOf at i) false y u
+  rest-on m s l h =
+      record {
+        fuel = left .0;
+        enough = omega (arith, r .enough, left .1);
+        same = sym (m behind) ∙ run-turn;
+        sum = sym (s behind) ∙ sum-turn;
+      }
+
+  module _ (s : Opened) (q : placement d at i s ≡ Over) where
+    pub rest-over : x ≡ run v (tokensOf d) begun
+    rest-over = ap (λ (j : Item). run v (itemTokens d at j behind) x) (sym (over-nothing d at i s q)) ∙ run-turn
+
+    pub sum-over : t ≡ tallied f (tokensOf d) []
+    sum-over =
+        let z : t ≡ t + 0 = omega arith in
+        z ∙ ap (λ (j : Item). t + tallied f (itemTokens d at j behind) (openOf x)) (sym (over-nothing d at i s q)) ∙ sum-turn
 
 -- ---- a tag
 
@@ -102,29 +124,66 @@ module _ (v : Judge) (d : List ℕ) (at n h e : ℕ) (t : Bool) (x : Engine) (l 
   tag-makes true ts = ap (λ (y : Engine). run v ts (onFinish [] y)) join
   tag-makes false ts = ap (run v ts) join
 
-pub rest-tag : {v : Judge} {d : List ℕ} {at : ℕ} {first : Bool} {x : Engine} → Rest v d at first x
+  opens : openOf (made false) ≡ name ∷ openOf x
+  opens = open-start (on v (tagOf d at n h e) (openOf x)) name (part d at h) (part d at e) x
+
+  open-tag : (m : Bool) → openOf (made m) ≡ cond m (openOf x) (name ∷ openOf x)
+  open-tag true = open-finish [] (made false) ∙ ap outer opens
+  open-tag false = opens
+
+  tag-sums : (f : List Name → ℕ) (s : ℕ) (m : Bool) → Sums f d at (Start n h e m t) x s (made m) (s + f (name ∷ openOf x))
+  tag-sums f s m ts =
+      let a = summed m ts in
+      let b = ap (tallied f ts) (open-tag m) in
+      omega arith
+    where
+      summed : (m : Bool) (ts : List Token)
+          → tallied f (itemTokens d at (Start n h e m t) ts) (openOf x)
+          ≡ f (name ∷ openOf x) + tallied f ts (cond m (openOf x) (name ∷ openOf x))
+      summed true ts = refl
+      summed false ts = refl
+
+pub rest-tag : {v : Judge} {f : List Name → ℕ} {d : List ℕ} {at : ℕ} {first : Bool} {x : Engine} {s : ℕ} → Rest v f d at first x s
     → {n h e : ℕ} {m t : Bool} → Start n h e m t ≡ itemAt first d at → at ≤ h → h < e → e ≤ length d
-    → Rest v d e false (onTag (on v (tagOf d at n h e) (openOf x)) (nameFrom d (at + 1) n) (part d at h) (part d at e) m x)
-rest-tag {v} {d} {at} {x = x} r {n} {h} {e} {m} {t} q l k g =
-    rest-on r q (tag-makes v d at n h e t x l (omega arith) m) (omega arith) g
+    → Rest v f d e false (onTag (on v (tagOf d at n h e) (openOf x)) (nameFrom d (at + 1) n) (part d at h) (part d at e) m x)
+    (s + f (nameFrom d (at + 1) n ∷ openOf x))
+rest-tag {v} {f} {d} {at} {x = x} {s} r {n} {h} {e} {m} {t} q l k g =
+    rest-on r q (tag-makes v d at n h e t x l (omega arith) m) (tag-sums v d at n h e t x l (omega arith) f s m) (omega arith) g
 
 -- ---- any other item
 
-pub rest-other : {v : Judge} {d : List ℕ} {at : ℕ} {first : Bool} {x : Engine} → Rest v d at first x
+pub rest-other : {v : Judge} {f : List Name → ℕ} {d : List ℕ} {at : ℕ} {first : Bool} {x : Engine} {t : ℕ} → Rest v f d at first x t
     → {i : Item} → i ≡ itemAt first d at → (s : Opened) → placement d at i s ≡ Fine → OneOf untagged (kindOf item.the-type i)
-    → at < endOf at i → endOf at i ≤ length d → Rest v d (endOf at i) false (onOther d at i x)
-rest-other {v} {d} {at} {x = x} r {i} q s f k l g = rest-on r q (makes i f k) l g
+    → at < endOf at i → endOf at i ≤ length d → Rest v f d (endOf at i) false (onOther d at i x) t
+rest-other {v} {f} {d} {at} {x = x} {t} r {i} q s z k l g = rest-on r q (makes i z k) (sums i z k) l g
   where
     makes : (i : Item) → placement d at i s ≡ Fine → OneOf untagged (kindOf item.the-type i) → Makes v d at i x (onOther d at i x)
-    makes (Declaration e) f k ts = refl
-    makes (Instruction e) f k ts = refl
-    makes (Comment e) f k ts = refl
-    makes (Section e) f k ts = refl
-    makes (Reference n e) f k ts = refl
-    makes (Text e) f k ts = refl
-    makes (Start n h e m t) f k ts = absurd (not-among untagged 6 refl k)
-    makes (Finish n e) f k ts = refl
-    makes Doctype f k ts = cc
-    makes Malformed f k ts = cc
-    makes TooLarge f k ts = cc
-    makes Nothing f k ts = over-fine s f
+    makes (Declaration e) z k ts = refl
+    makes (Instruction e) z k ts = refl
+    makes (Comment e) z k ts = refl
+    makes (Section e) z k ts = refl
+    makes (Reference n e) z k ts = refl
+    makes (Text e) z k ts = refl
+    makes (Start n h e m t) z k ts = absurd (not-among untagged 6 refl k)
+    makes (Finish n e) z k ts = refl
+    makes Doctype z k ts = cc
+    makes Malformed z k ts = cc
+    makes TooLarge z k ts = cc
+    makes Nothing z k ts = over-fine s z
+
+    stay : (y : Engine) {up : List Name} (ts : List Token) → openOf y ≡ up → t + tallied f ts up ≡ t + tallied f ts (openOf y)
+    stay y ts e = ap (λ (ns : List Name). t + tallied f ts ns) (sym e)
+
+    sums : (i : Item) → placement d at i s ≡ Fine → OneOf untagged (kindOf item.the-type i) → Sums f d at i x t (onOther d at i x) t
+    sums (Declaration e) z k ts = stay (onAside (part d at e) x) ts (open-aside (part d at e) x)
+    sums (Instruction e) z k ts = stay (onAside (part d at e) x) ts (open-aside (part d at e) x)
+    sums (Comment e) z k ts = stay (onAside (part d at e) x) ts (open-aside (part d at e) x)
+    sums (Section e) z k ts = stay (onAside (part d at e) x) ts (open-aside (part d at e) x)
+    sums (Reference n e) z k ts = stay (onAside (part d at e) x) ts (open-aside (part d at e) x)
+    sums (Text e) z k ts = stay (onAside (part d at e) x) ts (open-aside (part d at e) x)
+    sums (Start n h e m t) z k ts = absurd (not-among untagged 6 refl k)
+    sums (Finish n e) z k ts = stay (onFinish (part d at e) x) ts (open-finish (part d at e) x)
+    sums Doctype z k ts = cc
+    sums Malformed z k ts = cc
+    sums TooLarge z k ts = cc
+    sums Nothing z k ts = over-fine s z

@@ -39,9 +39,9 @@ use tags::Item;
 use tests::any;
 use tests::picked;
 
-// What a pass comes to: the length of the cut and the number of elements selected, or the item at fault.
+// What a pass comes to: the length of the cut, the number of elements selected and that of the name tests tried; or the item at fault.
 pub enum Outcome {
-    Fine(usize, usize),
+    Fine(usize, usize, usize),
     Fault(Why, usize),
 }
 
@@ -91,6 +91,7 @@ pub fn pass(table: &Classes, list: &[u8], t: &Compiled, doc: &[u8], out: &mut [u
     let mut run = Run::none();
     let mut at = start_of(doc);
     let mut first = true;
+    let mut tests: usize = 0;
     loop {
         let next = item(table, doc, at, first);
         match place(doc, &starts, &lens, opened, at, next) {
@@ -98,7 +99,7 @@ pub fn pass(table: &Classes, list: &[u8], t: &Compiled, doc: &[u8], out: &mut [u
                 return Outcome::Fault(why, at);
             }
             Placement::Over => {
-                return Outcome::Fine(run.len, run.count);
+                return Outcome::Fine(run.len, run.count, tests);
             }
             Placement::Fine => {
                 keep(&mut starts, &mut lens, opened, at, next);
@@ -116,6 +117,8 @@ pub fn pass(table: &Classes, list: &[u8], t: &Compiled, doc: &[u8], out: &mut [u
                     if level + 1 < Open::LEVELS {
                         states[level + 1] = parent.deeper(fit);
                     }
+                    let tried = parent.tests_on(fit);
+                    tests = tests + (tried as usize);
                     let verdict = judged(table, list, t, tested, doc, parent, fit, at, name, head);
                     run = tag_step(
                         run,
