@@ -25,7 +25,7 @@ use Rattle.document.specs.declared.judge.Judged.{Judged}
 use Rattle.document.specs.declared.judge.Judged.the-variants as judged
 use Rattle.document.proofs.Judging.{judged-long, judged-other, judged-items, judged-char}
 use Rattle.writer.proofs.Laying.{laid-whole}
-use Rattle.trees.specs.Written.{cutOf, countOf}
+use Rattle.trees.specs.Written.{cutOf, countOf, testsOf}
 use Rattle.cutter.specs.Answer.{byList, faultOf, byDocument, byRoom, answerBy, answerOf, after, bytesBy, bytesAfter}
 use Rattle.passes.specs.Passed.{judgedBy, Told, Passed}
 use Rattle.cutter.specs.declared.Answer.{Answer}
@@ -88,8 +88,8 @@ fault-keeps why.TooLarge n w o = refl
 module _ (list d o : List ℕ) where
   -- what is left to the document
   by-document : {j : Judged} → j ≡ judgeOf d
-      → byDocument j (byRoom (length o) (cutOf list d) (countOf list d)) ≡ answerBy list d (length o)
-  by-document e = ap (λ (x : Judged). byDocument x (byRoom (length o) (cutOf list d) (countOf list d))) e
+      → byDocument j (byRoom (length o) (cutOf list d) (countOf list d) (testsOf list d)) ≡ answerBy list d (length o)
+  by-document e = ap (λ (x : Judged). byDocument x (byRoom (length o) (cutOf list d) (countOf list d) (testsOf list d))) e
 
   pub by-long : 16777216 < length d → AnswersBy list d o TooLong o
   by-long l = stays (cutOf list d) o (λ w o. refl) (by-document (judged-long d l))
@@ -113,14 +113,16 @@ module _ (list d o : List ℕ) (small : length d ≤ 16777216) (utf8 : otherEnco
   written-fault {w} {at} q e =
       rw e (stays (cutOf list d) o (fault-keeps w at) (by-document list d o (sym (ap judgedBy q) ∙ judged-is)))
 
-  module _ {len count : ℕ} (q : m ≡ Fine len count) where
-    told : (len ≡ length (cutOf list d)) × (count ≡ countOf list d) × (s′ ≡ sets s 0 (cutOf list d))
+  module _ {len count tests : ℕ} (q : m ≡ Fine len count tests) where
+    told : (len ≡ length (cutOf list d)) × (count ≡ countOf list d) × (tests ≡ testsOf list d) × (s′ ≡ sets s 0 (cutOf list d))
     told = rw q at (p .told)
 
     room-is : {b : Bool} → ltb (length o) (length (cutOf list d)) ≡ b
-        → cond b (Short (length (cutOf list d))) (Written (length (cutOf list d)) (countOf list d)) ≡ answerBy list d (length o)
+        → cond b (Short (length (cutOf list d))) (Written (length (cutOf list d)) (countOf list d) (testsOf list d)) ≡ answerBy
+        list d (length o)
     room-is e =
-        ap (λ (x : Bool). cond x (Short (length (cutOf list d))) (Written (length (cutOf list d)) (countOf list d))) (sym e)
+        ap (λ (x : Bool). cond x (Short (length (cutOf list d))) (Written (length (cutOf list d)) (countOf list d) (testsOf list
+        d))) (sym e)
         ∙ by-document list d o (sym (ap judgedBy q) ∙ judged-is)
 
     pub written-short : length o < len → AnswersBy list d o (Short len) o
@@ -128,11 +130,12 @@ module _ (list d o : List ℕ) (small : length d ≤ 16777216) (utf8 : otherEnco
         let z = told .0 in
         rw z (stays (cutOf list d) o (λ w o. refl) (room-is (lt-ltb (length o) (length (cutOf list d)) (omega (arith, z)))))
 
-    pub written-whole : len ≤ length o → {m₂ : Outcome} {o′ : List ℕ} → Passed list d o m₂ o′ → AnswersBy list d o (Written len count) o′
+    pub written-whole : len ≤ length o → {m₂ : Outcome} {o′ : List ℕ} → Passed list d o m₂ o′ → AnswersBy list d o (Written len
+        count tests) o′
     written-whole l {m₂} {o′} p₂ =
         let z = told .0 in
         let e = room-is (le-ltb (length o) (length (cutOf list d)) (omega (arith, z))) in
-        rw (z, told .1)
+        rw (z, told .1, told .2)
         (record {
           is = e;
           bytes =
@@ -141,8 +144,9 @@ module _ (list d o : List ℕ) (small : length d ≤ 16777216) (utf8 : otherEnco
               ∙ ap (λ (x : Answer). after x (cutOf list d) o) e;
         })
       where
-        laid : (x : Outcome) → judgedBy x ≡ scanned d → Told (cutOf list d) (countOf list d) o x o′ → o′ ≡ sets o 0 (cutOf list d)
-        laid (Fine n c) j t = t .2
+        laid : (x : Outcome) → judgedBy x ≡ scanned d → Told (cutOf list d) (countOf list d) (testsOf list d) o x o′ → o′ ≡ sets o
+            0 (cutOf list d)
+        laid (Fine n c k) j t = t .3
         laid (Fault w at) j t =
             let y : judged.AtFault w at ≡ judged.Sound = j ∙ sym (p .judged) ∙ ap judgedBy q in
             cc

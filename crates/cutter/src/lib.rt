@@ -32,12 +32,16 @@ use passes::pass;
 use paths::ListAnswer;
 use points::table::classes;
 
-// What is answered: the cut is written, with its length and the number of elements selected; the list is too long; a line of it is
-// malformed, or too large; the document is too long; its declaration, at a place, names another encoding than UTF-8; a sequence that is no
-// character begins at a place; a document type, an item that is not well-formed, an item over a size begins at a place; the buffer is too
-// short for the cut, which has this length.
+// What is answered: the cut is written, with its length, the number of elements selected and that of the name tests tried; the list is too
+// long; a line of it is malformed, or too large; the document is too long; its declaration, at a place, names another encoding than UTF-8;
+// a sequence that is no character begins at a place; a document type, an item that is not well-formed, an item over a size begins at a
+// place; the buffer is too short for the cut, which has this length.
 pub enum Answer {
-    Written { length: usize, selected: usize },
+    Written {
+        length: usize,
+        selected: usize,
+        tests: usize,
+    },
     ListTooLong,
     ListMalformed(usize),
     ListTooLarge(usize),
@@ -72,12 +76,16 @@ fn written(list: &[u8], t: &Compiled, doc: &[u8], out: &mut [u8]) -> Answer
     let mut scratch = [0u8; 1];
     match pass(&table, list, t, doc, &mut scratch) {
         Outcome::Fault(why, place) => fault_of(why, place),
-        Outcome::Fine(length, selected) => {
+        Outcome::Fine(length, selected, tests) => {
             if out.len() < length {
                 return Answer::Short(length);
             }
             pass(&table, list, t, doc, out);
-            Answer::Written { length, selected }
+            Answer::Written {
+                length,
+                selected,
+                tests,
+            }
         }
     }
 }

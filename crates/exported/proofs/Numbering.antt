@@ -15,6 +15,7 @@ use Rattle.document.specs.declared.judge.Judged.the-variants.{AtFault}
 use Rattle.cutter.specs.declared.Answer.{Answer}
 use Rattle.exported.specs.Numbers.{soundOf, charactersEnd, refusalOf, judgedOf, numbersOf}
 use Rattle.exported.specs.declared.Numbers.{Numbers}
+use Rattle.exported.specs.declared.FourNumbers.{FourNumbers}
 
 module _ (d : List ℕ) {r : Checked} (q : r ≡ checkOf d) where
   pub check-all : r ≡ All → length d ≡ charactersEnd d
@@ -26,7 +27,7 @@ module _ (d : List ℕ) {r : Checked} (q : r ≡ checkOf d) where
   check-bad h = ap (soundOf (length d)) (sym h ∙ q)
 
 -- the numbers of a case are those of the answer that is this case
-pub numbers-case : {a b : Answer} {r : Numbers} → a ≡ b → r ≡ numbersOf b → r ≡ numbersOf a
+pub numbers-case : {a b : Answer} {r : FourNumbers} → a ≡ b → r ≡ numbersOf b → r ≡ numbersOf a
 numbers-case h q = q ∙ sym (ap numbersOf h)
 
 -- ---- a document alone

@@ -1,10 +1,11 @@
 // What callers in Rust and C can call: numbers pass as themselves, a slice as a pointer and then a length. An answer that is an enum in the
-// library is a number here, or three: document 01's "Numbers handed back", and 10 for another encoding.
+// library is a number here, or three: document 01's "Numbers handed back", and 10 for another encoding. A cut has a fourth, document 02's
+// number of name tests.
 ghost use mathlib.Core.Path.{_≡_};
 ghost use lib.ListN.{length};
 ghost use Rattle.document.specs.Judge.{whyNumber, judgeOf};
 ghost use Rattle.cutter.specs.Answer.{answerOf, bytesAfter};
-ghost use Rattle.exported.specs.Numbers.{charactersEnd, refusalOf, judgedOf, numbersOf};
+ghost use Rattle.exported.specs.Numbers.{charactersEnd, refusalOf, refusedOf, judgedOf, numbersOf};
 use chars::whole::Checked;
 use cutter::Answer;
 use document::Why;
@@ -30,26 +31,52 @@ fn refusal(number: u64, second: usize) -> Numbers
     }
 }
 
+// The number, the second, the third, and a fourth: the name tests tried.
+#[repr(C)]
+pub struct FourNumbers {
+    pub number: u64,
+    pub second: u64,
+    pub third: u64,
+    pub fourth: u64,
+}
+
+// A number with a second one, no third and no fourth.
+fn refused(number: u64, second: usize) -> FourNumbers
+    ensures { λ r. ⌜ r ≡ refusedOf number second ⌝ }
+{
+    FourNumbers {
+        number,
+        second: second as u64,
+        third: 0,
+        fourth: 0,
+    }
+}
+
 // The numbers of an answer.
-pub fn numbers_of(a: Answer) -> Numbers
+pub fn numbers_of(a: Answer) -> FourNumbers
     ensures { λ r. ⌜ r ≡ numbersOf a ⌝ }
 {
     match a {
-        Answer::Written { length, selected } => Numbers {
+        Answer::Written {
+            length,
+            selected,
+            tests,
+        } => FourNumbers {
             number: 0,
             second: length as u64,
             third: selected as u64,
+            fourth: tests as u64,
         },
-        Answer::ListTooLong => refusal(1, 0),
-        Answer::ListMalformed(line) => refusal(2, line),
-        Answer::ListTooLarge(line) => refusal(3, line),
-        Answer::TooLong => refusal(4, 0),
-        Answer::OtherEncoding(o) => refusal(10, o),
-        Answer::NotChar(o) => refusal(5, o),
-        Answer::Doctype(o) => refusal(6, o),
-        Answer::Malformed(o) => refusal(7, o),
-        Answer::TooLarge(o) => refusal(8, o),
-        Answer::Short(needed) => refusal(9, needed),
+        Answer::ListTooLong => refused(1, 0),
+        Answer::ListMalformed(line) => refused(2, line),
+        Answer::ListTooLarge(line) => refused(3, line),
+        Answer::TooLong => refused(4, 0),
+        Answer::OtherEncoding(o) => refused(10, o),
+        Answer::NotChar(o) => refused(5, o),
+        Answer::Doctype(o) => refused(6, o),
+        Answer::Malformed(o) => refused(7, o),
+        Answer::TooLarge(o) => refused(8, o),
+        Answer::Short(needed) => refused(9, needed),
     }
 }
 
@@ -91,7 +118,7 @@ pub extern "C" fn choughbell_judge(doc: &[u8]) -> Numbers
 
 // Writes the cut of a document by a list into a buffer, and gives the numbers of the answer.
 #[no_mangle]
-pub extern "C" fn choughbell_cut(list: &[u8], doc: &[u8], out: &mut [u8]) -> Numbers
+pub extern "C" fn choughbell_cut(list: &[u8], doc: &[u8], out: &mut [u8]) -> FourNumbers
     ensures { λ r. ⌜ r ≡ numbersOf (answerOf (now (list .entry)) (now (doc .entry)) (length (now (out .entry)))) ⌝ }
     ensures { λ r. ⌜ now (out .exit) ≡ bytesAfter (now (list .entry)) (now (doc .entry)) (now (out .entry)) ⌝ }
 {

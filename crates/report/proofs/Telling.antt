@@ -18,12 +18,12 @@ use Rattle.document.specs.Judge.{judgeOf}
 use Rattle.document.specs.declared.Why.the-variants as why
 use Rattle.document.specs.declared.judge.Judged.{Judged}
 use Rattle.document.specs.declared.judge.Judged.the-variants as document
-use Rattle.trees.specs.Written.{cutOf, countOf}
+use Rattle.trees.specs.Written.{cutOf, countOf, testsOf}
 use Rattle.cutter.specs.Answer.{byList, byDocument, byRoom, answerOf, after, bytesAfter, numberOf, secondOf, thirdOf}
 use Rattle.cutter.specs.declared.Answer.{Answer}
 use Rattle.cutter.specs.declared.Answer.the-variants.{Written, Short}
 use Rattle.exported.specs.Numbers.{numbersOf}
-use Rattle.exported.specs.declared.Numbers.{Numbers}
+use Rattle.exported.specs.declared.FourNumbers.{FourNumbers}
 use Rattle.writer.specs.Wrote.{Wrote}
 use Rattle.writer.proofs.Laying.{wrote-more, laid-whole}
 use Rattle.report.specs.Decimal.{decimal}
@@ -66,10 +66,10 @@ pub ruleset keeping = (wrote-kept, kept-short, needs)
 abbrev Stands : List ℕ → List ℕ → Answer → Type 0
 Stands w o a = numberOf a ≡ 0 → (secondOf a ≡ length w) × (length w ≤ length o) × (after a w o ≡ w ++ drop (length w) o)
 
-room-stands : (w o : List ℕ) (c : ℕ) → Stands w o (byRoom (length o) w c)
-room-stands w o c = go (ltb (length o) (length w)) refl
+room-stands : (w o : List ℕ) (c t : ℕ) → Stands w o (byRoom (length o) w c t)
+room-stands w o c t = go (ltb (length o) (length w)) refl
   where
-    go : (x : Bool) → ltb (length o) (length w) ≡ x → Stands w o (cond x (Short (length w)) (Written (length w) c))
+    go : (x : Bool) → ltb (length o) (length w) ≡ x → Stands w o (cond x (Short (length w)) (Written (length w) c t))
     go true e h = absurd (omega arith)
     go false e h = (refl, ltb-false (length o) (length w) e, refl)
 
@@ -92,18 +92,19 @@ answer-stands : (list d o : List ℕ) → Stands (cutOf list d) o (answerOf list
 unfolding answerOf
 answer-stands list d o =
     let w = cutOf list d in
-    list-stands w o (listAnswer list) (byDocument (judgeOf d) (byRoom (length o) w (countOf list d)))
-    (document-stands w o (judgeOf d) (byRoom (length o) w (countOf list d)) (room-stands w o (countOf list d)))
+    list-stands w o (listAnswer list) (byDocument (judgeOf d) (byRoom (length o) w (countOf list d) (testsOf list d)))
+    (document-stands w o (judgeOf d) (byRoom (length o) w (countOf list d) (testsOf list d)) (room-stands w o (countOf list d)
+    (testsOf list d)))
 
 -- the same of the numbers and the bytes that `choughbell_cut` gives
-module _ (list d o : List ℕ) {r : Numbers} {o′ : List ℕ} (q : r ≡ numbersOf (answerOf list d (length o))) (b : o′ ≡ bytesAfter list d o)
+module _ (list d o : List ℕ) {r : FourNumbers} {o′ : List ℕ} (q : r ≡ numbersOf (answerOf list d (length o))) (b : o′ ≡ bytesAfter list d o)
     (z : r .number ≡ 0) where
   stands : (secondOf (answerOf list d (length o)) ≡ length (cutOf list d)) × (length (cutOf list d) ≤ length o)
       × (after (answerOf list d (length o)) (cutOf list d) o ≡ cutOf list d ++ drop (length (cutOf list d)) o)
-  stands = answer-stands list d o (sym (ap (λ (x : Numbers). x .number) q) ∙ z)
+  stands = answer-stands list d o (sym (ap (λ (x : FourNumbers). x .number) q) ∙ z)
 
   pub second-is : r .second ≡ length (cutOf list d)
-  second-is = ap (λ (x : Numbers). x .second) q ∙ stands .0
+  second-is = ap (λ (x : FourNumbers). x .second) q ∙ stands .0
 
   pub second-fits : r .second ≤ length o
   second-fits = omega (arith, second-is, stands .1)
@@ -125,7 +126,7 @@ module _ (list input : List ℕ) where
   tell-long l w = rw (lt-ltb 32768 (length input) l) w
 
   -- s is the room before, s′ after
-  module _ (short : length input ≤ 32768) (s : List ℕ) {s′ : List ℕ} (room : length s ≡ 65536) {n : Numbers}
+  module _ (short : length input ≤ 32768) (s : List ℕ) {s′ : List ℕ} (room : length s ≡ 65536) {n : FourNumbers}
       (q : n ≡ numbersOf (answerOf list input (length s))) (b : s′ ≡ bytesAfter list input s) where
     answer-is : n ≡ numbersOf (answerOf list input 65536)
     answer-is = rw room at q
@@ -134,15 +135,15 @@ module _ (list input : List ℕ) where
         → Wrote o 0 (printed list input) r o′
     tell-kept z {w} e h =
         let x : w ≡ cutOf list input = e ∙ front-is list input s q b z in
-        let y : numberOf (answerOf list input 65536) ≡ 0 = sym (ap (λ (m : Numbers). m .number) answer-is) ∙ z in
-        let k : n .third ≡ thirdOf (answerOf list input 65536) = ap (λ (m : Numbers). m .third) answer-is in
+        let y : numberOf (answerOf list input 65536) ≡ 0 = sym (ap (λ (m : FourNumbers). m .number) answer-is) ∙ z in
+        let k : n .third ≡ thirdOf (answerOf list input 65536) = ap (λ (m : FourNumbers). m .third) answer-is in
         rw (← told-is list input short, eq-eqb _ _ y, ← k, ← x) h
 
     pub tell-refused : (n .number ≡ 0 → ⊥) → {o o′ : List ℕ} {r : ℕ} → Wrote o 0 (refusedOf (n .number) (n .second)) r o′
         → Wrote o 0 (printed list input) r o′
     tell-refused z h =
-        let y : n .number ≡ numberOf (answerOf list input 65536) = ap (λ (m : Numbers). m .number) answer-is in
-        let k : n .second ≡ secondOf (answerOf list input 65536) = ap (λ (m : Numbers). m .second) answer-is in
+        let y : n .number ≡ numberOf (answerOf list input 65536) = ap (λ (m : FourNumbers). m .number) answer-is in
+        let k : n .second ≡ secondOf (answerOf list input 65536) = ap (λ (m : FourNumbers). m .second) answer-is in
         rw (← told-is list input short, ne-eqb (numberOf (answerOf list input 65536)) 0 (λ e. z (y ∙ e)), ← y, ← k) h
 
 -- ---- a text laid at the front of a buffer that is long enough

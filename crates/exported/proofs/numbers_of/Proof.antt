@@ -10,62 +10,62 @@ enum-known-a c = search numbering
 enum-told : tie.Need-enum-told
 enum-told c = search numbering
 
-refusal-requires : tie.Need-refusal-requires
-refusal-requires c κs = search numbering
+refused-requires : tie.Need-refused-requires
+refused-requires c κs = search numbering
 
 enum-known-a-2 : tie.Need-enum-known-a-2
 enum-known-a-2 c = search numbering
 
-refusal-requires-2 : tie.Need-refusal-requires-2
-refusal-requires-2 c κs = search numbering
+refused-requires-2 : tie.Need-refused-requires-2
+refused-requires-2 c κs = search numbering
 
 enum-known-a-3 : tie.Need-enum-known-a-3
 enum-known-a-3 c = search numbering
 
-refusal-requires-3 : tie.Need-refusal-requires-3
-refusal-requires-3 c κs = search numbering
+refused-requires-3 : tie.Need-refused-requires-3
+refused-requires-3 c κs = search numbering
 
 enum-told-2 : tie.Need-enum-told-2
 enum-told-2 c = search numbering
 
-refusal-requires-4 : tie.Need-refusal-requires-4
-refusal-requires-4 c κs = search numbering
+refused-requires-4 : tie.Need-refused-requires-4
+refused-requires-4 c κs = search numbering
 
 enum-known-a-4 : tie.Need-enum-known-a-4
 enum-known-a-4 c = search numbering
 
-refusal-requires-5 : tie.Need-refusal-requires-5
-refusal-requires-5 c κs = search numbering
+refused-requires-5 : tie.Need-refused-requires-5
+refused-requires-5 c κs = search numbering
 
 enum-known-a-5 : tie.Need-enum-known-a-5
 enum-known-a-5 c = search numbering
 
-refusal-requires-6 : tie.Need-refusal-requires-6
-refusal-requires-6 c κs = search numbering
+refused-requires-6 : tie.Need-refused-requires-6
+refused-requires-6 c κs = search numbering
 
 enum-known-a-6 : tie.Need-enum-known-a-6
 enum-known-a-6 c = search numbering
 
-refusal-requires-7 : tie.Need-refusal-requires-7
-refusal-requires-7 c κs = search numbering
+refused-requires-7 : tie.Need-refused-requires-7
+refused-requires-7 c κs = search numbering
 
 enum-known-a-7 : tie.Need-enum-known-a-7
 enum-known-a-7 c = search numbering
 
-refusal-requires-8 : tie.Need-refusal-requires-8
-refusal-requires-8 c κs = search numbering
+refused-requires-8 : tie.Need-refused-requires-8
+refused-requires-8 c κs = search numbering
 
 enum-known-a-8 : tie.Need-enum-known-a-8
 enum-known-a-8 c = search numbering
 
-refusal-requires-9 : tie.Need-refusal-requires-9
-refusal-requires-9 c κs = search numbering
+refused-requires-9 : tie.Need-refused-requires-9
+refused-requires-9 c κs = search numbering
 
 enum-known-a-9 : tie.Need-enum-known-a-9
 enum-known-a-9 c = search numbering
 
-refusal-requires-10 : tie.Need-refusal-requires-10
-refusal-requires-10 c κs = search numbering
+refused-requires-10 : tie.Need-refused-requires-10
+refused-requires-10 c κs = search numbering
 
 returns : tie.Need-returns
 returns c = search numbering
@@ -106,25 +106,25 @@ numbers-of-spec =
     (tie.spec
     enum-known-a
     enum-told
-    refusal-requires
+    refused-requires
     enum-known-a-2
-    refusal-requires-2
+    refused-requires-2
     enum-known-a-3
-    refusal-requires-3
+    refused-requires-3
     enum-told-2
-    refusal-requires-4
+    refused-requires-4
     enum-known-a-4
-    refusal-requires-5
+    refused-requires-5
     enum-known-a-5
-    refusal-requires-6
+    refused-requires-6
     enum-known-a-6
-    refusal-requires-7
+    refused-requires-7
     enum-known-a-7
-    refusal-requires-8
+    refused-requires-8
     enum-known-a-8
-    refusal-requires-9
+    refused-requires-9
     enum-known-a-9
-    refusal-requires-10
+    refused-requires-10
     returns
     returns-2
     returns-3
