@@ -6,7 +6,7 @@ use mathlib.Core.List.{List, _++_}
 use Prim.Native.Nat.{ℕ, _≤_}
 use native.Mathlib.Omega.{arith}
 use lib.ListN.{length, drop}
-use Rattle.cutter.specs.Answer.{answerOf, after, bytesAfter, numberOf, secondOf, thirdOf}
+use Rattle.cutter.specs.Answer.{answerOf, after, bytesAfter, numberOf, secondOf, thirdOf, fourthOf}
 use Rattle.cutter.specs.declared.Answer.{Answer}
 use Rattle.cutter.specs.declared.Answer.the-variants.{Written, ListTooLong, ListMalformed, ListTooLarge, TooLong}
 use Rattle.cutter.specs.declared.Answer.the-variants.{OtherEncoding, NotChar, Doctype, Malformed, TooLarge, Short}
@@ -17,7 +17,7 @@ pub numbered : (list d : List ℕ) (room : ℕ) → numberOf (answerOf list d ro
 numbered list d room = eleven (answerOf list d room)
   where
     eleven : (a : Answer) → numberOf a ≤ 10
-    eleven (Written n c) = omega arith
+    eleven (Written n c t) = omega arith
     eleven ListTooLong = omega arith
     eleven (ListMalformed n) = omega arith
     eleven (ListTooLarge n) = omega arith
@@ -31,7 +31,7 @@ numbered list d room = eleven (answerOf list d room)
 
 -- "a refused call changes no byte of the output"
 refused-keeps : (a : Answer) (w o : List ℕ) → (numberOf a ≡ 0 → ⊥) → after a w o ≡ o
-refused-keeps (Written n c) w o h = absurd (h refl)
+refused-keeps (Written n c t) w o h = absurd (h refl)
 refused-keeps ListTooLong w o h = refl
 refused-keeps (ListMalformed n) w o h = refl
 refused-keeps (ListTooLarge n) w o h = refl
@@ -49,7 +49,7 @@ refused list d o h = refused-keeps (answerOf list d (length o)) (cutOf list d) o
 
 -- "On 0 the bytes after the cut stay as they were"
 written-front : (a : Answer) (w o : List ℕ) → numberOf a ≡ 0 → after a w o ≡ w ++ drop (secondOf a) o
-written-front (Written n c) w o h = refl
+written-front (Written n c t) w o h = refl
 written-front ListTooLong w o h = absurd (omega arith)
 written-front (ListMalformed n) w o h = absurd (omega arith)
 written-front (ListTooLarge n) w o h = absurd (omega arith)
@@ -68,7 +68,7 @@ written list d o h = written-front (answerOf list d (length o)) (cutOf list d) o
 
 -- "The third number is 0 except under 0"
 pub third : (a : Answer) → (numberOf a ≡ 0 → ⊥) → thirdOf a ≡ 0
-third (Written n c) h = absurd (h refl)
+third (Written n c t) h = absurd (h refl)
 third ListTooLong h = refl
 third (ListMalformed n) h = refl
 third (ListTooLarge n) h = refl
@@ -79,3 +79,17 @@ third (Doctype n) h = refl
 third (Malformed n) h = refl
 third (TooLarge n) h = refl
 third (Short n) h = refl
+
+-- and the fourth "is 0 under every number but 0"
+pub fourth : (a : Answer) → (numberOf a ≡ 0 → ⊥) → fourthOf a ≡ 0
+fourth (Written n c t) h = absurd (h refl)
+fourth ListTooLong h = refl
+fourth (ListMalformed n) h = refl
+fourth (ListTooLarge n) h = refl
+fourth TooLong h = refl
+fourth (OtherEncoding n) h = refl
+fourth (NotChar n) h = refl
+fourth (Doctype n) h = refl
+fourth (Malformed n) h = refl
+fourth (TooLarge n) h = refl
+fourth (Short n) h = refl

@@ -26,7 +26,7 @@ use Rattle.document.specs.declared.judge.Judged.{Judged}
 use Rattle.document.specs.declared.judge.Judged.the-variants as judged
 use Rattle.matcher.specs.Says.{BySome}
 use Rattle.trees.specs.Grown.{forestOf}
-use Rattle.trees.specs.Written.{cutOf, countOf}
+use Rattle.trees.specs.Written.{cutOf, countOf, testsOf}
 use Rattle.cutter.specs.Answer.{byList, byDocument, byRoom, answerOf, bytesAfter, numberOf, secondOf}
 use Rattle.cutter.specs.declared.Answer.{Answer}
 use Rattle.cutter.specs.declared.Answer.the-variants.{Written, ListTooLong, ListMalformed, ListTooLarge, TooLong}
@@ -35,11 +35,14 @@ use Rattle.demands.specs.Elements.{Element, elements, howMany}
 use Rattle.demands.specs.Judged.{Accepted, DocumentSays}
 use Rattle.demands.specs.Judged as document-says
 use Rattle.demands.specs.Rule.{Writes}
-use Rattle.demands.specs.Answers.{Counted, none, this, other, Cuts, AnswerSays, list-long, list-malformed, list-large, too-long}
+use Rattle.matcher.specs.Tried.{Counted, none, this, other}
+use Rattle.matcher.proofs.Tests.{counted-one}
+use Rattle.demands.specs.Answers.{Cuts, AnswerSays, list-long, list-malformed, list-large, too-long}
 use Rattle.demands.specs.Answers.{other-encoding, not-char, doctype, malformed, too-large, short, written, BufferSays, on-written}
 use Rattle.demands.specs.Answers.{on-refused, Placed}
 use Rattle.demands.proofs.Answered.{refused, written as cut-stands}
 use Rattle.demands.proofs.Selected.{chosen, selected-iff, count-selected}
+use Rattle.demands.proofs.Tried.{tests-counted}
 use Rattle.demands.proofs.Accepted.{derived-forest}
 use Rattle.demands.proofs.Under.{rule-written, written-only}
 use Rattle.demands.proofs.Faults.{judge-says, judge-only, inside, runs-out-seven}
@@ -67,10 +70,11 @@ module _ {A : Type 0} (P : A → Type 0) (f : A → Bool) (t : (x : A) → P x �
 -- ---- what is cut
 
 -- a list and a document that are accepted have a cut
-pub cut-cuts : (list d : List ℕ) → listAnswer list ≡ lists.Sound → judgeOf d ≡ judged.Sound → Cuts list d (cutOf list d) (countOf list d)
+pub cut-cuts : (list d : List ℕ) → listAnswer list ≡ lists.Sound → judgeOf d ≡ judged.Sound
+    → Cuts list d (cutOf list d) (countOf list d) (testsOf list d)
 cut-cuts list d p q = go (rw q at (judge-says d))
   where
-    go : DocumentSays d judged.Sound → Cuts list d (cutOf list d) (countOf list d)
+    go : DocumentSays d judged.Sound → Cuts list d (cutOf list d) (countOf list d) (testsOf list d)
     go (document-says.sound {f} a) =
         let (x, y, z) = paths-print list p in
         let e = derived-forest d (a .chars) (a .derived) in
@@ -85,17 +89,19 @@ cut-cuts list d p q = go (rw q at (judge-says d))
               rw (count-selected list d)
               (many-counted (λ (x : Element). BySome (listPaths list) (x .names) (x .attributes)) (chosen (listPaths list))
               (λ x. selected-iff (listPaths list) (x .names) (x .attributes)) (elements [] (forestOf d)));
+          tested = tests-counted list d p;
         }
 
 -- and one only
-pub record CutIs (list d w : List ℕ) (c : ℕ) : Type 0 where
+pub record CutIs (list d w : List ℕ) (c t : ℕ) : Type 0 where
   pub list-sound : listAnswer list ≡ lists.Sound
   pub document-sound : judgeOf d ≡ judged.Sound
   pub bytes-are : w ≡ cutOf list d
   pub count-is : c ≡ countOf list d
+  pub tests-are : t ≡ testsOf list d
 
-pub cuts-only : {list d w : List ℕ} {c : ℕ} → Cuts list d w c → CutIs list d w c
-cuts-only {list} {d} {w} {c} x =
+pub cuts-only : {list d w : List ℕ} {c t : ℕ} → Cuts list d w c t → CutIs list d w c t
+cuts-only {list} {d} {w} {c} {t} x =
     let p = says-only list lists.Sound (x .listed) in
     let (a, b, l) = paths-print list p in
     let e : x .paths ≡ listPaths list
@@ -110,6 +116,7 @@ cuts-only {list} {d} {w} {c} x =
           counted-many (λ (x : Element). BySome (listPaths list) (x .names) (x .attributes)) (chosen (listPaths list))
           (λ x. selected-iff (listPaths list) (x .names) (x .attributes)) (rw (e, g) at (x .selected))
           ∙ sym (count-selected list d);
+      tests-are = counted-one (rw (e, g) at (x .tested)) (tests-counted list d p);
     }
 
 -- ---- the answer
@@ -120,12 +127,13 @@ unfolding answerOf
 says-answer list d room = by-list (listAnswer list) refl (says list)
   where
     by-room : listAnswer list ≡ lists.Sound → judgeOf d ≡ judged.Sound → (b : Bool) → ltb room (length (cutOf list d)) ≡ b
-        → AnswerSays list d room (cond b (Short (length (cutOf list d))) (Written (length (cutOf list d)) (countOf list d)))
+        → AnswerSays list d room
+        (cond b (Short (length (cutOf list d))) (Written (length (cutOf list d)) (countOf list d) (testsOf list d)))
     by-room p q true e = short (cut-cuts list d p q) (ltb-true room (length (cutOf list d)) e)
     by-room p q false e = written (cut-cuts list d p q) (ltb-false room (length (cutOf list d)) e)
 
     by-document : listAnswer list ≡ lists.Sound → Says list lists.Sound → (j : Judged) → judgeOf d ≡ j → DocumentSays d j
-        → AnswerSays list d room (byDocument j (byRoom room (cutOf list d) (countOf list d)))
+        → AnswerSays list d room (byDocument j (byRoom room (cutOf list d) (countOf list d) (testsOf list d)))
     by-document p l judged.Sound q h = by-room p q (ltb room (length (cutOf list d))) refl
     by-document p l judged.TooLong q h = too-long l h
     by-document p l (judged.OtherEncoding o) q h = other-encoding l h
@@ -135,7 +143,7 @@ says-answer list d room = by-list (listAnswer list) refl (says list)
     by-document p l (judged.AtFault why.TooLarge o) q h = too-large l h
 
     by-list : (a : ListAnswer) → listAnswer list ≡ a → Says list a
-        → AnswerSays list d room (byList a (byDocument (judgeOf d) (byRoom room (cutOf list d) (countOf list d))))
+        → AnswerSays list d room (byList a (byDocument (judgeOf d) (byRoom room (cutOf list d) (countOf list d) (testsOf list d))))
     by-list lists.Sound p l = by-document p l (judgeOf d) refl (judge-says d)
     by-list lists.TooLong p l = list-long l
     by-list (lists.Malformed n) p l = list-malformed l
@@ -161,10 +169,10 @@ only-answer list d room (Short n) (short {w} {c} x l) =
     let y = cuts-only x in
     let e = y .bytes-are in
     rw (y .list-sound, y .document-sound, lt-ltb room (length (cutOf list d)) (rw e at l), e) refl
-only-answer list d room (Written n k) (written {w} {c} x l) =
+only-answer list d room (Written n k m) (written x l) =
     let y = cuts-only x in
     let e = y .bytes-are in
-    rw (y .list-sound, y .document-sound, le-ltb room (length (cutOf list d)) (rw e at l), e, y .count-is) refl
+    rw (y .list-sound, y .document-sound, le-ltb room (length (cutOf list d)) (rw e at l), e, y .count-is, y .tests-are) refl
 
 pub one-answer : {list d : List ℕ} {room : ℕ} {a b : Answer} → AnswerSays list d room a → AnswerSays list d room b → a ≡ b
 one-answer {list} {d} {room} {a} {b} x y = sym (only-answer list d room a x) ∙ only-answer list d room b y
@@ -180,7 +188,7 @@ module _ (list d o : List ℕ) where
   says-buffer = go (answerOf list d (length o)) refl (says-answer list d (length o))
     where
       go : (a : Answer) → answerOf list d (length o) ≡ a → AnswerSays list d (length o) a → BufferSays list d o (bytesAfter list d o)
-      go (Written n c) e (written {w} x l) =
+      go (Written n c t) e (written {w} x l) =
           let q : bytesAfter list d o ≡ w ++ drop (length w) o
           = cut-stands list d o (ap numberOf e)
           ∙ ap₂ (λ (v : List ℕ) (k : ℕ). v ++ drop k o) (sym (cuts-only x .bytes-are)) (ap secondOf e) in
@@ -197,8 +205,8 @@ module _ (list d o : List ℕ) where
       go (Short n) e h = kept (Short n) e h (λ z. omega arith)
 
   pub only-buffer : (o′ : List ℕ) → BufferSays list d o o′ → bytesAfter list d o ≡ o′
-  only-buffer o′ (on-written {w} {c} x l) =
-      let e = only-answer list d (length o) (Written (length w) c) (written x l) in
+  only-buffer o′ (on-written {w} {c} {t} x l) =
+      let e = only-answer list d (length o) (Written (length w) c t) (written x l) in
       cut-stands list d o (ap numberOf e)
       ∙ ap₂ (λ (v : List ℕ) (k : ℕ). v ++ drop k o) (sym (cuts-only x .bytes-are)) (ap secondOf e)
   only-buffer o′ (on-refused a h n) = refused list d o (rw (only-answer list d (length o) a h) n)
@@ -246,4 +254,4 @@ placed list d room = go (answerOf list d room) (says-answer list d room)
     go (Malformed o) (malformed l h) = fault-inside h
     go (TooLarge o) (too-large l h) = fault-before (λ e. false≢true cc) h
     go (Short n) (short x l) = l
-    go (Written n c) (written x l) = l
+    go (Written n c t) (written x l) = l

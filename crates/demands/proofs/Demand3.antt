@@ -19,10 +19,12 @@ use Rattle.document.specs.Judge.{startOf, judgeOf}
 use Rattle.document.specs.declared.judge.Judged.the-variants.{Sound}
 use Rattle.trees.specs.Cut.{count, cut}
 use Rattle.trees.specs.Grown.{forestOf}
-use Rattle.trees.specs.Written.{verdicts, cutOf, countOf}
+use Rattle.trees.specs.Written.{verdicts, cutOf, countOf, testsOf}
 use Rattle.cutter.specs.Answer.{answerOf, bytesAfter, numberOf, secondOf}
 use Rattle.cutter.specs.declared.Answer.the-variants.{Written}
 use Rattle.demands.specs.Within.{Within}
+use Rattle.demands.specs.Repeated.{SameNumbers}
+use Rattle.demands.proofs.Tried.{numbers-same, bytes-same}
 use Rattle.demands.proofs.Answered.{written}
 use Rattle.demands.proofs.Selected.{written-says}
 use Rattle.demands.proofs.First.{sound-document}
@@ -39,14 +41,15 @@ starts d (w, e) = rw e refl
 -- ---- what is written
 
 -- the cut stands at the front of the buffer
-written-first : (list d o : List ℕ) (n k : ℕ) → answerOf list d (length o) ≡ Written n k → take n (bytesAfter list d o) ≡ cutOf list d
-written-first list d o n k e =
-    let z = written-says list d (length o) n k e in
+written-first : (list d o : List ℕ) (n k m : ℕ) → answerOf list d (length o) ≡ Written n k m
+    → take n (bytesAfter list d o) ≡ cutOf list d
+written-first list d o n k m e =
+    let z = written-says list d (length o) n k m e in
     rw (written list d o (ap numberOf e)) (take-at (cutOf list d) (drop (secondOf (answerOf list d (length o))) o) n (sym (z .2)))
 
 -- a sound list, a sound document and room enough
 pub answers : (list d : List ℕ) (room : ℕ) → listAnswer list ≡ lists.Sound → judgeOf d ≡ Sound → length (cutOf list d) ≤ room
-    → answerOf list d room ≡ Written (length (cutOf list d)) (countOf list d)
+    → answerOf list d room ≡ Written (length (cutOf list d)) (countOf list d) (testsOf list d)
 unfolding answerOf
 answers list d room p q r = rw (p, q, le-ltb room (length (cutOf list d)) r) refl
 
@@ -95,24 +98,32 @@ module _ (narrow wide d : List ℕ) (within : Within (listPaths narrow) (listPat
   count-again =
       ap (count (verdicts (listPaths narrow)) []) (sym cut-forest) ∙ narrow-count (listPaths narrow) (listPaths wide) within (forestOf d)
 
-  -- the whole answer, and every byte of a buffer, whatever its room: too little is too little for both
-  pub answer-again : (room : ℕ) → answerOf narrow (cutOf wide d) room ≡ answerOf narrow d room
+  -- the three numbers, and every byte of a buffer, whatever its room: too little is too little for both. Name tests are those of the
+  -- document that is cut, and the wide cut may have fewer elements
+  pub answer-again : (room : ℕ) → SameNumbers (answerOf narrow (cutOf wide d) room) (answerOf narrow d room)
   unfolding answerOf
-  answer-again room = rw (cut-accepted, sound, cut-again, count-again) refl
+  answer-again room =
+      rw (cut-accepted, sound, cut-again, count-again)
+      (numbers-same (listAnswer narrow) Sound room (cutOf narrow d) (countOf narrow d) (testsOf narrow (cutOf wide d)) (testsOf narrow d))
 
   pub buffer-again : (o : List ℕ) → bytesAfter narrow (cutOf wide d) o ≡ bytesAfter narrow d o
-  unfolding bytesAfter
-  buffer-again o = rw (answer-again (length o), cut-again) refl
+  unfolding answerOf bytesAfter
+  buffer-again o =
+      rw (cut-accepted, sound, cut-again, count-again)
+      (bytes-same (listAnswer narrow) Sound (cutOf narrow d) (countOf narrow d) (testsOf narrow (cutOf wide d)) (testsOf narrow d) o)
 
 -- Of two calls. The wide cut was written: it is the first n bytes of the buffer o. Cutting it by the narrow list into a
 -- buffer o′ with room enough answers 0, with the length and the number of the master's narrow cut, and o′ then begins with that cut.
-pub cut-of-cut : (narrow wide d o o′ : List ℕ) (n k : ℕ) → listAnswer narrow ≡ lists.Sound → Within (listPaths narrow) (listPaths wide)
-    → answerOf wide d (length o) ≡ Written n k → n ≤ 16777216 → length (cutOf narrow d) ≤ length o′
-    → (answerOf narrow (take n (bytesAfter wide d o)) (length o′) ≡ Written (length (cutOf narrow d)) (countOf narrow d))
+pub cut-of-cut : (narrow wide d o o′ : List ℕ) (n k m : ℕ) → listAnswer narrow ≡ lists.Sound → Within (listPaths narrow) (listPaths wide)
+    → answerOf wide d (length o) ≡ Written n k m → n ≤ 16777216 → length (cutOf narrow d) ≤ length o′
+    → (answerOf narrow (take n (bytesAfter wide d o)) (length o′)
+    ≡ Written (length (cutOf narrow d)) (countOf narrow d) (testsOf narrow (take n (bytesAfter wide d o))))
     × (bytesAfter narrow (take n (bytesAfter wide d o)) o′ ≡ cutOf narrow d ++ drop (length (cutOf narrow d)) o′)
-cut-of-cut narrow wide d o o′ n k listed within e size room =
-    let z = written-says wide d (length o) n k e in
-    let w = written-first wide d o n k e in
+cut-of-cut narrow wide d o o′ n k m listed within e size room =
+    let z = written-says wide d (length o) n k m e in
+    let w = written-first wide d o n k m e in
     let l : length (cutOf wide d) ≤ 16777216 = rw (sym (z .2)) size in
-    let a = answer-again narrow wide d within (z .1) l (length o′) ∙ answers narrow d (length o′) listed (z .1) room in
-    (rw w a, rw w (buffer-again narrow wide d within (z .1) l o′ ∙ buffers narrow d o′ listed (z .1) room))
+    let c = cut-again narrow wide d within (z .1) l in
+    let b = count-again narrow wide d within (z .1) l in
+    let a = answers narrow (cutOf wide d) (length o′) listed (cut-accepted narrow wide d within (z .1) l) (rw c room) in
+    (rw w (rw (c, b) at a), rw w (buffer-again narrow wide d within (z .1) l o′ ∙ buffers narrow d o′ listed (z .1) room))

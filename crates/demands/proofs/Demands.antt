@@ -8,14 +8,14 @@ use lib.ListN.{length, take, drop}
 use Rattle.xml.specs.Forest.{Forest}
 use Rattle.paths.specs.Judge.{listAnswer, listPaths}
 use Rattle.paths.specs.declared.ListAnswer.the-variants as lists
-use Rattle.trees.specs.Written.{cutOf, countOf}
-use Rattle.cutter.specs.Answer.{answerOf, bytesAfter, numberOf, secondOf, thirdOf}
+use Rattle.trees.specs.Written.{cutOf, countOf, testsOf}
+use Rattle.cutter.specs.Answer.{answerOf, bytesAfter, numberOf, secondOf, thirdOf, fourthOf}
 use Rattle.cutter.specs.declared.Answer.{Answer}
 use Rattle.cutter.specs.declared.Answer.the-variants.{Written}
 use Rattle.demands.specs.Within.{Within}
 use Rattle.demands.specs.Judged.{Accepted}
 use Rattle.demands.specs.Answers.{Cuts, AnswerSays, written, BufferSays, Placed}
-use Rattle.demands.proofs.Answered.{numbered, refused, third, written as cut-stands}
+use Rattle.demands.proofs.Answered.{numbered, refused, third, fourth, written as cut-stands}
 use Rattle.demands.proofs.Refused.{Taken, taken-iff}
 use Rattle.demands.proofs.Borne.{Borne, EachTag, document-borne}
 use Rattle.demands.proofs.Demand3.{cut-of-cut}
@@ -30,6 +30,7 @@ pub record Answered (list d o : List ℕ) (a : Answer) (o′ : List ℕ) : Type 
   pub number : numberOf a ≤ 10
   pub place : Placed d (length o) a
   pub third : (numberOf a ≡ 0 → ⊥) → thirdOf a ≡ 0
+  pub fourth : (numberOf a ≡ 0 → ⊥) → fourthOf a ≡ 0
   pub bytes : (numberOf a ≡ 0 → ⊥) → o′ ≡ o
   pub buffer : BufferSays list d o o′
 
@@ -41,6 +42,7 @@ demand-1 list d o =
       number = numbered list d (length o);
       place = placed list d (length o);
       third = third (answerOf list d (length o));
+      fourth = fourth (answerOf list d (length o));
       bytes = refused list d o;
       buffer = says-buffer list d o;
     }
@@ -48,8 +50,9 @@ demand-1 list d o =
 -- 2. "A document is accepted exactly when it is in UTF-8 and keeps XML 1.0 (Fifth Edition) without a document type, within the stated
 -- sizes. A path selects an element exactly when its steps can be laid on the names from the root down to that element as XPath 1.0 means
 -- child and descendant steps. The bytes written are those that the rule gives, and the number handed back with them is that of the elements
--- selected." `Cuts` says all that of the forest that production [1] derives: by `Selects`, the rule `Writes`, and how many are selected.
--- "demand 2 takes the test in": a path picks an element that its steps select and that passes its attribute test, `Picks`.
+-- selected." `Cuts` says all that of the forest that production [1] derives: by `Selects`, the rule `Writes`, how many are selected, and,
+-- for Q-13, how many name tests are tried. "demand 2 takes the test in": a path picks an element that its steps select and that passes its
+-- attribute test, `Picks`.
 pub record Cut (list d o : List ℕ) (a : Answer) (o′ : List ℕ) : Type 0 where
   -- by a list that is accepted, the answer is 0 or 9 and none of 4 to 8 and 10. "Accept a declaration without an encoding, or one that says
   -- UTF-8 with ASCII letter case ignored": a document that is accepted has no other declaration
@@ -57,10 +60,10 @@ pub record Cut (list d o : List ℕ) (a : Answer) (o′ : List ℕ) : Type 0 whe
   -- the attributes that a test is held against are those that each tag bears by [40], [44], [41] and [10], made normal, and no others
   pub attributes : (f : Forest) → Accepted d f → EachTag Borne f
   -- what is written is the cut, and the numbers are its own
-  pub written-is : (n c : ℕ) → a ≡ Written n c → (w : List ℕ) × Cuts list d w c × (n ≡ length w) × (o′ ≡ w ++ drop n o)
+  pub written-is : (n c t : ℕ) → a ≡ Written n c t → (w : List ℕ) × Cuts list d w c t × (n ≡ length w) × (o′ ≡ w ++ drop n o)
   -- and where there is a cut and room for it, it is written
-  pub cut-is : (w : List ℕ) (c : ℕ) → Cuts list d w c → length w ≤ length o
-      → (a ≡ Written (length w) c) × (o′ ≡ w ++ drop (length w) o)
+  pub cut-is : (w : List ℕ) (c t : ℕ) → Cuts list d w c t → length w ≤ length o
+      → (a ≡ Written (length w) c t) × (o′ ≡ w ++ drop (length w) o)
 
 pub demand-2 : (list d o : List ℕ) → Cut list d o (answerOf list d (length o)) (bytesAfter list d o)
 demand-2 list d o = record { accepted = accepts; attributes = λ f x. document-borne (x .derived); written-is = writes; cut-is = cuts }
@@ -72,28 +75,30 @@ demand-2 list d o = record { accepted = accepts; attributes = λ f x. document-b
           (λ (f, x). t .1 (x .size, x .chars, (f, x .derived))),
         )
 
-    cuts : (w : List ℕ) (c : ℕ) → Cuts list d w c → length w ≤ length o
-        → (answerOf list d (length o) ≡ Written (length w) c) × (bytesAfter list d o ≡ w ++ drop (length w) o)
-    cuts w c x l =
-        let e = only-answer list d (length o) (Written (length w) c) (written x l) in
+    cuts : (w : List ℕ) (c t : ℕ) → Cuts list d w c t → length w ≤ length o
+        → (answerOf list d (length o) ≡ Written (length w) c t) × (bytesAfter list d o ≡ w ++ drop (length w) o)
+    cuts w c t x l =
+        let e = only-answer list d (length o) (Written (length w) c t) (written x l) in
         (e, cut-stands list d o (ap numberOf e) ∙ rw (ap secondOf e, cuts-only x .bytes-are) refl)
 
-    writes : (n c : ℕ) → answerOf list d (length o) ≡ Written n c
-        → (w : List ℕ) × Cuts list d w c × (n ≡ length w) × (bytesAfter list d o ≡ w ++ drop n o)
-    writes n c e = found (rw e at (says-answer list d (length o))) e
+    writes : (n c t : ℕ) → answerOf list d (length o) ≡ Written n c t
+        → (w : List ℕ) × Cuts list d w c t × (n ≡ length w) × (bytesAfter list d o ≡ w ++ drop n o)
+    writes n c t e = found (rw e at (says-answer list d (length o))) e
       where
-        found : {n c : ℕ} → AnswerSays list d (length o) (Written n c) → answerOf list d (length o) ≡ Written n c
-            → (w : List ℕ) × Cuts list d w c × (n ≡ length w) × (bytesAfter list d o ≡ w ++ drop n o)
+        found : {n c t : ℕ} → AnswerSays list d (length o) (Written n c t) → answerOf list d (length o) ≡ Written n c t
+            → (w : List ℕ) × Cuts list d w c t × (n ≡ length w) × (bytesAfter list d o ≡ w ++ drop n o)
         found (written {w} x l) e =
             (w, x, refl, cut-stands list d o (ap numberOf e) ∙ rw (ap secondOf e, cuts-only x .bytes-are) refl)
 
 -- 3. "Let two lists be accepted, and let every path of the narrow list stand in the wide list, marked there if it is marked in the narrow
 -- one", "a path being the same only with the same test". "If the wide cut was written and is itself within the document size, then cutting
 -- it by the narrow list, with room enough, gives byte for byte the narrow cut of the master, and the same number of selected elements." Of
--- two calls: the first writes the wide cut, n bytes, at the front of the buffer o; the second cuts these bytes into the buffer o′.
-pub demand-3 : (narrow wide d o o′ : List ℕ) (n k : ℕ) → listAnswer narrow ≡ lists.Sound → listAnswer wide ≡ lists.Sound
-    → Within (listPaths narrow) (listPaths wide) → answerOf wide d (length o) ≡ Written n k → n ≤ 16777216
+-- two calls: the first writes the wide cut, n bytes, at the front of the buffer o; the second cuts these bytes into the buffer o′. The name
+-- tests of the second call are those of the document that it cuts.
+pub demand-3 : (narrow wide d o o′ : List ℕ) (n k m : ℕ) → listAnswer narrow ≡ lists.Sound → listAnswer wide ≡ lists.Sound
+    → Within (listPaths narrow) (listPaths wide) → answerOf wide d (length o) ≡ Written n k m → n ≤ 16777216
     → length (cutOf narrow d) ≤ length o′
-    → (answerOf narrow (take n (bytesAfter wide d o)) (length o′) ≡ Written (length (cutOf narrow d)) (countOf narrow d))
+    → (answerOf narrow (take n (bytesAfter wide d o)) (length o′)
+    ≡ Written (length (cutOf narrow d)) (countOf narrow d) (testsOf narrow (take n (bytesAfter wide d o))))
     × (bytesAfter narrow (take n (bytesAfter wide d o)) o′ ≡ cutOf narrow d ++ drop (length (cutOf narrow d)) o′)
-demand-3 narrow wide d o o′ n k p q = cut-of-cut narrow wide d o o′ n k p
+demand-3 narrow wide d o o′ n k m p q = cut-of-cut narrow wide d o o′ n k m p

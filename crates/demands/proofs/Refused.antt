@@ -18,7 +18,7 @@ use Rattle.document.specs.Judge.{startOf, judgeOf}
 use Rattle.document.specs.declared.Why.the-variants as why
 use Rattle.document.specs.declared.judge.Judged.{Judged}
 use Rattle.document.specs.declared.judge.Judged.the-variants.{Sound, TooLong, OtherEncoding, NotChar, AtFault}
-use Rattle.trees.specs.Written.{cutOf, countOf}
+use Rattle.trees.specs.Written.{cutOf, countOf, testsOf}
 use Rattle.cutter.specs.Answer.{byDocument, byRoom, answerOf, numberOf}
 use Rattle.cutter.specs.declared.Answer.{Answer}
 use Rattle.cutter.specs.declared.Answer.the-variants.{Written, Short}
@@ -28,10 +28,10 @@ use Rattle.demands.proofs.Accepted.{accepted}
 abbrev pub Taken : Answer → Type 0
 Taken a = (numberOf a ≡ 0) ⊎ (numberOf a ≡ 9)
 
-room-taken : (room : ℕ) (w : List ℕ) (c : ℕ) → Taken (byRoom room w c)
-room-taken room w c = go (ltb room (length w))
+room-taken : (room : ℕ) (w : List ℕ) (c t : ℕ) → Taken (byRoom room w c t)
+room-taken room w c t = go (ltb room (length w))
   where
-    go : (b : Bool) → Taken (cond b (Short (length w)) (Written (length w) c))
+    go : (b : Bool) → Taken (cond b (Short (length w)) (Written (length w) c t))
     go true = inr refl
     go false = inl refl
 
@@ -51,13 +51,13 @@ judged-taken (AtFault why.TooLarge o) a (inl e) = absurd (omega arith)
 judged-taken (AtFault why.TooLarge o) a (inr e) = absurd (omega arith)
 
 module _ (list d : List ℕ) (room : ℕ) (listed : listAnswer list ≡ lists.Sound) where
-  by-document : answerOf list d room ≡ byDocument (judgeOf d) (byRoom room (cutOf list d) (countOf list d))
+  by-document : answerOf list d room ≡ byDocument (judgeOf d) (byRoom room (cutOf list d) (countOf list d) (testsOf list d))
   unfolding answerOf
   by-document = rw listed refl
 
   pub taken-iff : Taken (answerOf list d room)
       ↔ ((length d ≤ 16777216) × Chars d × ((f : Forest) × Document Small (drop (startOf d) d) f))
   taken-iff = (
-    (λ t. accepted d .0 (judged-taken (judgeOf d) (byRoom room (cutOf list d) (countOf list d)) (rw by-document at t))),
-    (λ x. rw (by-document, accepted d .1 x) (room-taken room (cutOf list d) (countOf list d))),
+    (λ t. accepted d .0 (judged-taken (judgeOf d) (byRoom room (cutOf list d) (countOf list d) (testsOf list d)) (rw by-document at t))),
+    (λ x. rw (by-document, accepted d .1 x) (room-taken room (cutOf list d) (countOf list d) (testsOf list d))),
   )

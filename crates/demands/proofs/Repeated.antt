@@ -20,13 +20,15 @@ use Rattle.paths.proofs.Meaning.{says, says-only, paths-print, print-once}
 use Rattle.matcher.specs.Says.{Some, this, later, verdictOf}
 use Rattle.matcher.specs.declared.Verdict.{Verdict}
 use Rattle.matcher.specs.declared.Verdict.the-variants.{Unselected, Selected, Marked}
+use Rattle.document.specs.Judge.{judgeOf}
 use Rattle.trees.specs.Cut.{Judge, count, cut}
 use Rattle.trees.specs.Grown.{forestOf}
-use Rattle.trees.specs.Written.{rootFirst, verdicts, cutOf, countOf}
+use Rattle.trees.specs.Written.{rootFirst, verdicts, cutOf, countOf, testsOf}
 use Rattle.trees.proofs.Same.{AtMost}
 use Rattle.cutter.specs.Answer.{answerOf, bytesAfter}
-use Rattle.demands.specs.Repeated.{Stands, AllStand, withLine, SameOutcome}
+use Rattle.demands.specs.Repeated.{Stands, AllStand, withLine, SameNumbers, SameOutcome}
 use Rattle.demands.specs.Within.{Covers, Within}
+use Rattle.demands.proofs.Tried.{numbers-same, bytes-same}
 use Rattle.demands.proofs.Narrow.{within-most}
 
 -- ---- two lists, each within the other
@@ -59,11 +61,15 @@ pub same-lists : (list list′ : List ℕ) → listAnswer list ≡ Sound → lis
 unfolding answerOf bytesAfter
 same-lists list list′ p q l m = record { answer-same = answers; bytes-same = buffers }
   where
-    answers : (d : List ℕ) (room : ℕ) → answerOf list d room ≡ answerOf list′ d room
-    answers d room = rw (p, q, same-cut list list′ l m d, same-count list list′ l m d) refl
+    answers : (d : List ℕ) (room : ℕ) → SameNumbers (answerOf list d room) (answerOf list′ d room)
+    answers d room =
+        rw (p, q, same-cut list list′ l m d, same-count list list′ l m d)
+        (numbers-same Sound (judgeOf d) room (cutOf list′ d) (countOf list′ d) (testsOf list d) (testsOf list′ d))
 
     buffers : (d o : List ℕ) → bytesAfter list d o ≡ bytesAfter list′ d o
-    buffers d o = rw (p, q, same-cut list list′ l m d, same-count list list′ l m d) refl
+    buffers d o =
+        rw (p, q, same-cut list list′ l m d, same-count list list′ l m d)
+        (bytes-same Sound (judgeOf d) (cutOf list′ d) (countOf list′ d) (testsOf list d) (testsOf list′ d) o)
 
 -- ---- a line put into a list of paths
 

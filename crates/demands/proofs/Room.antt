@@ -31,7 +31,7 @@ use Rattle.document.specs.Judge.{startOf, scanFrom, scanned, judgeOf}
 use Rattle.document.specs.declared.judge.Judged.the-variants.{Sound}
 use Rattle.trees.specs.Cut.{Judge, on, any, place, cut}
 use Rattle.trees.specs.Grown.{tokensFrom, tokensOf, forestOf}
-use Rattle.trees.specs.Written.{verdicts, cutOf, countOf}
+use Rattle.trees.specs.Written.{verdicts, cutOf, countOf, testsOf}
 use Rattle.trees.proofs.Bytes.{forest-bytes}
 use Rattle.cutter.specs.Answer.{answerOf}
 use Rattle.cutter.specs.declared.Answer.the-variants.{Written, Short}
@@ -102,18 +102,18 @@ cut-under-twice list d e =
     omega (arith, cut-at-most list d e, ap length q)
 
 -- in the words of the demands
-pub cuts-at-most : {list d w : List ℕ} {c : ℕ} → Cuts list d w c → length w ≤ 2 * length d - 1
+pub cuts-at-most : {list d w : List ℕ} {c t : ℕ} → Cuts list d w c t → length w ≤ 2 * length d - 1
 cuts-at-most {list} {d} x = let z = cuts-only x in rw (z .bytes-are) (cut-at-most list d (z .document-sound))
 
 -- ---- calls: "The field edition must reserve memory before it reads."
 
 -- the length written
-pub written-at-most : (list d : List ℕ) (room n c : ℕ) → answerOf list d room ≡ Written n c → n ≤ 2 * length d - 1
-written-at-most list d room n c e = let z = written-says list d room n c e in rw (z .2) (cut-at-most list d (z .1))
+pub written-at-most : (list d : List ℕ) (room n c t : ℕ) → answerOf list d room ≡ Written n c t → n ≤ 2 * length d - 1
+written-at-most list d room n c t e = let z = written-says list d room n c t e in rw (z .2) (cut-at-most list d (z .1))
 
 -- with so much room a sound list cuts every sound document
 pub room-enough : (list d : List ℕ) (room : ℕ) → listAnswer list ≡ lists.Sound → judgeOf d ≡ Sound → 2 * length d - 1 ≤ room
-    → answerOf list d room ≡ Written (length (cutOf list d)) (countOf list d)
+    → answerOf list d room ≡ Written (length (cutOf list d)) (countOf list d) (testsOf list d)
 room-enough list d room p q l = answers list d room p q (omega (arith, cut-at-most list d q))
 
 -- and no call is refused by 9, whatever the list and the document

@@ -28,7 +28,7 @@ use Rattle.matcher.specs.declared.Verdict.the-variants.{Unselected, Selected, M
 use Rattle.matcher.proofs.Meaning.{says}
 use Rattle.trees.specs.Cut.{isSelected, one, count}
 use Rattle.trees.specs.Grown.{forestOf}
-use Rattle.trees.specs.Written.{rootFirst, verdicts, cutOf, countOf}
+use Rattle.trees.specs.Written.{rootFirst, verdicts, cutOf, countOf, testsOf}
 use Rattle.cutter.specs.Answer.{byList, byDocument, byRoom, answerOf}
 use Rattle.cutter.specs.declared.Answer.the-variants.{Written, Short}
 use Rattle.demands.specs.Elements.{Element, elements, howMany}
@@ -82,29 +82,29 @@ count-selected list d = count-elements (listPaths list) [] (forestOf d)
 
 -- ---- the answer under 0 hands back the length of the cut and that number
 
-by-room : (room : ℕ) (w : List ℕ) (c n k : ℕ) → byRoom room w c ≡ Written n k → (n ≡ length w) × (k ≡ c) × (length w ≤ room)
-by-room room w c n k = go (ltb room (length w)) refl
+by-room : (room : ℕ) (w : List ℕ) (c t n k m : ℕ) → byRoom room w c t ≡ Written n k m → (n ≡ length w) × (k ≡ c) × (length w ≤ room)
+by-room room w c t n k m = go (ltb room (length w)) refl
   where
-    go : (b : Bool) → ltb room (length w) ≡ b → cond b (Short (length w)) (Written (length w) c) ≡ Written n k
+    go : (b : Bool) → ltb room (length w) ≡ b → cond b (Short (length w)) (Written (length w) c t) ≡ Written n k m
         → (n ≡ length w) × (k ≡ c) × (length w ≤ room)
     go true q e = absurd (false≢true cc)
     go false q e = (cc, cc, ltb-false room (length w) q)
 
 -- written: the list and the document are sound, and what is handed back is the length of the cut and the number of elements selected
-pub written-says : (list d : List ℕ) (room n k : ℕ) → answerOf list d room ≡ Written n k
+pub written-says : (list d : List ℕ) (room n k m : ℕ) → answerOf list d room ≡ Written n k m
     → (listAnswer list ≡ lists.Sound) × (judgeOf d ≡ judged.Sound) × (n ≡ length (cutOf list d))
     × (k ≡ howMany (chosen (listPaths list)) (elements [] (forestOf d)))
     × (length (cutOf list d) ≤ room)
 unfolding answerOf
-written-says list d room n k = go (listAnswer list) (judgeOf d) refl refl
+written-says list d room n k m = go (listAnswer list) (judgeOf d) refl refl
   where
     go : (a : ListAnswer) (j : Judged) → listAnswer list ≡ a → judgeOf d ≡ j
-        → byList a (byDocument j (byRoom room (cutOf list d) (countOf list d))) ≡ Written n k
+        → byList a (byDocument j (byRoom room (cutOf list d) (countOf list d) (testsOf list d))) ≡ Written n k m
         → (listAnswer list ≡ lists.Sound) × (judgeOf d ≡ judged.Sound) × (n ≡ length (cutOf list d))
         × (k ≡ howMany (chosen (listPaths list)) (elements [] (forestOf d)))
         × (length (cutOf list d) ≤ room)
     go lists.Sound judged.Sound p q e =
-        let z = by-room room (cutOf list d) (countOf list d) n k e in
+        let z = by-room room (cutOf list d) (countOf list d) (testsOf list d) n k m e in
         (p, q, z .0, z .1 ∙ count-selected list d, z .2)
     go lists.Sound judged.TooLong p q e = absurd (false≢true cc)
     go lists.Sound (judged.OtherEncoding o) p q e = absurd (false≢true cc)

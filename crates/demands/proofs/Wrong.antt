@@ -28,7 +28,7 @@ use Rattle.items.specs.Item.{declares, kindOf, itemAt}
 use Rattle.document.specs.Place.{blank}
 use Rattle.document.specs.Judge.{startOf, scanFrom, scanned, judgeOf}
 use Rattle.trees.specs.Grown.{tokensFrom, tokensOf, forestOf}
-use Rattle.trees.specs.Written.{verdicts, cutOf, countOf}
+use Rattle.trees.specs.Written.{verdicts, cutOf, countOf, testsOf}
 use Rattle.cutter.specs.Answer.{answerOf, bytesAfter, numberOf, secondOf, thirdOf}
 use Rattle.cutter.specs.declared.Answer.{Answer}
 use Rattle.cutter.specs.declared.Answer.the-variants.{Written}
@@ -58,7 +58,7 @@ docA = bytes "<g/>"
 abbrev docB : List ℕ
 docB = bytes "<g><p><v/></p></g>"
 
-row-a : answerOf none docA 21 ≡ Written 7 0
+row-a : answerOf none docA 21 ≡ Written 7 0 (testsOf none docA)
 unfolding answerOf bytesAfter judgeOf otherEncoding scanned scanFrom startOf blank checkOf spaceEnd cutOf countOf verdicts verdictOf
     forestOf tokensOf tokensFrom itemAt kindOf declares endsAt tagAt endTagAt tagOf endTagOf pieceNamed before gather
     attributeOf smallTag textOf eqOf spaceOf skip valueOf quotedOf many pieceOf isMark referenceOf entityRefOf charRefOf
@@ -66,7 +66,7 @@ unfolding answerOf bytesAfter judgeOf otherEncoding scanned scanFrom startOf bla
     listAnswer judge lines soundAt within lineAt steps readAll endAt markAt attributeAt stepAt testAt kindAt printStep printLine
 row-a = refl
 
-row-b : answerOf listB docB 21 ≡ Written 21 1
+row-b : answerOf listB docB 21 ≡ Written 21 1 (testsOf listB docB)
 unfolding answerOf bytesAfter judgeOf otherEncoding scanned scanFrom startOf blank checkOf spaceEnd cutOf countOf verdicts verdictOf
     forestOf tokensOf tokensFrom itemAt kindOf declares endsAt tagAt endTagAt tagOf endTagOf pieceNamed before gather
     attributeOf smallTag textOf eqOf spaceOf skip valueOf quotedOf many pieceOf isMark referenceOf entityRefOf charRefOf
@@ -93,10 +93,10 @@ bytes-b = refl
 -- ---- the filters
 
 module _ (f : Filter) (meets : Meets f) where
-  answer-a : f none docA dots .0 ≡ Written 7 0
+  answer-a : f none docA dots .0 ≡ Written 7 0 (testsOf none docA)
   answer-a = meets none docA dots .0 ∙ row-a
 
-  answer-b : f listB docB dots .0 ≡ Written 21 1
+  answer-b : f listB docB dots .0 ≡ Written 21 1 (testsOf listB docB)
   answer-b = meets listB docB dots .0 ∙ row-b
 
   buffer-a : f none docA dots .1 ≡ bytes "<g></g>" ++ replicate 14 46
