@@ -1,6 +1,6 @@
 //! The answers of the library as Rust has them: what was written, or why nothing was. Each refusal has its number, its meaning in words and
 //! its place. The words are those of document 01's table, and of document 02 for what it adds.
-use crate::Numbers;
+use crate::FourNumbers;
 use std::error::Error;
 use std::fmt;
 
@@ -11,6 +11,8 @@ pub struct Written {
     pub length: u64,
     /// How many elements the list selects, those inside a kept entry too.
     pub selected: u64,
+    /// How many name tests were tried, over the whole document.
+    pub name_tests: u64,
 }
 
 /// Answers 1 to 10. A line counts from 1, an offset from 0.
@@ -38,12 +40,19 @@ pub enum Refusal {
     OtherEncoding { offset: u64 },
 }
 
-impl Numbers {
+impl FourNumbers {
     /// The answer that the numbers stand for. Panics on a number over 10, which the library never gives.
     pub fn answer(self) -> Result<Written, Refusal> {
-        let second = self.second;
-        Err(match self.number {
-            0 => return Ok(Written { length: second, selected: self.third }),
+        let written = Written { length: self.second, selected: self.third, name_tests: self.fourth };
+        Refusal::of(self.number, self.second).map_or(Ok(written), Err)
+    }
+}
+
+impl Refusal {
+    /// The refusal that a number and the second one stand for; under 0 there is none. Panics on a number over 10.
+    pub(crate) fn of(number: u64, second: u64) -> Option<Refusal> {
+        Some(match number {
+            0 => return None,
             1 => Refusal::ListTooLong,
             2 => Refusal::ListMalformed { line: second },
             3 => Refusal::ListTooLarge { line: second },
@@ -57,9 +66,7 @@ impl Numbers {
             number => panic!("{number} is no answer of the library"),
         })
     }
-}
 
-impl Refusal {
     /// The number, 1 to 10.
     pub fn number(self) -> u64 {
         match self {
@@ -140,7 +147,7 @@ mod tests {
     fn numbers_come_back_as_they_were() {
         for number in 1..=10 {
             let second = if number == 1 || number == 4 { 0 } else { 12 };
-            let refusal = Numbers { number, second, third: 0 }.answer().unwrap_err();
+            let refusal = FourNumbers { number, second, third: 0, fourth: 0 }.answer().unwrap_err();
             assert_eq!((refusal.number(), refusal.second()), (number, second));
         }
     }

@@ -7,7 +7,7 @@
 //!
 //! ```
 //! let cut = choughbell::cut_of(b"//v\n", b"<g><p><v/></p></g>").unwrap();
-//! assert_eq!((cut.bytes.as_slice(), cut.selected), (&b"<g><p><v></v></p></g>"[..], 1));
+//! assert_eq!((cut.bytes.as_slice(), cut.selected, cut.name_tests), (&b"<g><p><v></v></p></g>"[..], 1, 3));
 //!
 //! let refusal = choughbell::check(b"<g><v></g>").unwrap_err();
 //! assert_eq!((refusal.number(), refusal.offset()), (7, Some(6)));
@@ -23,34 +23,45 @@ pub const LIST_LIMIT: usize = 8_192;
 /// A longer document is answer 4.
 pub const DOCUMENT_LIMIT: usize = 16_777_216;
 
-/// The numbers handed back: which answer it is, and what goes with it.
+/// The numbers that a cut hands back: which answer it is, and what goes with it.
 #[repr(C)]
 #[derive(Clone, Copy, PartialEq, Eq, Debug)]
-pub struct Numbers {
+pub struct FourNumbers {
     /// 0 where the cut is written, else why it is refused.
     pub number: u64,
     /// Under 0 the length written, under 9 the length needed, else the line or the offset at fault, or 0.
     pub second: u64,
     /// Under 0 how many elements are selected, else 0.
     pub third: u64,
+    /// Under 0 how many name tests were tried, else 0.
+    pub fourth: u64,
+}
+
+/// The numbers that are handed back of a document alone. The third is always 0.
+#[repr(C)]
+struct Numbers {
+    number: u64,
+    second: u64,
+    _third: u64,
 }
 
 #[link(name = "exported", kind = "static")]
 extern "C" {
     // Nothing checks these against the Rattle source, crates/exported/src/lib.rt: a slice is its pointer and then its length.
     fn choughbell_judge(doc: *const u8, doc_len: usize) -> Numbers;
-    fn choughbell_cut(list: *const u8, list_len: usize, doc: *const u8, doc_len: usize, out: *mut u8, out_len: usize) -> Numbers;
+    fn choughbell_cut(list: *const u8, list_len: usize, doc: *const u8, doc_len: usize, out: *mut u8, out_len: usize) -> FourNumbers;
 }
 
-/// Writes the cut of a document by a list to the front of `out`, or refuses and leaves all of `out` as it was.
+/// Writes the cut of a document by a list to the front of `out`, or refuses and leaves all of `out` as it was. For a document of n bytes a
+/// buffer of 2n - 1 bytes always suffices.
 ///
 /// ```
 /// let mut out = [0; 20];
 /// let numbers = choughbell::cut(b"//v\n", b"<g><p><v/></p></g>", &mut out);
-/// assert_eq!((numbers.number, numbers.second, numbers.third), (9, 21, 0));
+/// assert_eq!((numbers.number, numbers.second, numbers.third, numbers.fourth), (9, 21, 0, 0));
 /// assert_eq!(out, [0; 20]);
 /// ```
-pub fn cut(list: &[u8], doc: &[u8], out: &mut [u8]) -> Numbers {
+pub fn cut(list: &[u8], doc: &[u8], out: &mut [u8]) -> FourNumbers {
     unsafe { choughbell_cut(list.as_ptr(), list.len(), doc.as_ptr(), doc.len(), out.as_mut_ptr(), out.len()) }
 }
 
@@ -61,30 +72,24 @@ pub struct Cut {
     pub bytes: Vec<u8>,
     /// How many elements the list selects, those inside a kept entry too.
     pub selected: u64,
+    /// How many name tests were tried, over the whole document.
+    pub name_tests: u64,
 }
 
 /// The cut of a document by a list, in a buffer that suffices: `Refusal::Short` is never the answer.
 pub fn cut_of(list: &[u8], doc: &[u8]) -> Result<Cut, Refusal> {
-    // A tag of n bytes is written in less than 2n, so the first room is enough; should it not be, the library names the one that is.
-    let mut room = 2 * doc.len() + 64;
-    loop {
-        let mut bytes = vec![0; room];
-        match cut(list, doc, &mut bytes).answer() {
-            Err(Refusal::Short { needed }) if needed as usize > room => room = needed as usize,
-            Err(refusal) => return Err(refusal),
-            Ok(Written { length, selected }) => {
-                bytes.truncate(length as usize);
-                return Ok(Cut { bytes, selected });
-            }
-        }
-    }
+    // With so much room no list and no document are answered by 9: `never-short` in crates/demands/proofs/Room.antt.
+    let mut bytes = vec![0; (2 * doc.len()).saturating_sub(1)];
+    let Written { length, selected, name_tests } = cut(list, doc, &mut bytes).answer()?;
+    bytes.truncate(length as usize);
+    Ok(Cut { bytes, selected, name_tests })
 }
 
 /// Whether a document is sound, within the sizes: what `cut` answers by a list that is sound itself, in a room that suffices. It is never
 /// 1 to 3 or 9.
 pub fn check(doc: &[u8]) -> Result<(), Refusal> {
     let numbers = unsafe { choughbell_judge(doc.as_ptr(), doc.len()) };
-    numbers.answer().map(|_| ())
+    Refusal::of(numbers.number, numbers.second).map_or(Ok(()), Err)
 }
 
 #[cfg(test)]
@@ -95,7 +100,7 @@ mod tests {
     fn short_buffer_is_refused_and_left_alone() {
         let mut out = *b"twenty bytes of room";
         let numbers = cut(b"//v\n", b"<g><p><v/></p></g>", &mut out);
-        assert_eq!(numbers, Numbers { number: 9, second: 21, third: 0 });
+        assert_eq!(numbers, FourNumbers { number: 9, second: 21, third: 0, fourth: 0 });
         assert_eq!(numbers.answer(), Err(Refusal::Short { needed: 21 }));
         assert_eq!(&out, b"twenty bytes of room");
     }
@@ -104,14 +109,33 @@ mod tests {
     fn room_of_the_cut_is_enough_and_what_follows_stays() {
         let mut out = *b"_____________________++";
         let numbers = cut(b"//v\n", b"<g><p><v/></p></g>", &mut out);
-        assert_eq!(numbers.answer(), Ok(Written { length: 21, selected: 1 }));
+        assert_eq!(numbers, FourNumbers { number: 0, second: 21, third: 1, fourth: 3 });
+        assert_eq!(numbers.answer(), Ok(Written { length: 21, selected: 1, name_tests: 3 }));
         assert_eq!(&out, b"<g><p><v></v></p></g>++");
     }
 
     #[test]
     fn cut_of_brings_its_room() {
-        assert_eq!(cut_of(b"", b"<g/>"), Ok(Cut { bytes: b"<g></g>".to_vec(), selected: 0 }));
+        // 4 bytes are cut to 7: all the room that there is.
+        assert_eq!(cut_of(b"", b"<g/>"), Ok(Cut { bytes: b"<g></g>".to_vec(), selected: 0, name_tests: 0 }));
+        assert_eq!(cut_of(b"/g\n", b"<g/>"), Ok(Cut { bytes: b"<g></g>".to_vec(), selected: 1, name_tests: 1 }));
+        assert_eq!(cut_of(b"", b""), Err(Refusal::NotWellFormed { offset: 0 }));
         assert_eq!(cut_of(b"v\n", b"<g/>"), Err(Refusal::ListMalformed { line: 1 }));
+        assert_eq!(cut_of(b"", &vec![b' '; DOCUMENT_LIMIT + 1]), Err(Refusal::DocumentTooLong));
+    }
+
+    #[test]
+    fn name_tests_go_by_elements_and_steps() {
+        let tests = |list: &[u8], doc: &[u8]| cut_of(list, doc).unwrap().name_tests;
+        let doc = b"<g><p><v/></p><q><v><w/></v></q></g>";
+        // By `//v/w` each of the six elements is tried by the first step, and w alone, under a v, by the second.
+        assert_eq!(tests(b"//v/w\n", doc), 7);
+        // Inside a kept entry too; a repeated line counts again.
+        assert_eq!(tests(b"//q #\n//v/w\n//v/w\n", doc), 20);
+        // By `/g/*` the root, then p and q.
+        assert_eq!(tests(b"/g/*\n", doc), 3);
+        // A first step self is tried nowhere.
+        assert_eq!(tests(b"/self::g\n", doc), 0);
     }
 
     #[test]
