@@ -1,12 +1,15 @@
-/* The proved filter, for callers in C: three functions of the static library. Link with -lchoughbell, or with libexported.a as
- * `make library` leaves it. They allocate nothing, keep nothing between calls and call nothing but memset, so threads may call them at
- * once. A call takes less than 64 KiB of stack.
+/* The proved filter, for callers in C: three functions of the static library, choughbell 0.2.0. Link with -lchoughbell, or with
+ * libexported.a as `make library` leaves it. They allocate nothing, keep nothing between calls and call nothing but memset, so threads may
+ * call them at once. A call takes less than 64 KiB of stack.
  *
  * A byte slice is passed as a pointer and a length. What the caller owes, and nothing else is asked:
  *   - each pointer leads to as many bytes as its length says, and is not null, also where the length is 0;
  *   - `out` overlaps neither `list` nor `doc`, which may be the same bytes;
  *   - no other thread writes to these bytes during the call.
  * The bytes of the list and the document may be any.
+ *
+ * Layout: in 0.1.0 choughbell_cut gave three numbers, and from 0.2.0 on it gives four, in a larger struct. The library writes all of it
+ * where the caller has made room: so a caller that was compiled with the header of 0.1.0 must be compiled anew before it is linked.
  */
 #ifndef CHOUGHBELL_H
 #define CHOUGHBELL_H
@@ -21,7 +24,8 @@ extern "C" {
 /* The numbers handed back.
  *
  *   number                                  second
- *   0  written                              length written; third: how many elements are selected, those inside a kept entry too
+ *   0  written                              length written; third: how many elements are selected, those inside a kept entry too;
+ *                                           fourth, of a cut: how many name tests were tried
  *   1  list over 8,192 bytes                0
  *   2  malformed line                       line, from 1
  *   3  line too large, or line 33           line
@@ -33,18 +37,29 @@ extern "C" {
  *   9  output shorter than the cut          length needed
  *   10 another encoding is declared         offset of the declaration: 0, or 3 behind EF BB BF
  *
- * They apply in the order 1; 2 and 3 by line; 4; 10; 5; 6 to 8 by item; 9. The third number is 0 except under 0. */
+ * They apply in the order 1; 2 and 3 by line; 4; 10; 5; 6 to 8 by item; 9. The third number and the fourth are 0 except under 0.
+ *
+ * Name tests: for each element and each step of each line one is tried exactly when the steps before it can be laid so that the step's
+ * place would be that element. `*` counts as a name does; the test of an attribute is none. They are counted over the whole document,
+ * inside kept entries too, and are at most elements times steps in the list, repeated lines counted again. */
 struct choughbell_numbers {
     uint64_t number;
     uint64_t second;
     uint64_t third;
 };
 
+struct choughbell_four_numbers {
+    uint64_t number;
+    uint64_t second;
+    uint64_t third;
+    uint64_t fourth;
+};
+
 /* Writes the cut of a document by a list to the front of `out`. Under 0 the bytes after the cut stay as they were, under any other number
- * the whole of `out` does. A cut has less than twice the bytes of its document; that is not proved yet, and should `out` be too short all
- * the same, the number is 9. */
-struct choughbell_numbers choughbell_cut(const uint8_t *list, size_t list_len, const uint8_t *doc, size_t doc_len, uint8_t *out,
-                                         size_t out_len);
+ * the whole of `out` does. A cut of a document of n bytes has at most 2n - 1 bytes, which is proved: where out_len is as much, the number
+ * is never 9. */
+struct choughbell_four_numbers choughbell_cut(const uint8_t *list, size_t list_len, const uint8_t *doc, size_t doc_len, uint8_t *out,
+                                              size_t out_len);
 
 /* The numbers of a document alone, as above: 4 to 8 or 10 with the second number, or 0 where the document is sound, and then the second
  * number is 0 too. The third is 0. A sound document is cut by every sound list, in a room that suffices. */

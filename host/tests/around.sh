@@ -43,11 +43,27 @@ example() {
     program=$program_before
 }
 prints '<g><p><v></v></p></g>'
-says '1 selected'
+says '1 selected, 3 name tests'
 example 'a cut' 0 v.lst b.xml
 prints '<g><p><v></v></p></g>'
-says '1 selected'
+says '1 selected, 3 name tests'
 example 'room enough' 0 v.lst b.xml 21
+prints '<g><v><n/></v></g>'
+says '2 selected, 6 name tests'
+example 'inside a kept entry' 0 two.lst h.xml
+# Four bytes are cut to seven, 2 * 4 - 1: all the room that the example takes. No bytes have no room.
+printf '<g/>' > tag.xml
+printf '/g\n' > root.lst
+prints '<g></g>'
+says '0 selected, 0 name tests'
+example 'the longest cut' 0 none.lst tag.xml
+prints '<g></g>'
+says '1 selected, 1 name tests'
+example 'the longest cut, in its room' 0 root.lst tag.xml 7
+says 'refused 9 7'
+example 'the longest cut, one byte short' 9 none.lst tag.xml 6
+says 'refused 7 0'
+example 'no bytes' 7 v.lst nothing.xml
 says 'refused 9 21'
 example 'one byte short' 9 v.lst b.xml 20
 says 'refused 9 21'
