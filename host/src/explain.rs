@@ -25,8 +25,10 @@ const TEXTS: [(&str, &str); 15] = [
 
 const ZERO: &str = "\
 0: written. The second number is the length of the cut, the third how many elements
-the list selects, those inside a kept entry too. Under `check` it says that the
-document is sound; there is no cut, and the other numbers are 0.
+the list selects, those inside a kept entry too. The fourth is how many name tests were
+tried: one for each element and each step of each line that could stand there after the
+steps before it. It is at most elements times steps.
+Under `check` 0 says that the document is sound; the other numbers are 0.
 ";
 
 const ONE: &str = "\
@@ -85,7 +87,8 @@ at most 255 bytes, counted in UTF-8; a tag has at most 32 attributes.
 const NINE: &str = "\
 9: the output is shorter than the cut; the second number is the length needed.
 This answer is for programs that call the library with a buffer of their own: call again
-with one that long. The command always has room enough.
+with one that long. A cut of a document of n bytes has at most 2n - 1, as is proved. The
+command takes as much, so it always has room enough.
 ";
 
 const TEN: &str = "\

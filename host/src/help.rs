@@ -17,7 +17,8 @@ A file that is not named, or named -, is the standard input or output.
                        a test of an attribute, [@name=\"value\"]; one space and # at the end
                        keep the whole entry
   -o, --output OUTPUT  is replaced when the cut is there, and else stays as it was
-      --count          print only: kept, the elements selected, the length of the cut
+      --count          print only: kept, the elements selected, the length of the cut; and
+                       on a second line: name tests, how many were tried
   -q, --quiet          no message, only the exit status
       --json           print the numbers as one line of JSON, on the standard output, or on
                        the standard error where the cut goes to the other

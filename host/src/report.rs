@@ -86,7 +86,7 @@ impl Report {
 
     /// The numbers and the place, as one line of JSON.
     pub fn json(&self) -> String {
-        let mut object = numbers(self.refusal.number(), self.refusal.second(), 0, self.refusal.meaning());
+        let mut object = numbers(self.refusal.number(), self.refusal.second(), 0, 0, self.refusal.meaning());
         object.string("file", &self.file);
         match &self.place {
             Place::Whole => {}
@@ -108,11 +108,12 @@ impl Report {
 }
 
 /// The members that every answer has.
-pub fn numbers(number: u64, second: u64, third: u64, meaning: &str) -> Object {
+pub fn numbers(number: u64, second: u64, third: u64, name_tests: u64, meaning: &str) -> Object {
     let mut object = Object::new();
     object.number("number", number);
     object.number("second", second);
     object.number("third", third);
+    object.number("name_tests", name_tests);
     object.string("meaning", meaning);
     object
 }
@@ -143,7 +144,8 @@ mod tests {
         let report = said(b"", "<g>\n é<v></g>".as_bytes());
         assert_eq!(report.message(), "m.xml:2:6: 7: not well-formed: \"</g>\": <v> of line 2 is open (offset 10)");
         let place = r#""offset":10,"line":2,"column":6,"there":"</g>","hint":"<v> of line 2 is open""#;
-        let json = format!(r#"{{"number":7,"second":10,"third":0,"meaning":"not well-formed","file":"m.xml",{place}}}"#) + "\n";
+        let numbers = r#""number":7,"second":10,"third":0,"name_tests":0"#;
+        let json = format!(r#"{{{numbers},"meaning":"not well-formed","file":"m.xml",{place}}}"#) + "\n";
         assert_eq!(report.json(), json);
     }
 

@@ -39,15 +39,15 @@ fn written(task: &Task, cut: &Cut) -> Result<(), Trouble> {
     let length = cut.bytes.len() as u64;
     match &task.output {
         Some(output) => output.write(&cut.bytes)?,
-        None if !task.json => output::print(&format!("kept {} {length}\n", cut.selected))?,
+        None if !task.json => output::print(&format!("kept {} {length}\nname tests {}\n", cut.selected, cut.name_tests))?,
         None => {}
     }
-    numbers(task, || report::numbers(0, length, cut.selected, "written").line())
+    numbers(task, || report::numbers(0, length, cut.selected, cut.name_tests, "written").line())
 }
 
 /// `check` has no numbers of its own.
 fn sound(task: &Task) -> Result<(), Trouble> {
-    numbers(task, || report::numbers(0, 0, 0, "sound").line())
+    numbers(task, || report::numbers(0, 0, 0, 0, "sound").line())
 }
 
 fn refused(task: &Task, refusal: Refusal, list: &Read, document: &Read) -> Result<u8, Trouble> {

@@ -13,9 +13,9 @@ printf '//v #\n//n\n' > two.lst
 printf '<g><v><n/></v></g>' > h.xml
 prints '<g><v><n/></v></g>'
 try 'a marked line' 0 cut -l two.lst h.xml
-lines 'kept 2 18'
+lines 'kept 2 18' 'name tests 6'
 try 'numbers only' 0 cut --count -l two.lst h.xml
-lines 'kept 1 21'
+lines 'kept 1 21' 'name tests 3'
 try 'numbers only, quiet' 0 cut --count --quiet -l v.lst b.xml
 prints '<g><p><v></v></p></g>'
 try 'a cut, quiet' 0 cut --quiet -l v.lst b.xml
@@ -28,10 +28,10 @@ printf '//*/self::v #\n' > axes.lst
 prints '<g><p><v/></p></g>'
 try 'self, marked' 0 cut -l axes.lst b.xml
 printf '/descendant-or-self::*\n' > axes.lst
-lines 'kept 3 21'
+lines 'kept 3 21' 'name tests 3'
 try 'descendant-or-self first' 0 cut --count -l axes.lst b.xml
 printf '/self::g\n' > axes.lst
-lines 'kept 0 7'
+lines 'kept 0 7' 'name tests 0'
 try 'self first' 0 cut --count -l axes.lst b.xml
 printf '/g/*\n/g/self::p\n' > axes.lst
 printf '<g><a::b/><self::p><:p/></self::p></g>' > colons.xml
@@ -51,8 +51,44 @@ prints '<atlas><place type="village">Aar</place><place type='"'vill&#97;ge'"' n=
 water"></lake></atlas>'
 try 'two tests, one marked' 0 cut -l tests.lst places.xml
 printf '//place[@type=""]\n//place[@Type="town"]\n/atlas/self::*[@n="2"]\n' > tests.lst
-lines 'kept 0 15'
+lines 'kept 0 15' 'name tests 14'
 try 'tests that none passes' 0 cut --count -l tests.lst places.xml
+
+# Name tests, as sums: for each step how many elements it is tried at, over the whole document.
+# tests NAME KEPT NUMBER DOCUMENT LINES..: what --count prints by a list of these lines.
+tests() {
+    name=$1
+    lines "kept $2" "name tests $3"
+    document=$4
+    shift 4
+    printf '%s\n' "$@" > count.lst
+    try "name tests: $name" 0 cut --count -l count.lst "$document"
+}
+printf '<g><p><v/></p><q><v><w/></v></q></g>' > six.xml
+tests 'a path from the root' '2 21' $((1 + 2)) six.xml '/g/*'
+tests 'a name that fits nowhere' '0 7' $((1 + 2)) six.xml '/g/x'
+tests 'no way past the first step' '0 7' 1 six.xml '/x/*/*'
+tests 'a child of any v' '1 28' $((6 + 1)) six.xml '//v/w'
+tests 'the same line three times, once marked' '1 25' $((3 * (6 + 1))) six.xml '//v/w' '//v/w' '//v/w #'
+tests 'inside a kept entry' '2 25' $((6 + 6 + 1)) six.xml '//q #' '//v/w'
+tests 'the test of an attribute is none' '0 7' $((6 + 1)) six.xml '//v/w[@k="x"]'
+tests 'self, tried where the step before ends' '2 35' $((6 + 6)) six.xml '//*/self::v'
+tests 'descendant-or-self, tried there and below' '1 28' $((6 + 3)) six.xml '//v/descendant-or-self::w'
+: > count.lst
+lines 'kept 0 7' 'name tests 0'
+try 'name tests: an empty list' 0 cut --count -l count.lst six.xml
+
+# The sample gazetteer has 26 elements, 7 of them children of its provinces and 9 of its communes.
+lines 'kept 8 289' "name tests $((4 * 26 + 9))"
+try 'the sample by the atlas' 0 cut --count -l "$root/examples/atlas.lst" "$root/examples/gazetteer.xml"
+lines 'kept 6 424' "name tests $((4 * 26 + 7 + 9))"
+try 'the sample by the desk' 0 cut --count -l "$root/examples/desk.lst" "$root/examples/gazetteer.xml"
+tests "the man page's example" '6 273' $((3 * 26 + 9)) "$root/examples/gazetteer.xml" '//commune' '//commune/hamlet' '//lake #'
+
+# A call that is refused shows no name tests.
+printf '<g></v>' > wrong.xml
+says 'wrong.xml:1:4: 7: not well-formed: "</v>": <g> of line 1 is open (offset 3)'
+try 'numbers only, refused' 7 cut --count -l v.lst wrong.xml
 
 # 1
 repeat 8193 / > long.lst

@@ -21,20 +21,24 @@ def members(pairs):
 text = open(sys.argv[1], encoding="utf-8", newline="").read()
 assert text.endswith("\n") and text.count("\n") == 1
 o = json.loads(text, object_pairs_hook=members, parse_constant=lambda c: 1 / 0)
-assert all(type(o[k]) is int for k in ("number", "second", "third"))
+assert all(type(o[k]) is int for k in ("number", "second", "third", "name_tests"))
+assert o["number"] == 0 or o["name_tests"] == 0
 assert type(o["meaning"]) is str and (o["number"] == 0 or type(o["file"]) is str)
 END
 }
 
-json 'numbers only' 0 '{"number":0,"second":21,"third":1,"meaning":"written"}' cut -l v.lst b.xml --count --json
-json 'to a file' 0 '{"number":0,"second":21,"third":1,"meaning":"written"}' cut -l v.lst b.xml --json -o json.xml
+json 'numbers only' 0 '{"number":0,"second":21,"third":1,"name_tests":3,"meaning":"written"}' cut -l v.lst b.xml --count --json
+json 'to a file' 0 '{"number":0,"second":21,"third":1,"name_tests":3,"meaning":"written"}' cut -l v.lst b.xml --json -o json.xml
 holds 'json: to a file' json.xml '<g><p><v></v></p></g>'
-json 'check' 0 '{"number":0,"second":0,"third":0,"meaning":"sound"}' check --json b.xml
-json 'a list too long' 1 '{"number":1,"second":0,"third":0,"meaning":"list over 8,192 bytes","file":"long.lst"}' \
+json 'the sample' 0 '{"number":0,"second":289,"third":8,"name_tests":113,"meaning":"written"}' \
+    cut -l "$root/examples/atlas.lst" "$root/examples/gazetteer.xml" --count --json
+json 'an empty list' 0 '{"number":0,"second":7,"third":0,"name_tests":0,"meaning":"written"}' cut -l none.lst b.xml --count --json
+json 'check' 0 '{"number":0,"second":0,"third":0,"name_tests":0,"meaning":"sound"}' check --json b.xml
+json 'a list too long' 1 '{"number":1,"second":0,"third":0,"name_tests":0,"meaning":"list over 8,192 bytes","file":"long.lst"}' \
     cut -l long.lst b.xml --count --json
 # refusal NUMBER SECOND MEANING FILE PLACE THERE HINT: the line of a refusal with a place.
 refusal() {
-    printf '{"number":%s,"second":%s,"third":0,"meaning":"%s","file":"%s",%s,"there":"%s","hint":"%s"}' "$@"
+    printf '{"number":%s,"second":%s,"third":0,"name_tests":0,"meaning":"%s","file":"%s",%s,"there":"%s","hint":"%s"}' "$@"
 }
 step='a step is /, //, /self:: or /descendant-or-self::, then * or a name'
 tag='a tag is <, a name, attributes as name=\"value\", none twice, and > or />; a value has no <'
@@ -62,7 +66,7 @@ json 'the end' 7 "$(refusal 7 0 'not well-formed' 'standard input' '"offset":0,"
 
 # Where the cut goes to the standard output, or would go there, the numbers go to the standard error.
 prints '<g><p><v></v></p></g>'
-says '{"number":0,"second":21,"third":1,"meaning":"written"}'
+says '{"number":0,"second":21,"third":1,"name_tests":3,"meaning":"written"}'
 try 'json: beside the cut' 0 cut -l v.lst b.xml --json
 says "$(refusal 7 3 'not well-formed' bad.xml "$place" '</v>' "$open")"
 try 'json: beside no cut' 7 cut -l v.lst bad.xml --json

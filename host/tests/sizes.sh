@@ -7,7 +7,7 @@ filled 16777216 > big.xml
 try '16,777,216 bytes' 0 check big.xml
 try '16,777,216 bytes, cut' 0 cut -l whole.lst big.xml -o cut.xml
 same '16,777,216 bytes, cut' big.xml cut.xml
-lines 'kept 1 16777216'
+lines 'kept 1 16777216' 'name tests 1'
 input=big.xml
 try '16,777,216 bytes on standard input' 0 cut -l whole.lst --count
 
@@ -33,7 +33,7 @@ rm -f big.xml cut.xml
 
 # Four bytes are written as seven: the most that a cut grows. 3 + 4 * 4,194,302 + 4 bytes.
 { printf '<g>' && yes '<v/>' | head -n 4194302 | tr -d '\n' && printf '</g>'; } > wide.xml
-lines 'kept 4194302 29360121'
+lines 'kept 4194302 29360121' 'name tests 4194303'
 try 'the longest cut' 0 cut --count -l v.lst wide.xml
 
 # A fault on a far line.

@@ -51,7 +51,7 @@ explains() {
     [ "${printed#"$1: $2"}" != "$printed" ] || fault "explain $1" "$printed"
     [ "$(wc -l < "$notes/printed")" = "$3" ] || fault "explain $1" 'number of lines'
 }
-explains 0 'written.' 3
+explains 0 'written.' 5
 explains 1 'the list has over 8,192 bytes.' 3
 explains 2 'a line of the list is malformed;' 6
 explains 3 'a line of the list is too large, or it is line 33;' 4
@@ -60,15 +60,19 @@ explains 5 'the document is not in UTF-8,' 4
 explains 6 'the document has a type, <!DOCTYPE;' 3
 explains 7 'the document is not well-formed XML 1.0;' 4
 explains 8 'the document is over a size;' 3
-explains 9 'the output is shorter than the cut;' 3
+explains 9 'the output is shorter than the cut;' 4
 explains 10 'the declaration of the document names another encoding than UTF-8;' 6
 explains 64 'wrong usage.' 2
 explains 66 "the list or the document can't be opened, or is a directory." 2
 explains 73 "the output can't be created." 3
 explains 74 'reading or writing failed' 2
 
-lines 'choughbell 0.1.0'
+lines 'choughbell 0.2.0'
 try 'version' 0 --version
+# The man page and the header have the same.
+ran=$((ran + 2))
+grep -q '^\.TH CHOUGHBELL 1 [0-9-]* "choughbell 0\.2\.0"' "$root/host/man/choughbell.1" || fault 'version' 'of the man page'
+head -n 1 "$root/host/include/choughbell.h" | grep -q 'choughbell 0\.2\.0' || fault 'version' 'of the header'
 start --help > help 2>&1 || fault 'help' 'status'
 [ "$(head -n 1 help)" = 'choughbell cuts XML by a list of paths, by a filter that is proved.' ] || fault 'help' "$(head -n 1 help)"
 for words in '--help' 'help' '-h' 'cut --help' 'check -h' 'explain --help'; do
