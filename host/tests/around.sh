@@ -1,14 +1,14 @@
-# What is beside the command: the header with the examples in C, and what `make install` puts where.
-for c in cut judge; do
+# What is beside the command: the header with the examples in C, the stack of a call, and what `make install` puts where.
+for c in example/cut example/judge tests/stack; do
     ran=$((ran + 1))
     # shellcheck disable=SC2086
-    ${CC:-cc} -std=c99 -Wall -Wextra -Werror -I "$root/host/include" -o "example-$c" \
-        "$root/host/example/$c.c" "$root/target/staticlib/libexported.a" || fault "the example $c.c" 'does not compile'
+    ${CC:-cc} -std=c99 -Wall -Wextra -Werror -I "$root/host/include" -o "c-$(basename $c)" \
+        "$root/host/$c.c" "$root/target/staticlib/libexported.a" || fault "$c.c" 'does not compile'
 done
 
 # judge NAME STATUS DOCUMENT: a run of the example of a document alone.
 judge() {
-    program_before=$program program=$room/example-judge
+    program_before=$program program=$room/c-judge
     try "C: $1" "$2" "$3"
     program=$program_before
 }
@@ -38,7 +38,7 @@ judge 'no bytes' 7 nothing.xml
 
 # example NAME STATUS WORDS..: a run of the example of a cut.
 example() {
-    program_before=$program program=$room/example-cut
+    program_before=$program program=$room/c-cut
     try "C: $1" "$2" "$3" "$4" ${5+"$5"}
     program=$program_before
 }
@@ -74,6 +74,17 @@ says 'refused 7 3'
 example 'not well-formed' 7 v.lst bad.xml
 says 'refused 10 0'
 example 'another encoding' 10 v.lst latin.xml
+
+# The most lines and steps, each with a test, and elements at all levels, with values and references: the stack that the header says.
+value='k="&#x78;"'
+repeat 32 "//*$(repeat 15 /self::*)[@k=\"x\"] #
+" > most.lst
+inner="<?p é?><![CDATA[é]]><g $value/>"
+{ echo '<?xml version="1.0"?><!-- é -->' && repeat 63 "<g $value>é&amp;" && echo "$inner" && repeat 63 '</g>'; } > most.xml
+program_before=$program program=$room/c-stack
+lines 'answer 0: less than 98304 bytes of stack'
+try 'C: the stack of a call' 0 most.lst most.xml
+program=$program_before
 
 # put WHERE WORDS..: `make install` or `make uninstall`, quietly.
 put() { MAKEFLAGS='' make -s -C "$root" "$@" > "$notes/printed" 2>&1 || fault "make $*" "$(tr '\n' '~' < "$notes/printed")"; }

@@ -1,0 +1,60 @@
+/* stack LIST DOCUMENT: whether a cut takes less stack than the header says. The call runs on a stack of its own, which is painted before;
+ * afterwards the paint that is left tells how deep it went. Prints the number and that it was less; the exit status is 0 where it was. */
+#define _GNU_SOURCE
+#include "choughbell.h"
+
+#include <stdio.h>
+#include <stdlib.h>
+#include <string.h>
+#include <ucontext.h>
+
+#define SAID (96 * 1024)
+#define PAINTED (1024 * 1024)
+
+static uint8_t stack[PAINTED], list[8193], doc[32768], out[2 * sizeof doc];
+static size_t list_len, doc_len;
+static struct choughbell_four_numbers numbers;
+
+static size_t file(const char *name, uint8_t *bytes, size_t limit)
+{
+    FILE *f = fopen(name, "rb");
+    if (f == NULL) {
+        perror(name);
+        exit(66);
+    }
+    size_t length = fread(bytes, 1, limit, f);
+    fclose(f);
+    return length;
+}
+
+static void call(void)
+{
+    numbers = choughbell_cut(list, list_len, doc, doc_len, out, sizeof out);
+}
+
+int main(int argc, char **argv)
+{
+    if (argc != 3)
+        return 64;
+    list_len = file(argv[1], list, sizeof list);
+    doc_len = file(argv[2], doc, sizeof doc);
+    memset(stack, 0xA5, PAINTED);
+    ucontext_t here, there;
+    getcontext(&there);
+    there.uc_stack.ss_sp = stack;
+    there.uc_stack.ss_size = PAINTED;
+    there.uc_link = &here;
+    makecontext(&there, call, 0);
+    swapcontext(&here, &there);
+
+    size_t left = 0;
+    while (left < PAINTED && stack[left] == 0xA5)
+        left++;
+    size_t taken = PAINTED - left;
+    if (taken >= SAID) {
+        printf("answer %llu: %zu bytes of stack\n", (unsigned long long)numbers.number, taken);
+        return 1;
+    }
+    printf("answer %llu: less than %d bytes of stack\n", (unsigned long long)numbers.number, SAID);
+    return 0;
+}
