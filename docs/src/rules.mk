@@ -5,9 +5,9 @@ RUST = docs/src
 .PHONY: expected cases peers wrong trials big fuzz suite speed parsers
 
 # The outputs that programs are held to are those of ordinary Rust, which shares nothing with the Rattle source. They are made again, the
-# packed cases too, and compared; and the suite's verdicts are held against the second program.
+# packed cases too, and compared; the suite's verdicts are held against the second program, and the baseline against the packed answers.
 VECTORS = crates/vectors
-expected: $(MADE)/vectors
+expected: $(MADE)/vectors $(MADE)/baseline
 	rustc --edition 2021 -O -o $(MADE)/expected $(RUST)/expected/main.rs
 	$(MADE)/expected cases | cmp - crates/cases/stdout
 	$(MADE)/expected walks | cmp - crates/walks/stdout
@@ -17,6 +17,7 @@ expected: $(MADE)/vectors
 	for pack in suite named made; do cmp $(MADE)/packs/$$pack $(VECTORS)/data/$$pack || exit 1; done
 	$(MADE)/vectors answers $(VECTORS)/data | cmp - $(VECTORS)/stdout
 	$(MADE)/vectors verdicts
+	$(MADE)/baseline $(VECTORS)/data $(VECTORS)/stdout
 
 cases: $(MADE)/vectors
 	$(MADE)/vectors pack $(VECTORS)/data
@@ -32,6 +33,14 @@ $(MADE)/libvectors.rlib: $(MADE)/libsecond.rlib
 
 $(MADE)/vectors $(MADE)/peers: $(MADE)/%: $(MADE)/libvectors.rlib
 	rustc --edition 2021 -O -L $(MADE) --extern second=$(MADE)/libsecond.rlib --extern vectors=$< -o $@ $(RUST)/$*/main.rs
+
+# The filter in ordinary Rust that the proved one is timed beside.
+$(MADE)/libbaseline.rlib: rust $(wildcard $(RUST)/baseline/*.rs)
+	@mkdir -p $(MADE)
+	rustc --edition 2021 -C opt-level=3 -C codegen-units=1 --crate-type rlib --crate-name baseline -o $@ $(RUST)/baseline/lib.rs
+
+$(MADE)/baseline: $(MADE)/libbaseline.rlib $(MADE)/libvectors.rlib
+	rustc --edition 2021 -O -L $(MADE) --extern baseline=$< --extern vectors=$(MADE)/libvectors.rlib -o $@ $(RUST)/baseline/main.rs
 
 # Outside judges, on the documents of the packs.
 peers: $(MADE)/peers

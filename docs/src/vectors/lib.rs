@@ -2,7 +2,7 @@
 //! that hold cases, in `pack`, and a case asked of a program, with its digest, in `asked` and `crc`.
 
 pub mod asked;
-mod crc;
+pub mod crc;
 pub mod made;
 pub mod pack;
 pub mod suite;
