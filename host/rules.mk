@@ -25,9 +25,19 @@ x86:
 	@{ $(X86_MISSING); } > $(MADE)/found 2>&1 || { dpkg --add-architecture amd64 && $(call fetch,$(X86_PACKAGES)); } || { \
 	    echo 'missing: what compiles for x86-64 and runs it. Install the Debian packages $(X86_PACKAGES).'; exit 1; }
 
-# The proved static library, and the crate over it that Rust calls.
-library: rt x86
-	@mkdir -p target/log $(MADE)/x86 && rt staticlib exported > target/log/library 2>&1 || { cat target/log/library; exit 1; }
+# The proved library: for the machine at hand, and the static library for x86-64 that is made on the way. It is made again when source or
+# proofs have changed.
+NATIVE = target/native
+$(NATIVE)/libexported.a: host/native.sh host/native.c host/include/choughbell.h $(shell find crates -name '*.rt' -o -name '*.antt') | rt
+	@mkdir -p target/log && host/native.sh $(NATIVE) > target/log/library 2>&1 || { cat target/log/library; exit 1; }
+
+# The crate over it that Rust calls, for the machine at hand and for x86-64.
+$(MADE)/libchoughbell.rlib: $(NATIVE)/libexported.a $(wildcard host/src/*.rs) | rust
+	@mkdir -p $(MADE)
+	rustc --edition 2021 -O --crate-type rlib --crate-name choughbell -L $(NATIVE) -o $@ host/src/lib.rs
+
+library: x86 $(NATIVE)/libexported.a
+	@mkdir -p $(MADE)/x86
 	$(X86_RUSTC) --edition 2021 -O --crate-type rlib --crate-name choughbell -L target/staticlib \
 	    -o $(MADE)/x86/libchoughbell.rlib host/src/lib.rs
 

@@ -2,7 +2,7 @@
 
 RUST = docs/src
 
-.PHONY: expected cases peers wrong trials big fuzz suite speed parsers
+.PHONY: expected cases peers wrong trials big fuzz suite speed count parsers
 
 # The outputs that programs are held to are those of ordinary Rust, which shares nothing with the Rattle source. They are made again, the
 # packed cases too, and compared; the suite's verdicts are held against the second program, and the baseline against the packed answers.
@@ -35,7 +35,7 @@ $(MADE)/vectors $(MADE)/peers: $(MADE)/%: $(MADE)/libvectors.rlib
 	rustc --edition 2021 -O -L $(MADE) --extern second=$(MADE)/libsecond.rlib --extern vectors=$< -o $@ $(RUST)/$*/main.rs
 
 # The filter in ordinary Rust that the proved one is timed beside.
-$(MADE)/libbaseline.rlib: rust $(wildcard $(RUST)/baseline/*.rs)
+$(MADE)/libbaseline.rlib: $(wildcard $(RUST)/baseline/*.rs) | rust
 	@mkdir -p $(MADE)
 	rustc --edition 2021 -C opt-level=3 -C codegen-units=1 --crate-type rlib --crate-name baseline -o $@ $(RUST)/baseline/lib.rs
 
@@ -76,23 +76,29 @@ trials: library
 	$(X86_RUSTC) --edition 2021 -O -L $(MADE)/x86 --extern second=$(MADE)/x86/libsecond.rlib --extern vectors=$(MADE)/x86/libvectors.rlib \
 	    --extern choughbell=$(MADE)/x86/libchoughbell.rlib -o $(TRIALS) $(RUST)/trials/main.rs
 
-# The crates' source, read as Rust, is timed on every machine. On x86-64, for which the toolchain makes code, the static library is too.
-# UNCHECKED= leaves index checks in. One unit, so that what is inlined does not go by modules.
+# The library as the toolchain compiles it, for the machine at hand, and the crates' source, read as Rust. UNCHECKED= leaves index checks in
+# there. One unit, so that what is inlined does not go by modules.
 TIMED = utf8 points blocks chars paths lookup compiled matcher scans plain references values instructions tags items normal attribute \
     tests document writer output passes cutter exported
 UNCHECKED = --unchecked
 WHAT = characters matcher cut
-ifeq ($(shell uname -m),x86_64)
-LINKED = --cfg linked -L target/staticlib -l static=exported
-endif
 
-speed: $(if $(LINKED),toolchain,rust) parsers
+speed: rust parsers $(MADE)/libchoughbell.rlib $(MADE)/libbaseline.rlib
+	@rm -f $(MADE)/figures
 	rustc --edition 2021 -O -o $(MADE)/source $(RUST)/speed/source.rs
 	$(MADE)/source $(UNCHECKED) $(TIMED) > $(MADE)/source.rs
-	$(if $(LINKED),rt staticlib exported)
 	@for part in $(WHAT); do \
-	    rustc --edition 2021 -O -C codegen-units=1 --cfg $$part $(LINKED) $$(cat $(MADE)/parsers) -o $(MADE)/$$part $(RUST)/speed/main.rs && \
-	    $(MADE)/$$part || exit 1; done
+	    rustc --edition 2021 -O -C codegen-units=1 --cfg $$part $$(cat $(MADE)/parsers) --extern choughbell=$(MADE)/libchoughbell.rlib \
+	        --extern baseline=$(MADE)/libbaseline.rlib -o $(MADE)/$$part $(RUST)/speed/main.rs && \
+	    $(MADE)/$$part $(MADE)/figures || exit 1; done
+
+# Instructions a byte, by Debian's valgrind.
+count: rust parsers $(MADE)/libchoughbell.rlib $(MADE)/libbaseline.rlib
+	@command -v valgrind > $(MADE)/found || $(call fetch,valgrind) || { \
+	    echo 'missing: valgrind, which counts instructions. Install the Debian package valgrind.'; exit 1; }
+	rustc --edition 2021 -O $$(cat $(MADE)/parsers) --extern choughbell=$(MADE)/libchoughbell.rlib \
+	    --extern baseline=$(MADE)/libbaseline.rlib -o $(MADE)/count $(RUST)/speed/count.rs
+	$(RUST)/speed/count.sh $(MADE)/count $$(sed -n 's/^--cfg \(expat\|libxml\) .*/\1/p' $(MADE)/parsers | sed 's/libxml/libxml2/')
 
 # Other parsers, to be timed beside it. One that is missing is installed where that can be done; else it is said, and its rows stay out.
 parsers:

@@ -2,8 +2,8 @@
 
 use crate::marks::word_at;
 
-/// The first eight bytes of a name, zeros where it has fewer. A document's bytes behind it are read along, where there are any, since a word
-/// is read faster than its bytes.
+/// The first eight bytes of a name, zeros where it has fewer. A document's bytes behind it are read along, where there are any, since a
+/// word is read faster than its bytes.
 #[inline(always)]
 fn head(doc: &[u8], from: usize, length: usize) -> u64 {
     match word_at(doc, from) {

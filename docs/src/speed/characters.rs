@@ -17,12 +17,8 @@ const TEXTS: [(&str, &str); 5] = [
 /// What a check is called, and what it answers: how many bytes at the front are well-formed, or characters.
 type Check = (&'static str, fn(&[u8]) -> usize);
 
-/// The library's: the source read as Rust, and the compiled one where it is linked.
-const OURS: &[Check] = &[
-    ("ours", said),
-    #[cfg(linked)]
-    ("ours, linked", crate::linked::check),
-];
+/// The library's: the source read as Rust, and as the toolchain compiles it.
+const OURS: [Check; 2] = [("as Rust", said), ("ours", crate::linked::check)];
 
 /// As the exported function says it.
 fn said(s: &[u8]) -> usize {
@@ -56,7 +52,6 @@ pub fn measure() {
         let rates = rates(piece, &checks);
         print!("{text:<20}");
         rates.iter().for_each(|rate| print!("{rate:>14.0}"));
-        // The ratios are those of the last of ours: the linked one where it is there.
         let ours = rates[OURS.len() - 1];
         println!("{:>10.2}{:>10.2}", ours / rates[OURS.len()], ours / rates[OURS.len() + 1]);
     }

@@ -1,111 +1,99 @@
-// The whole cut of a gazetteer by five lists, beside a copy of its bytes and beside other parsers, which check that it is well-formed; and
-// parts of it. A cut into no room measures and does not write. Where expat is there, cuts are first compared with that of tree.rs, which
-// knows child and descendant steps alone; the cut by steps that stay is that by the same list without them.
+// The whole cut of a gazetteer by five lists: by the library as the toolchain compiles it, by its source read as Rust and by the baseline,
+// beside other parsers, which check that it is well-formed, and a copy of its bytes; and parts of the cut. Cuts are first compared with
+// each other and, where expat is there, with that of tree.rs, which knows child and descendant steps alone; the cut by steps that stay is
+// that by the same list without them.
+use crate::figures::Figures;
+use crate::filters::{agreed, library, room, FILTERS};
 use crate::gazetteer;
 use crate::lists;
-use crate::ours::cutter::{cut, Answer};
-use crate::ours::document::judge::{judge, Judged};
-use crate::ours::exported::choughbell_characters;
-use crate::rounds::{times, work, Work, ROUNDS};
+use crate::parsers::{agree, COUNTING, EXPAT, LIBXML, PARSERS};
+use crate::rounds::{cleared, medians, work, Work, ROUNDS};
 use std::hint::black_box;
 
-const COPY: &str = "copy of the bytes";
-const EXPAT: &str = "expat, no handlers";
-const LIBXML: &str = "libxml2, no handlers";
-
-/// The cut and the number of elements selected.
-fn cut_of(list: &str, doc: &[u8]) -> (Vec<u8>, usize) {
-    let Answer::Short(needed) = cut(list.as_bytes(), doc, &mut []) else { panic!("not measured: {list}") };
-    let mut out = vec![0xFF; needed];
-    let Answer::Written { length, selected } = cut(list.as_bytes(), doc, &mut out) else { panic!("not written: {list}") };
-    assert_eq!(length, needed);
-    (out, selected)
-}
-
 #[cfg(expat)]
-fn compare(list: &str, doc: &[u8], (out, selected): (&[u8], usize)) {
+fn compare(list: &str, doc: &[u8], (out, selected): &(Vec<u8>, u64)) {
     let (expected, count) = crate::tree::cut(list, doc);
-    assert!(out == expected, "another cut than that of ordinary Rust");
-    assert_eq!(selected, count);
+    assert!(*out == expected, "another cut than that of ordinary Rust");
+    assert_eq!(*selected, count as u64);
 }
 
 #[cfg(not(expat))]
-fn compare(_: &str, _: &[u8], _: (&[u8], usize)) {
-    println!("not compared with ordinary Rust's, which needs expat:");
+fn compare(_: &str, _: &[u8], _: &(Vec<u8>, u64)) {
+    println!("not compared with the cut of a tree, which needs expat:");
 }
 
-type Row<'a> = (String, Work<'a>);
-
-/// A cut that is written, and the same that is only measured; compared first.
-fn compared<'a>(what: &str, list: &'a str, doc: &'a [u8]) -> [Row<'a>; 2] {
-    let (out, selected) = cut_of(list, doc);
-    compare(list, doc, (&out, selected));
-    rows_of(what, list, doc)
-}
-
-fn rows_of<'a>(what: &str, list: &'a str, doc: &'a [u8]) -> [Row<'a>; 2] {
-    let (mut out, selected) = cut_of(list, doc);
-    println!("{what}: {} paths, {} elements selected, {} bytes written", list.lines().count(), selected, out.len());
-    let written = work(move || matches!(cut(black_box(list.as_bytes()), black_box(doc), &mut out), Answer::Written { .. }));
-    let measured = work(move || matches!(cut(black_box(list.as_bytes()), black_box(doc), &mut []), Answer::Short(_)));
-    [(what.to_string(), written), (format!("{what}, no room"), measured)]
-}
-
-/// Other parsers, as far as they are there.
-#[allow(unused_mut, unused_variables)]
-fn others(doc: &[u8]) -> Vec<Row<'_>> {
-    let mut rows: Vec<Row> = Vec::new();
-    #[cfg(expat)]
-    {
-        use crate::expat::{check, count};
-        assert!(check(doc));
-        rows.push((EXPAT.to_string(), work(move || check(black_box(doc)))));
-        rows.push(("expat, counting".to_string(), work(move || count(black_box(doc)))));
+/// The lists with what they are called; compared, and said what they select.
+fn compared(doc: &[u8]) -> Vec<(&'static str, String)> {
+    let lists = vec![
+        ("32 paths of 8 steps", lists::long()),
+        ("atlas", lists::ATLAS.to_string()),
+        ("desk", lists::DESK.to_string()),
+        ("32 paths, 7 steps that stay", lists::staying()),
+        ("32 paths, each with a test", lists::tested()),
+    ];
+    let cuts: Vec<_> = lists.iter().map(|(_, list)| agreed(list, doc)).collect();
+    (0..3).for_each(|i| compare(&lists[i].1, doc, &cuts[i]));
+    assert!(cuts[3] == cuts[0]);
+    for ((what, list), (out, selected)) in lists.iter().zip(&cuts) {
+        println!("{what}: {} paths, {selected} elements selected, {} bytes written", list.lines().count(), out.len());
     }
-    #[cfg(libxml)]
-    {
-        use crate::libxml::{check, count};
-        assert!(check(doc));
-        #[cfg(expat)]
-        assert_eq!(count(doc), crate::expat::count(doc));
-        rows.push((LIBXML.to_string(), work(move || check(black_box(doc)))));
-        rows.push(("libxml2, counting".to_string(), work(move || count(black_box(doc)))));
+    lists
+}
+
+/// Everything but the cuts, with its name.
+fn beside(doc: &[u8]) -> Vec<(&'static str, Work<'_>)> {
+    let mut copied = vec![0; doc.len()];
+    let mut rows = vec![
+        ("copy of the bytes", work(move || black_box(&mut copied).copy_from_slice(black_box(doc)))),
+        ("ours, characters alone", work(|| crate::linked::check(black_box(doc)))),
+        ("ours, document alone", work(|| choughbell::check(black_box(doc)).is_ok())),
+        ("ours, 8 steps, no room", work(|| library(black_box(lists::long().as_bytes()), black_box(doc), &mut []))),
+    ];
+    for &(what, check) in PARSERS.iter().chain(COUNTING) {
+        rows.push((what, work(move || check(black_box(doc)))));
     }
     rows
 }
 
-pub fn measure() {
-    let (text, long, staying, tested) = (gazetteer::document(), lists::long(), lists::staying(), lists::tested());
+/// How many times as fast the library is, where what it is compared with was timed.
+fn times_as_fast(ours: f64, theirs: Option<f64>) -> String {
+    theirs.map_or("missing".to_string(), |theirs| format!("{:.2}", theirs / ours))
+}
+
+pub fn measure(figures: &mut Figures) {
+    let text = gazetteer::document();
     let doc = text.as_bytes();
     let elements = text.matches("</").count() + text.matches("/>").count();
     let high = doc.iter().filter(|&&b| b >= 0x80).count();
     println!("The cut of a gazetteer of {} bytes, {high} of them not ASCII, with {elements} elements", doc.len());
-    assert!(matches!(judge(doc), Judged::Sound));
-    let mut copied = vec![0; doc.len()];
-    let mut rows: Vec<Row> = vec![
-        (COPY.to_string(), work(move || black_box(&mut copied).copy_from_slice(black_box(doc)))),
-        ("characters alone".to_string(), work(|| choughbell_characters(black_box(doc)))),
-        ("document alone, judge".to_string(), work(|| matches!(judge(black_box(doc)), Judged::Sound))),
-    ];
-    rows.extend(compared("cut, 8 steps a path", &long, doc));
-    assert!(cut_of(&staying, doc) == cut_of(&long, doc));
-    rows.extend(rows_of("cut, and 7 that stay", &staying, doc));
-    rows.extend(rows_of("cut, 8 steps and a test", &tested, doc));
-    rows.extend(compared("cut, atlas", lists::ATLAS, doc));
-    rows.extend(compared("cut, desk", lists::DESK, doc));
-    rows.extend(others(doc));
-    let (names, mut works): (Vec<String>, Vec<Work>) = rows.into_iter().unzip();
-    let times = times(&mut works);
-    let median = |row: usize| times[row][ROUNDS / 2];
-    let ratio = |row: usize, what: &str| match names.iter().position(|name| name == what) {
-        Some(other) => format!("{:.2}", median(row) / median(other)),
-        None => "missing".to_string(),
-    };
-    println!("\nMedians of {ROUNDS} rounds; the time as a multiple of that of the copy, and of other parsers with no handlers");
-    println!("{:<30}{:>8}{:>10}{:>8}{:>9}{:>9}{:>9}", "what", "ms", "best ms", "GB/s", "copy", "expat", "libxml2");
-    for (row, what) in names.iter().enumerate() {
-        let rate = doc.len() as f64 / median(row) / 1e9;
-        print!("{what:<30}{:>8.2}{:>10.2}{rate:>8.3}", median(row) * 1e3, times[row][0] * 1e3);
-        println!("{:>9}{:>9}{:>9}", ratio(row, COPY), ratio(row, EXPAT), ratio(row, LIBXML));
+    agree(doc);
+    let lists = compared(doc);
+    let (names, mut works): (Vec<&str>, Vec<Work>) = beside(doc).into_iter().unzip();
+    for (_, list) in &lists {
+        works.extend(FILTERS.map(|(_, cut)| cleared(room(doc), move |out| cut(black_box(list.as_bytes()), black_box(doc), out))));
+    }
+    let seconds = medians(&mut works);
+    let of = |what: &str| names.iter().position(|&name| name == what).map(|row| seconds[row]);
+    println!("\nMedians of {ROUNDS} rounds, each buffer cleared before each cut");
+    println!("{:<30}{:>10}{:>10}", "what", "ms", "GB/s");
+    for (what, seconds) in names.iter().zip(&seconds) {
+        println!("{what:<30}{:>10.2}{:>10.3}", seconds * 1e3, doc.len() as f64 / seconds / 1e9);
+    }
+    println!("\nCuts, ms; and how many times the throughput of the baseline, expat and libxml2 (no handlers) ours has");
+    println!("{:<30}{:>10}{:>10}{:>10}{:>10}{:>8}{:>9}", "list", "ours", "as Rust", "baseline", "baseline", "expat", "libxml2");
+    for ((what, _), cuts) in lists.iter().zip(seconds[names.len()..].chunks(FILTERS.len())) {
+        let [expat, libxml] = [of(EXPAT), of(LIBXML)].map(|theirs| times_as_fast(cuts[0], theirs));
+        print!("{what:<30}{:>10.2}{:>10.2}{:>10.2}", cuts[0] * 1e3, cuts[1] * 1e3, cuts[2] * 1e3);
+        println!("{:>10}{expat:>8}{libxml:>9}", times_as_fast(cuts[0], Some(cuts[2])));
+    }
+    let shown = lists.iter().zip(seconds[names.len()..].chunks(FILTERS.len())).take(3);
+    shown.for_each(|((what, _), cuts)| add(figures, what, doc.len(), cuts, &of));
+}
+
+/// The bars of a group: ours, the baseline, the parsers.
+fn add(figures: &mut Figures, list: &str, bytes: usize, cuts: &[f64], of: &dyn Fn(&str) -> Option<f64>) {
+    let parsers = PARSERS.iter().filter_map(|(what, _)| Some((*what, of(what)?)));
+    for (what, seconds) in [("ours", cuts[0]), ("baseline", cuts[2])].into_iter().chain(parsers) {
+        figures.add("A gazetteer of 8 MiB, by list", list, what, bytes as f64 / seconds / 1e6);
     }
 }

@@ -1,6 +1,6 @@
-// A gazetteer of some 8 MiB, the same at each run: places within places, as an editor keeps them, indented, a child on a line. Names have
-// accents; there are positions, counts, notes with references, comments, CDATA sections and instructions. It is well-formed and within
-// document 01's sizes; its elements lie up to twelve deep.
+// A gazetteer of some 8 MiB, or of another size, the same at each run: places within places, as an editor keeps them, indented, a child on
+// a line. Names have accents; there are positions, counts, notes with references, comments, CDATA sections and instructions. It is
+// well-formed and within document 01's sizes; its elements lie up to twelve deep.
 use crate::numbers::Numbers;
 use std::fmt::Write;
 
@@ -24,6 +24,8 @@ const WORDS: [&str; 24] = [
 struct Gazetteer {
     numbers: Numbers,
     text: String,
+    /// From this length on no place begins.
+    size: usize,
 }
 
 impl Gazetteer {
@@ -103,7 +105,7 @@ impl Gazetteer {
         self.about(level + 1);
         if kind + 1 < KINDS.len() && level < DEEPEST {
             for _ in 0..2 + self.numbers.below(3) {
-                if self.text.len() < SIZE {
+                if self.text.len() < self.size {
                     let inner = self.kind_in(kind);
                     self.place(inner, level + 1);
                 }
@@ -115,14 +117,19 @@ impl Gazetteer {
     }
 }
 
-pub fn document() -> String {
-    let mut gazetteer = Gazetteer { numbers: Numbers(3), text: String::with_capacity(SIZE + 65536) };
+/// A little longer than a size: what is open then is closed.
+pub fn of_size(size: usize) -> String {
+    let mut gazetteer = Gazetteer { numbers: Numbers(3), text: String::with_capacity(size + 65536), size };
     gazetteer.line(1, "<?xml version=\"1.0\" encoding=\"UTF-8\"?>");
     gazetteer.line(1, "<!-- places within places -->");
     gazetteer.line(1, "<gazetteer>");
-    while gazetteer.text.len() < SIZE {
+    while gazetteer.text.len() < size {
         gazetteer.place(0, 2);
     }
     gazetteer.line(1, "</gazetteer>");
     gazetteer.text
+}
+
+pub fn document() -> String {
+    of_size(SIZE)
 }

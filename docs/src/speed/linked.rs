@@ -1,4 +1,5 @@
-// What the static library of crates/exported hands out, behind a safe function. Nothing checks the declaration against the Rattle source.
+// The check of characters that the library hands out, behind a safe function: the crate over the library has no call of it. Nothing checks
+// the declaration against the Rattle source.
 
 extern "C" {
     fn choughbell_characters(s: *const u8, len: usize) -> usize;

@@ -1,6 +1,7 @@
 // How fast a part of the library is beside ordinary Rust and other parsers: the check of a document's characters, the matcher, or the whole
-// cut. A program is made for each, since what is inlined goes by what else calls it. The library is here as its source read as Rust, by
-// source.rs; where the static library can be linked, its check is measured too. Other parsers are there where they could be linked.
+// cut. A program is made for each, since what is inlined goes by what else calls it. The library is here as the toolchain compiles it, for
+// the machine at hand, and as its source read as Rust, by source.rs; of the matcher there is the source alone. Other parsers are there
+// where they could be linked.
 #[cfg(characters)]
 mod characters;
 #[cfg(cut)]
@@ -8,10 +9,18 @@ mod cutting;
 #[cfg(all(cut, expat))]
 mod expat;
 #[cfg(cut)]
+mod figures;
+#[cfg(cut)]
+mod filters;
+#[cfg(cut)]
+mod further;
+#[cfg(cut)]
 mod gazetteer;
+#[cfg(cut)]
+mod kinds;
 #[cfg(all(cut, libxml))]
 mod libxml;
-#[cfg(all(characters, linked))]
+#[cfg(any(characters, cut))]
 mod linked;
 #[cfg(cut)]
 mod lists;
@@ -22,6 +31,8 @@ mod matching;
 mod numbers;
 #[path = "../../../target/rust/source.rs"]
 mod ours;
+#[cfg(cut)]
+mod parsers;
 #[cfg(matcher)]
 mod places;
 #[cfg(any(characters, all(cut, expat)))]
@@ -36,13 +47,22 @@ mod steps;
 #[cfg(all(cut, expat))]
 mod tree;
 
+// It brings the library along, of which linked.rs calls a function.
+#[cfg(any(characters, cut))]
+extern crate choughbell;
+
 fn main() {
     let checks = if ours::INDEX_CHECKS { "in" } else { "out" };
-    println!("\nThe source read as Rust, index checks left {checks}. {} rounds; all that is compared takes turns.", rounds::ROUNDS);
+    println!("\n{} rounds; all that is compared takes turns. In the source read as Rust index checks are left {checks}.", rounds::ROUNDS);
     #[cfg(characters)]
     characters::measure();
     #[cfg(matcher)]
     matching::measure();
     #[cfg(cut)]
-    cutting::measure();
+    {
+        let mut figures = figures::Figures::default();
+        cutting::measure(&mut figures);
+        further::measure(&mut figures);
+        figures.write();
+    }
 }
