@@ -91,6 +91,8 @@ speed: rust parsers $(MADE)/libchoughbell.rlib $(MADE)/libbaseline.rlib
 	    rustc --edition 2021 -O -C codegen-units=1 --cfg $$part $$(cat $(MADE)/parsers) --extern choughbell=$(MADE)/libchoughbell.rlib \
 	        --extern baseline=$(MADE)/libbaseline.rlib -o $(MADE)/$$part $(RUST)/speed/main.rs && \
 	    $(MADE)/$$part $(MADE)/figures || exit 1; done
+	rustc --edition 2021 -O -o $(MADE)/plot $(RUST)/speed/plot.rs
+	@if [ -f $(MADE)/figures ]; then $(MADE)/plot < $(MADE)/figures > $(MADE)/speed.svg && cp $(MADE)/speed.svg docs/speed.svg; fi
 
 # Instructions a byte, by Debian's valgrind.
 count: rust parsers $(MADE)/libchoughbell.rlib $(MADE)/libbaseline.rlib
