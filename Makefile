@@ -1,6 +1,6 @@
 # make run          cuts a sample gazetteer by two lists
 # make test         every check, and last what the toolchain's gate, rt ci, said last: 'N passed, 0 failed'
-# make outside      those of its checks that need Rust, or compilers for x86-64
+# make outside      those of its checks that need Rust or an emulator
 # make runs         the program `cut` on further cases
 #
 # host/rules.mk, the command and the library under it:
@@ -10,7 +10,8 @@
 #
 # docs/src/rules.mk, ordinary Rust that the filter is compared with:
 # make cases        writes the packed cases and their answers anew, by the second program
-# make big          the library, called from Rust, on documents of 16 MiB and about, beside the second program
+# make packs        the library, called from Rust, on the packed cases, beside the second program
+# make big          the same on documents of 16 MiB and about
 # make fuzz         the same on CASES cases of a generator, from SEED on
 # make suite        all 399 files of the W3C's suite that have no document type, which it fetches, by both
 # make wrong        the gate's wrong programs, of which each should answer some packed case otherwise
@@ -35,15 +36,18 @@ test: rt format lines
 	{ rt ci; echo $$? > $$said/status; } | tee $$said/lines && [ "$$(cat $$said/status)" = 0 ] && \
 	crates/cut/runs.sh && $(MAKE) --no-print-directory -s outside && tail -n 1 $$said/lines
 
-# What needs Rust, or compilers for x86-64 and what runs their code. A machine that lacks some of it makes the checks that it can make, and
-# is told at the end what was missing and which were not made.
+# What needs Rust: the expected outputs, made anew; the library for the machine at hand on the packed cases and on big documents, and the
+# command over it. Where the machine is not x86-64, also the toolchain's static library, under an emulator. A machine that lacks some of it
+# makes the checks that it can make, and is told at the end what was missing and which were not made.
+EMULATED = $(if $(filter x86_64,$(shell uname -m)),,x86-packs x86-limits x86-host-tests)
 outside:
 	@made= left= missing=; \
 	there() { $(MAKE) --no-print-directory -s $$1 || { missing="$${missing:+$$missing, }$$2" && false; }; }; \
-	if there rust rustc; then $(MAKE) --no-print-directory -s expected || exit 1; else left=expected; fi; \
-	if ! there x86 'what compiles for x86-64 and runs it'; then left="$$left host-tests big"; \
-	elif there cargo cargo; then made='host-tests big'; \
-	else made=big left="$$left host-tests"; fi; \
+	if there rust rustc; then $(MAKE) --no-print-directory -s expected $(TRIALS) || exit 1; made='packs big'; \
+	else left='expected packs big'; fi; \
+	if there cargo cargo; then made="$$made host-tests"; else left="$$left host-tests"; fi; \
+	if [ -n '$(EMULATED)' ]; then \
+	    if there x86 'what compiles for x86-64 and runs it'; then made="$$made $(EMULATED)"; else left="$$left $(EMULATED)"; fi; fi; \
 	if [ -n "$$made" ]; then $(MAKE) --no-print-directory -s -j2 -O $$made || exit 1; fi; \
 	if [ -n "$$left" ]; then echo "missing: $$missing. So these were not made:" $$left; exit 1; fi
 

@@ -52,5 +52,7 @@ sed -e "$(words datalayout)" -e "$(words triple)" -e 's/ "target-cpu"="x86-64"//
     "$work/x86.ll" > "$work/own.ll"
 "$clang" -O3 -c -fPIC -x ir "$work/own.ll" -o "$work/exported.o"
 cc -std=c99 -Wall -Wextra -Werror -O2 -c -fPIC -I "$here/include" "$here/native.c" -o "$work/native.o"
+names() { nm -g --defined-only "$1" | sed -n 's/.* T \(rattle_\)\{0,1\}choughbell_/choughbell_/p' | sort; }
+[ "$(names "$work/exported.o")" = "$(names "$work/native.o")" ] || { echo 'native.c has other functions than the library'; exit 1; }
 rm -f "$folder/libexported.a"
 ar rcs "$folder/libexported.a" "$work/exported.o" "$work/native.o"

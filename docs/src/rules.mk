@@ -2,7 +2,7 @@
 
 RUST = docs/src
 
-.PHONY: expected cases peers wrong trials big fuzz suite speed count parsers
+.PHONY: expected cases peers wrong packs big fuzz suite x86-packs x86-limits x86-trials speed count parsers
 
 # The outputs that programs are held to are those of ordinary Rust, which shares nothing with the Rattle source. They are made again, the
 # packed cases too, and compared; the suite's verdicts are held against the second program, and the baseline against the packed answers.
@@ -24,14 +24,14 @@ cases: $(MADE)/vectors
 	$(MADE)/vectors answers $(VECTORS)/data > $(VECTORS)/stdout
 
 # Ordinary Rust for this machine: the second program, and the cases with their answers by it.
-$(MADE)/libsecond.rlib: rust $(wildcard $(RUST)/second/*.rs)
+$(MADE)/libsecond.rlib: $(wildcard $(RUST)/second/*.rs) | rust
 	@mkdir -p $(MADE)
 	rustc --edition 2021 -O --crate-type rlib --crate-name second -o $@ $(RUST)/second/lib.rs
 
-$(MADE)/libvectors.rlib: $(MADE)/libsecond.rlib
+$(MADE)/libvectors.rlib: $(MADE)/libsecond.rlib $(wildcard $(RUST)/vectors/*.rs $(RUST)/vectors/*/*.rs)
 	rustc --edition 2021 -O --crate-type rlib --crate-name vectors --extern second=$< -o $@ $(RUST)/vectors/lib.rs
 
-$(MADE)/vectors $(MADE)/peers: $(MADE)/%: $(MADE)/libvectors.rlib
+$(MADE)/vectors $(MADE)/peers: $(MADE)/%: $(MADE)/libvectors.rlib $(wildcard $(RUST)/peers/*.rs)
 	rustc --edition 2021 -O -L $(MADE) --extern second=$(MADE)/libsecond.rlib --extern vectors=$< -o $@ $(RUST)/$*/main.rs
 
 # The filter in ordinary Rust that the proved one is timed beside.
@@ -39,7 +39,7 @@ $(MADE)/libbaseline.rlib: $(wildcard $(RUST)/baseline/*.rs) | rust
 	@mkdir -p $(MADE)
 	rustc --edition 2021 -C opt-level=3 -C codegen-units=1 --crate-type rlib --crate-name baseline -o $@ $(RUST)/baseline/lib.rs
 
-$(MADE)/baseline: $(MADE)/libbaseline.rlib $(MADE)/libvectors.rlib
+$(MADE)/baseline: $(MADE)/libbaseline.rlib $(MADE)/libvectors.rlib $(RUST)/baseline/main.rs
 	rustc --edition 2021 -O -L $(MADE) --extern baseline=$< --extern vectors=$(MADE)/libvectors.rlib -o $@ $(RUST)/baseline/main.rs
 
 # Outside judges, on the documents of the packs.
@@ -54,27 +54,43 @@ wrong: $(MADE)/libvectors.rlib
 	rustc --edition 2021 -O -o $(MADE)/wrong $(RUST)/wrong/main.rs
 	$(MADE)/wrong $(TIMED)
 
-# The static library and the second program in one program for x86-64.
-TRIALS = $(MADE)/x86/trials
+# The library and the second program in one program.
+TRIALS = $(MADE)/trials
 CASES = 1000000
 SEED = 1
-big: trials
-	$(RUN) $(TRIALS) big
+packs: $(TRIALS)
+	$(TRIALS) packs $(VECTORS)/data
 
-fuzz: trials
-	$(RUN) $(TRIALS) fuzz $(CASES) $(SEED)
+big: $(TRIALS)
+	$(TRIALS) big
 
-suite: trials
+fuzz: $(TRIALS)
+	$(TRIALS) fuzz $(CASES) $(SEED)
+
+suite: $(TRIALS)
 	xmlconf/fetch.sh
-	$(RUN) $(TRIALS) suite target/xmlconf
+	$(TRIALS) suite target/xmlconf
 
-trials: library
-	@mkdir -p $(MADE)/x86
+$(TRIALS): $(MADE)/libchoughbell.rlib $(MADE)/libvectors.rlib $(wildcard $(RUST)/trials/*.rs $(RUST)/speed/*.rs)
+	rustc --edition 2021 -O -L $(MADE) --extern second=$(MADE)/libsecond.rlib --extern vectors=$(MADE)/libvectors.rlib \
+	    --extern choughbell=$< -o $@ $(RUST)/trials/main.rs
+
+# The same for x86-64, under the emulator: the packs, and of the big documents those at the limit, since the gazetteer takes longest there.
+X86_TRIALS = $(MADE)/x86/trials
+x86-packs: x86-trials
+	@echo 'by the x86-64 library, under the emulator:'
+	$(RUN) $(X86_TRIALS) packs $(VECTORS)/data
+
+x86-limits: x86-trials
+	@echo 'by the x86-64 library, under the emulator:'
+	$(RUN) $(X86_TRIALS) limits
+
+x86-trials: x86-library
 	$(X86_RUSTC) --edition 2021 -O --crate-type rlib --crate-name second -o $(MADE)/x86/libsecond.rlib $(RUST)/second/lib.rs
 	$(X86_RUSTC) --edition 2021 -O --crate-type rlib --crate-name vectors --extern second=$(MADE)/x86/libsecond.rlib \
 	    -o $(MADE)/x86/libvectors.rlib $(RUST)/vectors/lib.rs
 	$(X86_RUSTC) --edition 2021 -O -L $(MADE)/x86 --extern second=$(MADE)/x86/libsecond.rlib --extern vectors=$(MADE)/x86/libvectors.rlib \
-	    --extern choughbell=$(MADE)/x86/libchoughbell.rlib -o $(TRIALS) $(RUST)/trials/main.rs
+	    --extern choughbell=$(MADE)/x86/libchoughbell.rlib -o $(X86_TRIALS) $(RUST)/trials/main.rs
 
 # The library as the toolchain compiles it, for the machine at hand, and the crates' source, read as Rust. UNCHECKED= leaves index checks in
 # there. One unit, so that what is inlined does not go by modules.

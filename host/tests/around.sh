@@ -3,7 +3,7 @@ for c in example/cut example/judge tests/stack; do
     ran=$((ran + 1))
     # shellcheck disable=SC2086
     ${CC:-cc} -std=c99 -Wall -Wextra -Werror -I "$root/host/include" -o "c-$(basename $c)" \
-        "$root/host/$c.c" "$root/target/staticlib/libexported.a" || fault "$c.c" 'does not compile'
+        "$root/host/$c.c" "$library" || fault "$c.c" 'does not compile'
 done
 
 # judge NAME STATUS DOCUMENT: a run of the example of a document alone.

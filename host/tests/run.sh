@@ -1,12 +1,14 @@
 #!/bin/sh
 # run.sh PROGRAM: runs the command as a user does, and compares status, standard output and standard error with what stands in the parts
-# beside this file, worked out by hand. RUN is what starts x86-64 programs where the machine is another, CC compiles C for x86-64. Prints a
-# line for each run that differs, and how many there were; fails if any differs. This file has how a run is written; the parts the runs.
+# beside this file, worked out by hand. LIBRARY is what the examples in C are linked to; where that is for another machine, RUN starts its
+# programs and CC compiles for it. Prints a line for each run that differs, and how many there were; fails if any differs. This file has
+# how a run is written; the parts the runs.
 set -eu
 here=$(dirname "$(readlink -f "$0")")
 root=$(readlink -f "$here/../..")
 program=$(readlink -f "$1")
 run=${RUN-}
+library=$(readlink -f "${LIBRARY:-$root/target/native/libexported.a}")
 room=$(mktemp -d)
 notes=$(mktemp -d)
 trap 'rm -rf "$room" "$notes"' EXIT

@@ -61,7 +61,7 @@ impl<'a, const N: usize> Filter<'a, N> {
     }
 
     /// All items from a place on, the first of which is no declaration.
-    pub fn run(mut self, from: usize) -> Result<Cut, Refusal> {
+    pub(crate) fn run(mut self, from: usize) -> Result<Cut, Refusal> {
         let mut next = from;
         while next < self.doc.len() {
             next = match self.item(next) {

@@ -36,7 +36,7 @@ pub struct Path<'a> {
 }
 
 /// The paths of a list within its size; or 2 or 3 with the first line at fault.
-pub fn paths(list: &[u8]) -> Result<Vec<Path<'_>>, Refusal> {
+pub(crate) fn paths(list: &[u8]) -> Result<Vec<Path<'_>>, Refusal> {
     let mut paths = Vec::new();
     let mut rest = list;
     while !rest.is_empty() {

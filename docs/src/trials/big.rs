@@ -83,11 +83,16 @@ fn gazetteer() {
     }
 }
 
-pub fn run() {
+/// At the most bytes and about it, and the longest cut.
+pub fn limits() {
     reached();
     sizes();
     ends();
     declared();
+}
+
+pub fn run() {
+    limits();
     name_tests();
     gazetteer();
 }

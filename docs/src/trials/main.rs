@@ -1,11 +1,12 @@
-// The function that the static library exports, beside the second program: the same four numbers, and the same bytes in the whole buffer.
+// The function that the library exports, beside the second program: the same four numbers, and the same bytes in the whole buffer.
 //
-//     big                  documents at the most bytes that one may have and about it, many name tests, and a gazetteer of 8 MiB by several
-//                          lists
+//     packs FOLDER         the packed cases
+//     limits               documents at the most bytes that one may have and about it
+//     big                  these, many name tests, and a gazetteer of 8 MiB by several lists
 //     fuzz CASES [SEED]    so many cases of the generator that makes the pack `made`, from other seeds
 //     suite FOLDER         the W3C's files in a folder: both programs have to give the suite's verdict as well
 //
-// The first two try demand 3 as well, and that the longest cut for its document is reached. The first difference ends the run, and is
+// `big` and `fuzz` try demand 3 as well, and that the longest cut for its document is reached. The first difference ends the run, and is
 // shown.
 mod big;
 mod fuzz;
@@ -22,19 +23,30 @@ mod numbers;
 mod same;
 
 use vectors::asked::Four;
+use vectors::pack::{read, PACKS};
 use vectors::suite::verdicts;
 
 fn main() {
     let args: Vec<String> = std::env::args().skip(1).collect();
     let number = |i: usize, default: u64| args.get(i).map_or(default, |a| a.parse().expect("a number"));
     match args.first().map(String::as_str) {
+        Some("packs") if args.len() == 2 => packs(&args[1]),
+        Some("limits") => big::limits(),
         Some("big") => big::run(),
         Some("fuzz") => fuzz::run(number(1, 100_000) as usize, number(2, 1)),
         Some("suite") if args.len() == 2 => assert_eq!(verdicts(&args[1], answered), Ok(true)),
         _ => {
-            eprintln!("usage: trials big | trials fuzz CASES [SEED] | trials suite FOLDER");
+            eprintln!("usage: trials packs FOLDER | trials limits | trials big | trials fuzz CASES [SEED] | trials suite FOLDER");
             std::process::exit(64);
         }
+    }
+}
+
+fn packs(folder: &str) {
+    for pack in PACKS {
+        let cases = read(folder, pack).unwrap_or_else(|why| panic!("{why}"));
+        cases.iter().for_each(|case| drop(same::both(&case.list, &case.doc, case.room)));
+        println!("{pack}: {} cases, no difference", cases.len());
     }
 }
 
