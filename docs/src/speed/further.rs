@@ -71,7 +71,7 @@ fn small() {
 
 fn by_kind(figures: &mut Figures) {
     let long = lists::long();
-    println!("\nOther kinds of document by 32 paths of 8 steps, MB/s; and how many times as fast ours is");
+    println!("\nOther kinds of document by 32 paths of 8 steps; and how many times as fast ours and the baseline are");
     println!("{:<30}{:>10}{:>10}{:>10}{:>10}{:>10}", "what", "bytes", "written", "MB/s", "ours", "baseline");
     for (kind, text) in kinds::documents() {
         let doc = text.as_bytes();
