@@ -21,7 +21,7 @@
 
 MADE = target/rust
 
-.PHONY: run test outside runs cut toolchain rt rust format lines
+.PHONY: run test outside runs cut rt rust format lines
 
 run: rt cut
 	@for list in atlas desk; do \
@@ -60,8 +60,6 @@ cut:
 	@mkdir -p target/log && rt check cut > target/log/make || { cat target/log/make; exit 1; }
 
 # What has to be there, and what can be installed where it is not.
-toolchain: rt rust
-
 rt:
 	@command -v rt > /dev/null || { \
 	    echo 'missing: the Rattle toolchain. Its command rt must be on the PATH; nothing here can be checked without it.'; exit 1; }

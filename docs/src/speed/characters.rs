@@ -1,7 +1,7 @@
 // The check of a document's characters, in megabytes a second, beside the standard library's UTF-8 alone, which asks for less, and beside
 // UTF-8 and a loop over the characters for [2] Char.
 use crate::ours::chars::whole::{check, Checked};
-use crate::rounds::{best, work, Work};
+use crate::rounds::{medians, work, Work};
 use std::hint::black_box;
 
 const SIZE: usize = 8 << 20;
@@ -37,7 +37,7 @@ fn rates(piece: &str, checks: &[Check]) -> Vec<f64> {
         assert_eq!(check(s), s.len(), "{what}");
         works.push(work(move || check(black_box(s))));
     }
-    best(&mut works).iter().map(|seconds| s.len() as f64 / seconds / 1e6).collect()
+    medians(&mut works).iter().map(|seconds| s.len() as f64 / seconds / 1e6).collect()
 }
 
 pub fn measure() {

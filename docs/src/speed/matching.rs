@@ -7,7 +7,7 @@ use crate::ours::lookup::find::find;
 use crate::ours::matcher::fit::{fit_of, Fit};
 use crate::ours::matcher::state::MatchState;
 use crate::places::{self, Tag, Walk};
-use crate::rounds::{best, work, Work};
+use crate::rounds::{medians, work, Work};
 use crate::steps::{self, Bits, Flags, Matcher};
 use std::hint::black_box;
 
@@ -113,7 +113,7 @@ pub fn measure() {
     let [_, selected, marked] = counts;
     println!("The matcher: {} paths of 8 steps; {} elements, {selected} selected, {marked} marked", paths.len(), places::ELEMENTS);
     println!("{:<30}{:>12}{:>12}", "what", "ns/element", "times ours");
-    let seconds = best(&mut works);
+    let seconds = medians(&mut works);
     for (what, time) in names.iter().zip(&seconds) {
         println!("{what:<30}{:>12.1}{:>12.2}", time * 1e9 / places::ELEMENTS as f64, time / seconds[0]);
     }

@@ -12,8 +12,13 @@ const BAR: usize = 15;
 const BETWEEN_BARS: usize = 2;
 const BETWEEN_GROUPS: usize = 14;
 
-/// The bars, in the order of the key, with their classes.
-const KEY: [(&str, &str); 4] = [("ours", "ours"), ("baseline", "baseline"), ("expat", "expat"), ("libxml2", "libxml")];
+/// The bars in the order of the key: what they are called in the figures, their class, and what they are called in the picture.
+const KEY: [(&str, &str, &str); 4] = [
+    ("ours", "ours", "Choughbell"),
+    ("baseline", "baseline", "baseline in Rust"),
+    ("expat", "expat", "expat, check only"),
+    ("libxml2", "libxml", "libxml2, check only"),
+];
 
 const STYLE: &str = ".paper { fill: #ffffff }
 text { font: 13px system-ui, 'Segoe UI', Helvetica, Arial, sans-serif; fill: #24292f }
@@ -76,11 +81,11 @@ impl Drawn {
 
     /// The colours and what they stand for, on one line.
     fn key(&mut self) {
-        for (i, (what, class)) in KEY.iter().enumerate() {
-            let x = LEFT + 130 * i;
+        for (i, (_, class, title)) in KEY.iter().enumerate() {
+            let x = LEFT + 155 * i;
             self.bar(class, x, BAR as f64);
             self.y += BAR - 3;
-            self.text("", "start", x + BAR + 6, what);
+            self.text("", "start", x + BAR + 6, title);
             self.y -= BAR - 3;
         }
         self.y += BAR + 18;
@@ -93,7 +98,7 @@ impl Drawn {
         self.text("", "end", LEFT - 10, group.title);
         self.y = top;
         for (what, figure) in &group.bars {
-            let class = KEY.iter().find(|(name, _)| name == what).map_or("", |(_, class)| class);
+            let class = KEY.iter().find(|(name, ..)| name == what).map_or("", |(_, class, _)| class);
             let width = (figure * scale).max(1.0);
             self.bar(class, LEFT, width);
             self.y += BAR - 4;

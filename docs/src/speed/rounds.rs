@@ -1,5 +1,5 @@
-// The times of rounds: the fastest, and the one in the middle. What is compared takes turns, so that a busy machine disturbs all alike; and
-// the time is that of the processor in this thread, in which other programs have no part.
+// The times of rounds, of which the one in the middle is taken. What is compared takes turns, so that a busy machine disturbs all alike;
+// and the time is that of the processor in this thread, in which other programs have no part.
 use std::ffi::{c_int, c_long};
 use std::hint::black_box;
 
@@ -47,8 +47,8 @@ pub fn cleared<'a, A>(room: usize, mut answer: impl FnMut(&mut [u8]) -> A + 'a) 
     })
 }
 
-/// The seconds of each in all rounds, from the least to the most.
-pub fn times(works: &mut [Work]) -> Vec<Vec<f64>> {
+/// The seconds of each in the middle one of all rounds, by their length.
+pub fn medians(works: &mut [Work]) -> Vec<f64> {
     let mut times = vec![Vec::new(); works.len()];
     for _ in 0..ROUNDS {
         for (work, times) in works.iter_mut().zip(&mut times) {
@@ -56,15 +56,5 @@ pub fn times(works: &mut [Work]) -> Vec<Vec<f64>> {
         }
     }
     times.iter_mut().for_each(|all| all.sort_by(f64::total_cmp));
-    times
-}
-
-/// The least seconds of each.
-pub fn best(works: &mut [Work]) -> Vec<f64> {
-    times(works).iter().map(|all| all[0]).collect()
-}
-
-/// The seconds of each in the middle round.
-pub fn medians(works: &mut [Work]) -> Vec<f64> {
-    times(works).iter().map(|all| all[ROUNDS / 2]).collect()
+    times.iter().map(|all| all[ROUNDS / 2]).collect()
 }
