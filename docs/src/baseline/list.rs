@@ -81,12 +81,8 @@ fn path(line: &str) -> Option<Path<'_>> {
     (!steps.is_empty() && (marked || rest.is_empty())).then_some(Path { steps, test, marked })
 }
 
-const FRONTS: [(&str, Kind); 4] = [
-    ("//", Kind::Descendant),
-    ("/self::", Kind::SelfStep),
-    ("/descendant-or-self::", Kind::DescendantOrSelf),
-    ("/", Kind::Child),
-];
+const FRONTS: [(&str, Kind); 4] =
+    [("//", Kind::Descendant), ("/self::", Kind::SelfStep), ("/descendant-or-self::", Kind::DescendantOrSelf), ("/", Kind::Child)];
 
 /// The step in front, and what is behind it.
 fn step(rest: &str) -> Option<(Step<'_>, &str)> {
