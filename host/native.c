@@ -4,7 +4,7 @@
 #include "choughbell.h"
 
 /* What each function hands back. */
-typedef struct choughbell_numbers cut_numbers;
+typedef struct choughbell_four_numbers cut_numbers;
 typedef struct choughbell_numbers judge_numbers;
 
 void *rattle_choughbell_cut(cut_numbers *result, const uint8_t *list, size_t list_len, const uint8_t *doc, size_t doc_len, uint8_t *out,
