@@ -1,0 +1,26 @@
+// Masks: bit 7 of a mask's byte is set where that byte of a word is of a kind, and no other bit is. Each byte is treated apart: no sum of
+// two bytes carries into the next.
+//
+//   bytes   p  a  r  t  <  b  C3 BC    the low seven bits beside `<`, 3C: `^` leaves 0 where they are equal, and a sum with 7F sets bit 7 of
+//   mask    00 00 00 00 80 00 00 00    all others; BC has the low bits of `<`, but is none, since its own bit 7 is set
+ghost use mathlib.Core.Path.{_≡_};
+ghost use Prim.Native.Nat.{_<_};
+ghost use Rattle.words.specs.Word.{bytesOf, marksOf, oneOf};
+
+const LOW: u64 = 0x7F7F_7F7F_7F7F_7F7F;
+
+const HIGH: u64 = 0x8080_8080_8080_8080;
+
+const ONES: u64 = 0x0101_0101_0101_0101;
+
+// The mask of the bytes that are a, b or c, which are ASCII.
+pub fn marks(w: u64, a: u8, b: u8, c: u8) -> u64
+    requires { ⌜ (a < 0x80) × (b < 0x80) × (c < 0x80) ⌝ }
+    ensures { λ r. ⌜ r ≡ marksOf (oneOf a b c) (bytesOf 8 w) ⌝ }
+{
+    let low = w & LOW;
+    let others = ((low ^ (ONES * (a as u64))) + LOW)
+        & ((low ^ (ONES * (b as u64))) + LOW)
+        & ((low ^ (ONES * (c as u64))) + LOW);
+    !(w | others) & HIGH
+}
