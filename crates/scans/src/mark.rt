@@ -1,13 +1,17 @@
-// Marks: `<`, `&` and one more byte, at which a run of plain text ends. The bytes before a mark are passed 16 at a time, by a mask.
+// Marks: `<`, `&` and one more byte, at which a run of plain text ends. The bytes before a mark are passed 16 at a time, by two words, and
+// after 64 of them 64 at a time where none is a mark.
 //
-//   bytes     p  a  r  t     <  b  r  / ..     bit k + 1 of the mask is set where byte k of the block is a mark,
-//   mask   0  0  0  0  0  0  1  0  0  0        so its lowest set bit is one above the first such place
+//   bytes   p  a  r  t     <  b  r     bit 7 of the mask's byte is set where the byte of the word is a mark,
+//   mask    00 00 00 00 00 80 00 00    so the bytes of 0 below its lowest set bit are those before the first mark
 ghost use mathlib.Core.Path.{_≡_};
-ghost use Prim.Native.Nat.{_+_, _≤_};
+ghost use Prim.Native.Nat.{_+_, _≤_, _<_};
 ghost use lib.ListN.{length, getD, drop};
 ghost use Rattle.utf8.specs.Place.{endsAt};
-ghost use Rattle.blocks.specs.Block.{maskOf, First, until};
+ghost use Rattle.blocks.specs.Block.{First, Skips, someOf, until};
 ghost use Rattle.readers.specs.Plain.{isMark};
+use words::mask::marks;
+use words::word::first;
+use words::word::word_at;
 
 // Whether b is `<`, `&` or q.
 fn is_mark(b: u8, q: u8) -> bool
@@ -16,31 +20,46 @@ fn is_mark(b: u8, q: u8) -> bool
     (b == 0x3C) | (b == 0x26) | (b == q)
 }
 
-// The mask of the 16 bytes from i on.
-fn mask16(s: &[u8], i: usize, q: u8) -> u32
-    requires { ⌜ i + 16 ≤ length (now s) ⌝ }
-    ensures { λ r. ⌜ r ≡ maskOf (λ k. isMark q (getD (now (s .entry)) (i + k) 0)) 16 ⌝ }
-{
-    let mut m: u32 = 0;
-    let mut j: usize = 0;
-    while j < 16 {
-        let found = is_mark(s[i + j], q);
-        m = m | ((found as u32) << (j as u32 + 1));
-        j += 1;
-    }
-    m
-}
-
-// How many of the 16 bytes from i on stand before the first mark.
+// How many of the 16 bytes from i on stand before the first mark. Both words are looked at before either is asked.
 fn before16(s: &[u8], i: usize, q: u8) -> usize
-    requires { ⌜ i + 16 ≤ length (now s) ⌝ }
+    requires { ⌜ (i + 16 ≤ length (now s)) × (q < 0x80) ⌝ }
     ensures { λ r. ⌜ First (λ k. isMark q (getD (now (s .entry)) (i + k) 0)) 16 r ⌝ }
 {
-    let m = mask16(s, i, q);
-    if m == 0 {
-        return 16;
+    let front = marks(word_at(s, i), 0x3C, 0x26, q);
+    let back = marks(word_at(s, i + 8), 0x3C, 0x26, q);
+    if front == 0 {
+        return 8 + first(back);
     }
-    u32::trailing_zeros(m) as usize - 1
+    first(front)
+}
+
+// Whether one of the 64 bytes from i on is a mark.
+fn some_mark64(s: &[u8], i: usize, q: u8) -> bool
+    requires { ⌜ i + 64 ≤ length (now s) ⌝ }
+    ensures { λ r. ⌜ r ≡ someOf (λ k. isMark q (getD (now (s .entry)) (i + k) 0)) 64 ⌝ }
+{
+    let mut found = false;
+    let mut j: usize = 0;
+    while j < 64 {
+        found = found | is_mark(s[i + j], q);
+        j += 1;
+    }
+    found
+}
+
+// A place from `from` on before which no mark stands: past all blocks of 64 that have none.
+fn after_blocks(s: &[u8], from: usize, q: u8) -> usize
+    requires { ⌜ from ≤ length (now s) ⌝ }
+    ensures { λ r. ⌜ Skips (isMark q) (now (s .entry)) from r ⌝ }
+{
+    let mut i = from;
+    while s.len() - i >= 64 {
+        if some_mark64(s, i, q) {
+            return i;
+        }
+        i += 64;
+    }
+    i
 }
 
 // The first place from `from` on, by bytes, that has a mark, or the end.
@@ -58,12 +77,16 @@ fn mark_tail(s: &[u8], from: usize, q: u8) -> usize
     i
 }
 
-// The first place from `from` on with `<`, `&` or q, or the end; a place past the end is answered itself.
+// The first place from `from` on with `<`, `&` or q, or the end; a place past the end is answered itself. A q that is not ASCII, which no
+// caller has, is sought by bytes.
 pub fn to_mark(s: &[u8], from: usize, q: u8) -> usize
     ensures { λ r. ⌜ r ≡ endsAt (now (s .entry)) from (until (isMark q) (drop from (now (s .entry)))) ⌝ }
 {
     if from >= s.len() {
         return from;
+    }
+    if q >= 0x80 {
+        return mark_tail(s, from, q);
     }
     let mut i = from;
     while s.len() - i >= 16 {
@@ -72,6 +95,10 @@ pub fn to_mark(s: &[u8], from: usize, q: u8) -> usize
             return i + n;
         }
         i += 16;
+        if i - from == 64 {
+            i = after_blocks(s, i, q);
+            continue;
+        }
     }
     mark_tail(s, i, q)
 }
