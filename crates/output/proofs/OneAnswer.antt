@@ -1,15 +1,17 @@
--- Two results that a step may hand back by its contract are equal, where the state stands for an engine: the run, and every byte of the
--- buffer. A pass begins with a state that stands for an engine, and its steps keep it so. Of other states a contract says less.
+-- Two results that a step may hand back by its contract are alike, where the state stands for an engine: the run is the same but for the
+-- number of notes, and so is every byte of the buffer; the notes stand for the same text, unless some were left out. A pass begins with a
+-- state that stands for an engine, and its steps keep it so. Of other states a contract says less.
 -- The theorems on `Run::none` and on the two steps are over the contracts that the toolchain makes of the source.
 use mathlib.Core.Path.{_≡_, refl, sym, ap, _∙_}
 use mathlib.Core.List.{List}
-use Prim.Native.Nat.{ℕ, zero, suc}
+use Prim.Native.Nat.{ℕ, zero, suc, _≤_}
 use lib.ListN.{length}
-use lib.Seq.{sets}
 use denote.Ref.{now}
-use Rattle.contracts.specs.One.{OneResult, OneOutcome}
+use Rattle.contracts.specs.One.{OneResult}
 use Rattle.xml.specs.Forest.{Name}
-use Rattle.trees.specs.Engine.{Engine, keptOf, doneOf, outOf, numOf}
+use Rattle.notes.specs.Notes.{textOf}
+use Rattle.notes.specs.Alike.{Alike}
+use Rattle.trees.specs.Engine.{Engine}
 use Rattle.output.specs.Levels.{nameAt, span, Stands, Moves}
 use Rattle.output.specs.declared.Run.{Run}
 use Rattle.output.proofs.Run.none.Reads as none
@@ -24,44 +26,61 @@ span-long : (f : ℕ → Name) (lo k : ℕ) → length (span f lo k) ≡ k
 span-long f lo zero = refl
 span-long f lo (suc k) = ap suc (span-long f lo k)
 
-module _ {d starts lens o₀ : List ℕ} {level : ℕ} {e : Engine} where
-  -- a state that stands for an engine is that engine's
-  run-is : (r : Run) {o : List ℕ} → Stands d starts lens o₀ level (r .reached .0) (r .kept) (r .len) (r .count) o e
-      → r ≡ record { reached = record { 0 = length (doneOf e) }; kept = keptOf e; len = length (outOf e); count = numOf e }
-  run-is r s =
-      let a : length (doneOf e) ≡ r .reached .0 = ap length (s .done-is) ∙ span-long (nameAt d starts lens) 0 (r .reached .0) in
-      sym (rw (a, s .kept-is, s .text .long, s .num-is))
+-- what a state that stands for an engine is, but for its notes
+pub record Same (d : List ℕ) (r : Run) (o g : List ℕ) (r′ : Run) (o′ g′ : List ℕ) : Type 0 where
+  pub reached : r .reached .0 ≡ r′ .reached .0
+  pub kept : r .kept ≡ r′ .kept
+  pub long : r .len ≡ r′ .len
+  pub count : r .count ≡ r′ .count
+  pub buffer : o ≡ o′
+  pub noted : r .noted ≤ length g → r′ .noted ≤ length g′ → textOf d g (r .noted) ≡ textOf d g′ (r′ .noted)
 
-  buffer-is : (r : Run) {o : List ℕ} → Stands d starts lens o₀ level (r .reached .0) (r .kept) (r .len) (r .count) o e
-      → o ≡ sets o₀ 0 (outOf e)
-  buffer-is r s = s .text .laid
+module _ {d starts lens o₀ : List ℕ} {level : ℕ} {e : Engine} where
+  same-engine : (r r′ : Run) {o g o′ g′ : List ℕ}
+      → Stands d starts lens o₀ level (r .reached .0) (r .kept) (r .len) (r .count) (r .noted) o g e
+      → Stands d starts lens o₀ level (r′ .reached .0) (r′ .kept) (r′ .len) (r′ .count) (r′ .noted) o′ g′ e → Same d r o g r′ o′ g′
+  same-engine r r′ s t =
+      record {
+        reached =
+            sym (span-long (nameAt d starts lens) 0 (r .reached .0))
+            ∙ ap length (sym (s .done-is) ∙ t .done-is)
+            ∙ span-long (nameAt d starts lens) 0 (r′ .reached .0);
+        kept = sym (s .kept-is) ∙ t .kept-is;
+        long = sym (s .text .long) ∙ t .text .long;
+        count = sym (s .num-is) ∙ t .num-is;
+        buffer = s .text .laid ∙ sym (t .text .laid);
+        noted = λ a b. s .notes .text a ∙ sym (t .notes .text b);
+      }
 
 -- both steps' contracts have one form
-pub step-one : (d starts lens o₀ : List ℕ) (level : ℕ) (run : Run) (o : List ℕ) (e : Engine)
-    → Stands d starts lens o₀ level (run .reached .0) (run .kept) (run .len) (run .count) o e
-    → (f : Engine → Engine) (steps level′ : ℕ) (r r′ : Run) (o₁ o₂ : List ℕ) → Moves d starts lens level run o f steps level′ r o₁
-    → Moves d starts lens level run o f steps level′ r′ o₂ → (r ≡ r′) × (o₁ ≡ o₂)
-step-one d starts lens o₀ level run o e s f steps level′ r r′ o₁ o₂ p q =
-    let a = p .moves o₀ e s in
-    let b = q .moves o₀ e s in
-    (run-is r a ∙ sym (run-is r′ b), buffer-is r a ∙ sym (buffer-is r′ b))
+pub step-one : (d starts lens o₀ : List ℕ) (level : ℕ) (run : Run) (o g : List ℕ) (e : Engine)
+    → Stands d starts lens o₀ level (run .reached .0) (run .kept) (run .len) (run .count) (run .noted) o g e
+    → (f : Engine → Engine) (steps level′ : ℕ) (r r′ : Run) (o₁ g₁ o₂ g₂ : List ℕ)
+    → Moves d starts lens level run o g f steps level′ r o₁ g₁
+    → Moves d starts lens level run o g f steps level′ r′ o₂ g₂ → Same d r o₁ g₁ r′ o₂ g₂
+step-one d starts lens o₀ level run o g e s f steps level′ r r′ o₁ g₁ o₂ g₂ p q = same-engine r r′ (p .moves o₀ e s) (q .moves o₀ e s)
 
--- What the two steps are handed, in the same order: the run, the level, the document, the places and lengths of the names, the buffer. It
--- stands for the engine m, where the buffer began as o₀.
-abbrev standing : Engine → List ℕ → (run : Run) (level : ℕ) (d starts lens o : List ℕ) → Type 0
-standing m o₀ run level d starts lens o = Stands d starts lens o₀ level (run .reached .0) (run .kept) (run .len) (run .count) o m
+-- What the two steps are handed, in the same order: the run, the level, the document, the places and lengths of the names, the buffer, the
+-- log. It stands for the engine m, where the buffer began as o₀.
+abbrev standing : Engine → List ℕ → (run : Run) (level : ℕ) (d starts lens o g : List ℕ) → Type 0
+standing m o₀ run level d starts lens o g =
+    Stands d starts lens o₀ level (run .reached .0) (run .kept) (run .len) (run .count) (run .noted) o g m
 
 module _ (m : Engine) (o₀ : List ℕ) where
   -- `step::tag_step`
-  pub tag-step-one : OneOutcome
-      (λ κs a. tag-step.Asked κs a × standing m o₀ (a .0) (a .1 .0 .0)
-      (now (a .1 .1 .0)) (now (a .1 .1 .1 .0)) (now (a .1 .1 .1 .1 .0)) (now (a .1 .1 .1 .1 .1 .0)))
-      tag-step.Learnt (λ κs e. now (e .1 .1 .1 .1 .1 .0))
-  tag-step-one κs a z z′ e e′ x = step-one _ _ _ o₀ _ (a .0) _ m (x .1) _ _ _ z z′ _ _
+  pub tag-step-one : Alike
+      (λ κs a. tag-step.Asked κs a × standing m o₀ (a .0) (a .1 .0 .0) (now (a .1 .1 .0))
+      (now (a .1 .1 .1 .0)) (now (a .1 .1 .1 .1 .0)) (now (a .1 .1 .1 .1 .1 .0)) (now (a .1 .1 .1 .1 .1 .1 .0)))
+      tag-step.Learnt
+      (λ κs a z e z′ e′. Same (now (a .1 .1 .0)) z (now (e .1 .1 .1 .1 .1 .0)) (now (e .1 .1 .1 .1 .1 .1 .0))
+      z′ (now (e′ .1 .1 .1 .1 .1 .0)) (now (e′ .1 .1 .1 .1 .1 .1 .0)))
+  tag-step-one κs a z z′ e e′ x = step-one _ _ _ o₀ _ (a .0) _ _ m (x .1) _ _ _ z z′ _ _ _ _
 
   -- `step::other_step`
-  pub other-step-one : OneOutcome
-      (λ κs a. other-step.Asked κs a × standing m o₀ (a .0) (a .1 .0 .0)
-      (now (a .1 .1 .0)) (now (a .1 .1 .1 .0)) (now (a .1 .1 .1 .1 .0)) (now (a .1 .1 .1 .1 .1 .0)))
-      other-step.Learnt (λ κs e. now (e .1 .1 .1 .1 .1 .0))
-  other-step-one κs a z z′ e e′ x = step-one _ _ _ o₀ _ (a .0) _ m (x .1) _ _ _ z z′ _ _
+  pub other-step-one : Alike
+      (λ κs a. other-step.Asked κs a × standing m o₀ (a .0) (a .1 .0 .0) (now (a .1 .1 .0))
+      (now (a .1 .1 .1 .0)) (now (a .1 .1 .1 .1 .0)) (now (a .1 .1 .1 .1 .1 .0)) (now (a .1 .1 .1 .1 .1 .1 .0)))
+      other-step.Learnt
+      (λ κs a z e z′ e′. Same (now (a .1 .1 .0)) z (now (e .1 .1 .1 .1 .1 .0)) (now (e .1 .1 .1 .1 .1 .1 .0))
+      z′ (now (e′ .1 .1 .1 .1 .1 .0)) (now (e′ .1 .1 .1 .1 .1 .1 .0)))
+  other-step-one κs a z z′ e e′ x = step-one _ _ _ o₀ _ (a .0) _ _ m (x .1) _ _ _ z z′ _ _ _ _

@@ -7,23 +7,19 @@ use Prim.Native.Nat.{ℕ, _+_, _-_, _≤_, _<_}
 use native.Mathlib.Omega.{arith}
 use borrow.Author.Tests.{lt-ltb}
 use lib.Dec.{ltb}
-use lib.ListN.{length, drop, length-append, length-drop}
-use lib.Seq.{length-take-le}
+use lib.ListN.{length, length-append}
 use Rattle.xml.specs.Forest.{startTag, endTag}
 use Rattle.matcher.specs.declared.Verdict.{Verdict}
 use Rattle.matcher.specs.declared.Verdict.the-variants.{Unselected, Selected, Marked}
 use Rattle.writer.specs.Wrote.{Wrote}
 use Rattle.writer.proofs.Laying.{wrote-more, wrote-long, sets-more}
+use Rattle.notes.proofs.Making.{noted-more, stood-more}
 use Rattle.trees.specs.Cut.{one}
-use Rattle.trees.specs.Grown.{part}
 use Rattle.trees.specs.Engine.{Engine, engine, chain, openOf, onStart, onFinish, onAside}
-use Rattle.output.specs.Levels.{nameAt, span, Laid, Stands, Moved}
+use Rattle.output.specs.Levels.{nameAt, span, Laid, Inked, Stands, Moved}
 use Rattle.output.proofs.Spans.{span-more, span-less, span-none, span-whole, span-last, span-next, some-left, some-span}
 
--- ---- bytes of the document, and what is laid
-
-pub part-long : (d : List ℕ) (a e : ℕ) → a ≤ e → e ≤ length d → length (part d a e) ≡ e - a
-part-long d a e h l = length-take-le (e - a) (drop a d) (omega (arith, length-drop a d))
+-- ---- what is laid
 
 laid-more : {o₀ o o′ w s : List ℕ} {len r : ℕ} → Laid o₀ len o w → Wrote o len s r o′ → Laid o₀ r o′ (w ++ s)
 laid-more {o₀} {w = w} {s} t u =
@@ -34,21 +30,28 @@ laid-more {o₀} {w = w} {s} t u =
     }
 
 -- what is open in the input
-pub open-is : {d starts lens o₀ o : List ℕ} {level reached len count : ℕ} {kept : Bool} {e : Engine}
-    → Stands d starts lens o₀ level reached kept len count o e → reached ≤ level → openOf e ≡ span (nameAt d starts lens) 0 level
+pub open-is : {d starts lens o₀ o g : List ℕ} {level reached len count m : ℕ} {kept : Bool} {e : Engine}
+    → Stands d starts lens o₀ level reached kept len count m o g e → reached ≤ level → openOf e ≡ span (nameAt d starts lens) 0 level
 open-is {d} {starts} {lens} {level = level} {reached} {e = engine k p q x c} t h =
     rw (t .pend-is, t .done-is) (sym (span-whole (nameAt d starts lens) reached level h))
 
 -- ---- an item that is no tag
 
-module _ {d starts lens o : List ℕ} {level reached : ℕ} {kept : Bool} {len count : ℕ} (h : reached ≤ level) where
-  pub aside-kept : {o′ raw : List ℕ} {r : ℕ} → kept ≡ true → Wrote o len raw r o′ → length raw ≤ 16777216
-      → Moved d starts lens level reached kept len count o (onAside raw) 1 level reached true r count o′
-  aside-kept {o′} {raw} {r} ek w b =
-      record { moves = go; order = h; far = omega (arith, w .long); few = omega arith; same = wrote-long w }
+module _ {d starts lens o g : List ℕ} {level reached : ℕ} {kept : Bool} {len count m : ℕ} (h : reached ≤ level) where
+  pub aside-kept : {o′ g′ raw : List ℕ} {r m′ : ℕ} → kept ≡ true → Inked d o g len m raw r m′ o′ g′ → length raw ≤ 16777216
+      → Moved d starts lens level reached kept len count m o g (onAside raw) 1 level reached true r count m′ o′ g′
+  aside-kept {o′} {g′} {raw} {r} {m′} ek w b =
+      record {
+        moves = go;
+        order = h;
+        far = omega (arith, w .wrote .long);
+        few = omega arith;
+        same = wrote-long (w .wrote);
+        room = w .noted .same;
+      }
     where
-      go : (o₀ : List ℕ) (e : Engine) → Stands d starts lens o₀ level reached kept len count o e
-          → Stands d starts lens o₀ level reached true r count o′ (onAside raw e)
+      go : (o₀ : List ℕ) (e : Engine) → Stands d starts lens o₀ level reached kept len count m o g e
+          → Stands d starts lens o₀ level reached true r count m′ o′ g′ (onAside raw e)
       go o₀ (engine k p q x c) t =
           rw (t .kept-is ∙ ek)
           (record {
@@ -56,15 +59,24 @@ module _ {d starts lens o : List ℕ} {level reached : ℕ} {kept : Bool} {len c
             pend-is = t .pend-is;
             done-is = t .done-is;
             num-is = t .num-is;
-            text = laid-more (t .text) w;
+            text = laid-more (t .text) (w .wrote);
+            notes = stood-more (t .notes) (w .noted);
           })
 
   pub aside-dropped : kept ≡ false → (raw : List ℕ)
-      → Moved d starts lens level reached kept len count o (onAside raw) 1 level reached kept len count o
-  aside-dropped ek raw = record { moves = go; order = h; far = omega arith; few = omega arith; same = refl }
+      → Moved d starts lens level reached kept len count m o g (onAside raw) 1 level reached kept len count m o g
+  aside-dropped ek raw =
+      record {
+        moves = go;
+        order = h;
+        far = omega arith;
+        few = omega arith;
+        same = refl;
+        room = refl;
+      }
     where
-      go : (o₀ : List ℕ) (e : Engine) → Stands d starts lens o₀ level reached kept len count o e
-          → Stands d starts lens o₀ level reached kept len count o (onAside raw e)
+      go : (o₀ : List ℕ) (e : Engine) → Stands d starts lens o₀ level reached kept len count m o g e
+          → Stands d starts lens o₀ level reached kept len count m o g (onAside raw e)
       go o₀ (engine k p q x c) t =
           rw (t .kept-is ∙ ek)
           (record {
@@ -73,18 +85,27 @@ module _ {d starts lens o : List ℕ} {level reached : ℕ} {kept : Bool} {len c
             done-is = t .done-is;
             num-is = t .num-is;
             text = t .text;
+            notes = t .notes;
           })
 
 -- ---- an end
 
-module _ {d starts lens o : List ℕ} {level reached : ℕ} {kept : Bool} {len count : ℕ} where
+module _ {d starts lens o g : List ℕ} {level reached : ℕ} {kept : Bool} {len count m : ℕ} where
   -- nothing is open
   pub end-none : {raw : List ℕ} → reached ≤ level → level ≡ 0
-      → Moved d starts lens level reached kept len count o (onFinish raw) 1 (level - 1) reached kept len count o
-  end-none {raw} h z = record { moves = go; order = omega arith; far = omega arith; few = omega arith; same = refl }
+      → Moved d starts lens level reached kept len count m o g (onFinish raw) 1 (level - 1) reached kept len count m o g
+  end-none {raw} h z =
+      record {
+        moves = go;
+        order = omega arith;
+        far = omega arith;
+        few = omega arith;
+        same = refl;
+        room = refl;
+      }
     where
-      go : (o₀ : List ℕ) (e : Engine) → Stands d starts lens o₀ level reached kept len count o e
-          → Stands d starts lens o₀ (level - 1) reached kept len count o (onFinish raw e)
+      go : (o₀ : List ℕ) (e : Engine) → Stands d starts lens o₀ level reached kept len count m o g e
+          → Stands d starts lens o₀ (level - 1) reached kept len count m o g (onFinish raw e)
       go o₀ (engine k p q x c) t =
           let y : reached ≡ 0 = omega arith in
           let ep : p ≡ [] = t .pend-is ∙ span-none (nameAt d starts lens) reached level (omega arith) in
@@ -96,23 +117,25 @@ module _ {d starts lens o : List ℕ} {level reached : ℕ} {kept : Bool} {len c
             done-is = rw y;
             num-is = t .num-is;
             text = t .text;
+            notes = t .notes;
           })
 
   -- open in the output too
-  pub end-level : {o′ raw : List ℕ} {r : ℕ} → reached ≤ level → level ≤ reached → (level ≡ 0 → ⊥)
-      → Wrote o len (endTag (nameAt d starts lens (level - 1))) r o′ → length (nameAt d starts lens (level - 1)) ≤ 16777216
-      → Moved d starts lens level reached kept len count o (onFinish raw) 1 (level - 1) (level - 1) kept r count o′
-  end-level {o′} {raw} {r} h l z w b =
+  pub end-level : {o′ g′ raw : List ℕ} {r m′ : ℕ} → reached ≤ level → level ≤ reached → (level ≡ 0 → ⊥)
+      → Inked d o g len m (endTag (nameAt d starts lens (level - 1))) r m′ o′ g′ → length (nameAt d starts lens (level - 1)) ≤ 16777216
+      → Moved d starts lens level reached kept len count m o g (onFinish raw) 1 (level - 1) (level - 1) kept r count m′ o′ g′
+  end-level {o′} {g′} {raw} {r} {m′} h l z w b =
       record {
         moves = go;
         order = omega arith;
-        far = omega (arith, w .long, length-append (nameAt d starts lens (level - 1)) (62 ∷ []));
+        far = omega (arith, w .wrote .long, length-append (nameAt d starts lens (level - 1)) (62 ∷ []));
         few = omega arith;
-        same = wrote-long w;
+        same = wrote-long (w .wrote);
+        room = w .noted .same;
       }
     where
-      go : (o₀ : List ℕ) (e : Engine) → Stands d starts lens o₀ level reached kept len count o e
-          → Stands d starts lens o₀ (level - 1) (level - 1) kept r count o′ (onFinish raw e)
+      go : (o₀ : List ℕ) (e : Engine) → Stands d starts lens o₀ level reached kept len count m o g e
+          → Stands d starts lens o₀ (level - 1) (level - 1) kept r count m′ o′ g′ (onFinish raw e)
       go o₀ (engine k p q x c) t =
           let a : reached ≡ level = omega arith in
           let ep : p ≡ [] = t .pend-is ∙ span-none (nameAt d starts lens) reached level l in
@@ -124,17 +147,26 @@ module _ {d starts lens o : List ℕ} {level reached : ℕ} {kept : Bool} {len c
             pend-is = sym (span-none (nameAt d starts lens) (level - 1) (level - 1) (omega arith));
             done-is = refl;
             num-is = t .num-is;
-            text = laid-more (t .text) w;
+            text = laid-more (t .text) (w .wrote);
+            notes = stood-more (t .notes) (w .noted);
           })
 
   -- in a kept entry, or the entry's own
-  pub end-kept : {o′ raw : List ℕ} {r : ℕ} → kept ≡ true → reached < level → Wrote o len raw r o′ → length raw ≤ 16777216
-      → Moved d starts lens level reached kept len count o (onFinish raw) 1 (level - 1) reached (ltb (reached + 1) level) r count o′
-  end-kept {o′} {raw} {r} ek h w b =
-      record { moves = go; order = omega arith; far = omega (arith, w .long); few = omega arith; same = wrote-long w }
+  pub end-kept : {o′ g′ raw : List ℕ} {r m′ : ℕ} → kept ≡ true → reached < level → Inked d o g len m raw r m′ o′ g′ → length raw ≤ 16777216
+      → Moved d starts lens level reached kept len count m o g (onFinish raw) 1 (level - 1) reached (ltb (reached + 1) level) r count m′
+      o′ g′
+  end-kept {o′} {g′} {raw} {r} {m′} ek h w b =
+      record {
+        moves = go;
+        order = omega arith;
+        far = omega (arith, w .wrote .long);
+        few = omega arith;
+        same = wrote-long (w .wrote);
+        room = w .noted .same;
+      }
     where
-      go : (o₀ : List ℕ) (e : Engine) → Stands d starts lens o₀ level reached kept len count o e
-          → Stands d starts lens o₀ (level - 1) reached (ltb (reached + 1) level) r count o′ (onFinish raw e)
+      go : (o₀ : List ℕ) (e : Engine) → Stands d starts lens o₀ level reached kept len count m o g e
+          → Stands d starts lens o₀ (level - 1) reached (ltb (reached + 1) level) r count m′ o′ g′ (onFinish raw e)
       go o₀ (engine k p q x c) t =
           rw (t .pend-is ∙ span-less (nameAt d starts lens) reached level h, t .kept-is ∙ ek)
           (record {
@@ -142,16 +174,25 @@ module _ {d starts lens o : List ℕ} {level reached : ℕ} {kept : Bool} {len c
             pend-is = refl;
             done-is = t .done-is;
             num-is = t .num-is;
-            text = laid-more (t .text) w;
+            text = laid-more (t .text) (w .wrote);
+            notes = stood-more (t .notes) (w .noted);
           })
 
   -- it waited, and is dropped
   pub end-waits : {raw : List ℕ} → kept ≡ false → reached < level
-      → Moved d starts lens level reached kept len count o (onFinish raw) 1 (level - 1) reached kept len count o
-  end-waits {raw} ek h = record { moves = go; order = omega arith; far = omega arith; few = omega arith; same = refl }
+      → Moved d starts lens level reached kept len count m o g (onFinish raw) 1 (level - 1) reached kept len count m o g
+  end-waits {raw} ek h =
+      record {
+        moves = go;
+        order = omega arith;
+        far = omega arith;
+        few = omega arith;
+        same = refl;
+        room = refl;
+      }
     where
-      go : (o₀ : List ℕ) (e : Engine) → Stands d starts lens o₀ level reached kept len count o e
-          → Stands d starts lens o₀ (level - 1) reached kept len count o (onFinish raw e)
+      go : (o₀ : List ℕ) (e : Engine) → Stands d starts lens o₀ level reached kept len count m o g e
+          → Stands d starts lens o₀ (level - 1) reached kept len count m o g (onFinish raw e)
       go o₀ (engine k p q x c) t =
           rw (t .pend-is ∙ span-less (nameAt d starts lens) reached level h, t .kept-is ∙ ek)
           (record {
@@ -160,20 +201,28 @@ module _ {d starts lens o : List ℕ} {level reached : ℕ} {kept : Bool} {len c
             done-is = t .done-is;
             num-is = t .num-is;
             text = t .text;
+            notes = t .notes;
           })
 
 -- ---- a start
 
-module _ {d starts lens o : List ℕ} {level reached : ℕ} {kept : Bool} {len count : ℕ} (h : reached ≤ level) where
-  pub start-kept : {v : Verdict} {head raw o′ : List ℕ} {r n : ℕ} → kept ≡ true → Wrote o len raw r o′ → length raw ≤ 16777216
-      → n ≡ one v → n ≤ 1
-      → Moved d starts lens level reached kept len count o
-      (onStart v (nameAt d starts lens level) head raw) 1 (level + 1) reached true r (count + n) o′
-  start-kept {v} {head} {raw} {o′} {r} {n} ek w b en l =
-      record { moves = go; order = omega arith; far = omega (arith, w .long); few = omega arith; same = wrote-long w }
+module _ {d starts lens o g : List ℕ} {level reached : ℕ} {kept : Bool} {len count m : ℕ} (h : reached ≤ level) where
+  pub start-kept : {v : Verdict} {head raw o′ g′ : List ℕ} {r m′ n : ℕ} → kept ≡ true → Inked d o g len m raw r m′ o′ g′
+      → length raw ≤ 16777216 → n ≡ one v → n ≤ 1
+      → Moved d starts lens level reached kept len count m o g
+      (onStart v (nameAt d starts lens level) head raw) 1 (level + 1) reached true r (count + n) m′ o′ g′
+  start-kept {v} {head} {raw} {o′} {g′} {r} {m′} {n} ek w b en l =
+      record {
+        moves = go;
+        order = omega arith;
+        far = omega (arith, w .wrote .long);
+        few = omega arith;
+        same = wrote-long (w .wrote);
+        room = w .noted .same;
+      }
     where
-      go : (o₀ : List ℕ) (e : Engine) → Stands d starts lens o₀ level reached kept len count o e
-          → Stands d starts lens o₀ (level + 1) reached true r (count + n) o′ (onStart v (nameAt d starts lens level) head raw e)
+      go : (o₀ : List ℕ) (e : Engine) → Stands d starts lens o₀ level reached kept len count m o g e
+          → Stands d starts lens o₀ (level + 1) reached true r (count + n) m′ o′ g′ (onStart v (nameAt d starts lens level) head raw e)
       go o₀ (engine k p q x c) t =
           rw (t .kept-is ∙ ek)
           (record {
@@ -181,25 +230,27 @@ module _ {d starts lens o : List ℕ} {level reached : ℕ} {kept : Bool} {len c
             pend-is = rw (t .pend-is) (sym (span-more (nameAt d starts lens) reached level h));
             done-is = t .done-is;
             num-is = rw (t .num-is, en);
-            text = laid-more (t .text) w;
+            text = laid-more (t .text) (w .wrote);
+            notes = stood-more (t .notes) (w .noted);
           })
 
-  pub start-marked : {v : Verdict} {head raw o₁ o′ : List ℕ} {a r : ℕ} → kept ≡ false → v ≡ Marked
-      → Wrote o len (chain (span (nameAt d starts lens) reached (level - reached))) a o₁ → a ≤ len + 1073741952 → Wrote o₁ a raw r o′
-      → length raw ≤ 16777216
-      → Moved d starts lens level reached kept len count o
-      (onStart v (nameAt d starts lens level) head raw) 1 (level + 1) level true r (count + 1) o′
-  start-marked {v} {head} {raw} {o₁} {o′} {a} {r} ek ev u ua w b =
+  pub start-marked : {v : Verdict} {head raw o₁ g₁ o′ g′ : List ℕ} {a b r m′ : ℕ} → kept ≡ false → v ≡ Marked
+      → Inked d o g len m (chain (span (nameAt d starts lens) reached (level - reached))) a b o₁ g₁ → a ≤ len + 1073741952
+      → Inked d o₁ g₁ a b raw r m′ o′ g′ → length raw ≤ 16777216
+      → Moved d starts lens level reached kept len count m o g
+      (onStart v (nameAt d starts lens level) head raw) 1 (level + 1) level true r (count + 1) m′ o′ g′
+  start-marked {v} {head} {raw} {o₁} {g₁} {o′} {g′} {a} {b} {r} {m′} ek ev u ua w l =
       record {
         moves = go;
         order = omega arith;
-        far = omega (arith, w .long);
+        far = omega (arith, w .wrote .long);
         few = omega arith;
-        same = wrote-long w ∙ wrote-long u;
+        same = wrote-long (w .wrote) ∙ wrote-long (u .wrote);
+        room = w .noted .same ∙ u .noted .same;
       }
     where
-      go : (o₀ : List ℕ) (e : Engine) → Stands d starts lens o₀ level reached kept len count o e
-          → Stands d starts lens o₀ (level + 1) level true r (count + 1) o′ (onStart v (nameAt d starts lens level) head raw e)
+      go : (o₀ : List ℕ) (e : Engine) → Stands d starts lens o₀ level reached kept len count m o g e
+          → Stands d starts lens o₀ (level + 1) level true r (count + 1) m′ o′ g′ (onStart v (nameAt d starts lens level) head raw e)
       go o₀ (engine k p q x c) t =
           rw (t .kept-is ∙ ek, ev)
           (record {
@@ -209,25 +260,27 @@ module _ {d starts lens o : List ℕ} {level reached : ℕ} {kept : Bool} {len c
                 ∙ rw (span-none (nameAt d starts lens) level level (omega arith)));
             done-is = rw (t .pend-is, t .done-is) (sym (span-whole (nameAt d starts lens) reached level h));
             num-is = rw (t .num-is);
-            text = rw (t .pend-is) (laid-more (t .text) (wrote-more u w));
+            text = rw (t .pend-is) (laid-more (t .text) (wrote-more (u .wrote) (w .wrote)));
+            notes = rw (t .pend-is) (stood-more (t .notes) (noted-more (u .noted) (w .noted)));
           })
 
-  pub start-selected : {v : Verdict} {head raw o₁ o₂ o′ : List ℕ} {a b r : ℕ} → kept ≡ false → v ≡ Selected
-      → Wrote o len (chain (span (nameAt d starts lens) reached (level - reached))) a o₁ → a ≤ len + 1073741952 → Wrote o₁ a head b o₂
-      → length head ≤ 16777216 → Wrote o₂ b (62 ∷ []) r o′
-      → Moved d starts lens level reached kept len count o
-      (onStart v (nameAt d starts lens level) head raw) 1 (level + 1) (level + 1) false r (count + 1) o′
-  start-selected {v} {head} {raw} {o₁} {o₂} {o′} {a} {b} {r} ek ev u ua y l w =
+  pub start-selected : {v : Verdict} {head raw o₁ g₁ o′ g′ : List ℕ} {a b r m′ : ℕ} → kept ≡ false → v ≡ Selected
+      → Inked d o g len m (chain (span (nameAt d starts lens) reached (level - reached))) a b o₁ g₁ → a ≤ len + 1073741952
+      → Inked d o₁ g₁ a b (head ++ (62 ∷ [])) r m′ o′ g′ → length head ≤ 16777216
+      → Moved d starts lens level reached kept len count m o g
+      (onStart v (nameAt d starts lens level) head raw) 1 (level + 1) (level + 1) false r (count + 1) m′ o′ g′
+  start-selected {v} {head} {raw} {o₁} {g₁} {o′} {g′} {a} {b} {r} {m′} ek ev u ua w l =
       record {
         moves = go;
         order = omega arith;
-        far = omega (arith, w .long, y .long);
+        far = omega (arith, w .wrote .long, length-append head (62 ∷ []));
         few = omega arith;
-        same = wrote-long w ∙ wrote-long y ∙ wrote-long u;
+        same = wrote-long (w .wrote) ∙ wrote-long (u .wrote);
+        room = w .noted .same ∙ u .noted .same;
       }
     where
-      go : (o₀ : List ℕ) (e : Engine) → Stands d starts lens o₀ level reached kept len count o e
-          → Stands d starts lens o₀ (level + 1) (level + 1) false r (count + 1) o′ (onStart v (nameAt d starts lens level) head raw e)
+      go : (o₀ : List ℕ) (e : Engine) → Stands d starts lens o₀ level reached kept len count m o g e
+          → Stands d starts lens o₀ (level + 1) (level + 1) false r (count + 1) m′ o′ g′ (onStart v (nameAt d starts lens level) head raw e)
       go o₀ (engine k p q x c) t =
           rw (t .kept-is ∙ ek, ev)
           (record {
@@ -237,24 +290,26 @@ module _ {d starts lens o : List ℕ} {level reached : ℕ} {kept : Bool} {len c
                 rw (t .pend-is, t .done-is, ← span-whole (nameAt d starts lens) reached level h)
                 (sym (span-next (nameAt d starts lens) level));
             num-is = rw (t .num-is);
-            text = rw (t .pend-is) (laid-more (t .text) (wrote-more u (wrote-more y w)));
+            text = rw (t .pend-is) (laid-more (t .text) (wrote-more (u .wrote) (w .wrote)));
+            notes = rw (t .pend-is) (stood-more (t .notes) (noted-more (u .noted) (w .noted)));
           })
 
-  pub start-root : {v : Verdict} {head raw o′ : List ℕ} {r : ℕ} → kept ≡ false → v ≡ Unselected → level ≡ 0
-      → Wrote o len (startTag (nameAt d starts lens level)) r o′ → length (nameAt d starts lens level) ≤ 16777216
-      → Moved d starts lens level reached kept len count o
-      (onStart v (nameAt d starts lens level) head raw) 1 (level + 1) 1 false r count o′
-  start-root {v} {head} {raw} {o′} {r} ek ev z w b =
+  pub start-root : {v : Verdict} {head raw o′ g′ : List ℕ} {r m′ : ℕ} → kept ≡ false → v ≡ Unselected → level ≡ 0
+      → Inked d o g len m (startTag (nameAt d starts lens level)) r m′ o′ g′ → length (nameAt d starts lens level) ≤ 16777216
+      → Moved d starts lens level reached kept len count m o g
+      (onStart v (nameAt d starts lens level) head raw) 1 (level + 1) 1 false r count m′ o′ g′
+  start-root {v} {head} {raw} {o′} {g′} {r} {m′} ek ev z w b =
       record {
         moves = go;
         order = omega arith;
-        far = omega (arith, w .long, length-append (nameAt d starts lens level) (62 ∷ []));
+        far = omega (arith, w .wrote .long, length-append (nameAt d starts lens level) (62 ∷ []));
         few = omega arith;
-        same = wrote-long w;
+        same = wrote-long (w .wrote);
+        room = w .noted .same;
       }
     where
-      go : (o₀ : List ℕ) (e : Engine) → Stands d starts lens o₀ level reached kept len count o e
-          → Stands d starts lens o₀ (level + 1) 1 false r count o′ (onStart v (nameAt d starts lens level) head raw e)
+      go : (o₀ : List ℕ) (e : Engine) → Stands d starts lens o₀ level reached kept len count m o g e
+          → Stands d starts lens o₀ (level + 1) 1 false r count m′ o′ g′ (onStart v (nameAt d starts lens level) head raw e)
       go o₀ (engine k p q x c) t =
           let ep : p ≡ [] = t .pend-is ∙ span-none (nameAt d starts lens) reached level (omega arith) in
           let y : reached ≡ 0 = omega arith in
@@ -265,17 +320,18 @@ module _ {d starts lens o : List ℕ} {level reached : ℕ} {kept : Bool} {len c
             pend-is = rw z;
             done-is = rw z;
             num-is = t .num-is;
-            text = laid-more (t .text) w;
+            text = laid-more (t .text) (w .wrote);
+            notes = stood-more (t .notes) (w .noted);
           })
 
   pub start-waits : {v : Verdict} {head raw : List ℕ} → kept ≡ false → v ≡ Unselected → (level ≡ 0 → ⊥)
-      → Moved d starts lens level reached kept len count o
-      (onStart v (nameAt d starts lens level) head raw) 1 (level + 1) reached kept len count o
+      → Moved d starts lens level reached kept len count m o g
+      (onStart v (nameAt d starts lens level) head raw) 1 (level + 1) reached kept len count m o g
   start-waits {v} {head} {raw} ek ev z =
-      record { moves = go; order = omega arith; far = omega arith; few = omega arith; same = refl }
+      record { moves = go; order = omega arith; far = omega arith; few = omega arith; same = refl; room = refl }
     where
-      go : (o₀ : List ℕ) (e : Engine) → Stands d starts lens o₀ level reached kept len count o e
-          → Stands d starts lens o₀ (level + 1) reached kept len count o (onStart v (nameAt d starts lens level) head raw e)
+      go : (o₀ : List ℕ) (e : Engine) → Stands d starts lens o₀ level reached kept len count m o g e
+          → Stands d starts lens o₀ (level + 1) reached kept len count m o g (onStart v (nameAt d starts lens level) head raw e)
       go o₀ (engine k p q x c) t =
           rw (t .kept-is ∙ ek, ev, open-is t h ∙ refl, some-span (nameAt d starts lens) level, lt-ltb 0 level (omega arith))
           (record {
@@ -284,4 +340,5 @@ module _ {d starts lens o : List ℕ} {level reached : ℕ} {kept : Bool} {len c
             done-is = t .done-is;
             num-is = t .num-is;
             text = t .text;
+            notes = t .notes;
           })

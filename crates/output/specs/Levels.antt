@@ -8,6 +8,8 @@ use lib.ListN.{length, getD}
 use lib.Seq.{sets}
 use Rattle.xml.specs.Forest.{Name}
 use Rattle.tags.specs.Kept.{nameFrom}
+use Rattle.writer.specs.Wrote.{Wrote}
+use Rattle.notes.specs.Notes.{Noted, Stood}
 use Rattle.trees.specs.Engine.{Engine, keptOf, pendOf, doneOf, outOf, numOf}
 use Rattle.output.specs.declared.Run.{Run}
 
@@ -32,32 +34,41 @@ pub record Laid (o₀ : List ℕ) (len : ℕ) (o w : List ℕ) : Type 0 where
   pub long : length w ≡ len
   pub laid : o ≡ sets o₀ 0 w
 
+-- the text s was laid into the buffer o from the place len on, and noted in the log g after m notes
+pub record Inked (d o g : List ℕ) (len m : ℕ) (s : List ℕ) (len′ m′ : ℕ) (o′ g′ : List ℕ) : Type 0 where
+  pub wrote : Wrote o len s len′ o′
+  pub noted : Noted d g m s m′ g′
+
 -- The code's state stands for an engine: `level` is the input level, `reached` the output level; o₀ is the buffer at the beginning, o the
--- buffer now.
-pub record Stands (d starts lens o₀ : List ℕ) (level reached : ℕ) (kept : Bool) (len count : ℕ) (o : List ℕ) (e : Engine) : Type 0 where
-  pub kept-is : keptOf e ≡ kept
-  pub pend-is : pendOf e ≡ span (nameAt d starts lens) reached (level - reached)
-  pub done-is : doneOf e ≡ span (nameAt d starts lens) 0 reached
-  pub num-is : numOf e ≡ count
-  pub text : Laid o₀ len o (outOf e)
+-- buffer now, g the log with m notes.
+pub record Stands (d starts lens o₀ : List ℕ) (level reached : ℕ) (kept : Bool) (len count m : ℕ) (o g : List ℕ) (e : Engine) : Type 0
+  where
+    pub kept-is : keptOf e ≡ kept
+    pub pend-is : pendOf e ≡ span (nameAt d starts lens) reached (level - reached)
+    pub done-is : doneOf e ≡ span (nameAt d starts lens) 0 reached
+    pub num-is : numOf e ≡ count
+    pub text : Laid o₀ len o (outOf e)
+    pub notes : Stood d g m (outOf e)
 
 -- Some steps do what f does to whatever engine the state stands for. Each writes at most 2^31 bytes, and selects one element at most.
-pub record Moved (d starts lens : List ℕ) (level reached : ℕ) (kept : Bool) (len count : ℕ) (o : List ℕ) (f : Engine → Engine)
-    (steps level′ reached′ : ℕ) (kept′ : Bool) (len′ count′ : ℕ) (o′ : List ℕ) : Type 0 where
-  pub moves : (o₀ : List ℕ) (e : Engine) → Stands d starts lens o₀ level reached kept len count o e
-      → Stands d starts lens o₀ level′ reached′ kept′ len′ count′ o′ (f e)
+pub record Moved (d starts lens : List ℕ) (level reached : ℕ) (kept : Bool) (len count m : ℕ) (o g : List ℕ) (f : Engine → Engine)
+    (steps level′ reached′ : ℕ) (kept′ : Bool) (len′ count′ m′ : ℕ) (o′ g′ : List ℕ) : Type 0 where
+  pub moves : (o₀ : List ℕ) (e : Engine) → Stands d starts lens o₀ level reached kept len count m o g e
+      → Stands d starts lens o₀ level′ reached′ kept′ len′ count′ m′ o′ g′ (f e)
   pub order : reached′ ≤ level′
   pub far : len′ ≤ len + steps * 2147483648
   pub few : count′ ≤ count + steps
   pub same : length o′ ≡ length o
+  pub room : length g′ ≡ length g
 
-abbrev pub Moves : List ℕ → List ℕ → List ℕ → ℕ → Run → List ℕ → (Engine → Engine) → ℕ → ℕ → Run → List ℕ → Type 0
-Moves d starts lens level r o f steps level′ r′ o′ =
-    Moved d starts lens level (r .reached .0) (r .kept) (r .len) (r .count) o f steps
-    level′ (r′ .reached .0) (r′ .kept) (r′ .len) (r′ .count) o′
+abbrev pub Moves : List ℕ → List ℕ → List ℕ → ℕ → Run → List ℕ → List ℕ → (Engine → Engine) → ℕ → ℕ → Run → List ℕ → List ℕ → Type 0
+Moves d starts lens level r o g f steps level′ r′ o′ g′ =
+    Moved d starts lens level (r .reached .0) (r .kept) (r .len) (r .count) (r .noted) o g f steps
+    level′ (r′ .reached .0) (r′ .kept) (r′ .len) (r′ .count) (r′ .noted) o′ g′
 
 -- no number that a step reckons with goes over 64 bits
-pub record Ready (d : List ℕ) (r : Run) (most : ℕ) : Type 0 where
+pub record Ready (d g : List ℕ) (r : Run) (most : ℕ) : Type 0 where
   pub small : length d ≤ 16777216
+  pub log-small : length g ≤ 16777216
   pub near : r .len < most
   pub few : r .count < most

@@ -14,15 +14,15 @@ ghost use Rattle.output.specs.Act.{onTag, onOther, levelAfter};
 use crate::OutputLevel;
 use crate::Run;
 use crate::chain::open_chain;
+use crate::ink::bare;
+use crate::ink::ends;
+use crate::ink::headed;
+use crate::ink::raw;
 use document::InputLevel;
 use document::Open;
 use document::place::end_of;
 use matcher::Verdict;
 use tags::Item;
-use writer::copy;
-use writer::end_tag;
-use writer::put;
-use writer::start_tag;
 
 // How many elements a verdict selects.
 fn one_of(verdict: Verdict) -> usize
@@ -36,20 +36,21 @@ fn one_of(verdict: Verdict) -> usize
 }
 
 // An item that is no tag: written inside a kept entry, else dropped.
-fn aside(run: Run, doc: &[u8], out: &mut [u8], at: usize, end: usize) -> Run
-    requires { ⌜ Ready (now doc) run 144115188075855872 × (at ≤ end) × (end ≤ length (now doc)) ⌝ }
+fn aside(run: Run, doc: &[u8], out: &mut [u8], log: &mut [u64], at: usize, end: usize) -> Run
+    requires { ⌜ Ready (now doc) (now log) run 144115188075855872 × (at ≤ end) × (end ≤ length (now doc)) ⌝ }
     ensures { λ r.
         ⌜ ((starts lens : List ℕ) (level : ℕ) → run .reached .0 ≤ level
-        → Moves (now (doc .entry)) starts lens level run (now (out .entry)) (onAside (part (now (doc .entry)) at end)) 1 level r
-        (now (out .exit))) ⌝ }
+        → Moves (now (doc .entry)) starts lens level run (now (out .entry)) (now (log .entry))
+        (onAside (part (now (doc .entry)) at end)) 1 level r (now (out .exit)) (now (log .exit))) ⌝ }
 {
     if run.kept {
-        let len = copy(out, run.len, &doc[at..end]);
+        let r = raw(doc, out, log, run.len, run.noted, at, end);
         return Run {
             reached: OutputLevel(run.reached.0),
             kept: true,
-            len,
+            len: r.len,
             count: run.count,
+            noted: r.noted,
         };
     }
     run
@@ -63,14 +64,15 @@ fn finish(
     starts: &[usize; Open::LEVELS],
     lens: &[usize; Open::LEVELS],
     out: &mut [u8],
+    log: &mut [u64],
     at: usize,
     end: usize,
 ) -> Run
-    requires { ⌜ Ready (now doc) run 144115188075855872 × (run .reached .0 ≤ level .0) × (at ≤ end) × (end ≤ length (now doc))
+    requires { ⌜ Ready (now doc) (now log) run 144115188075855872 × (run .reached .0 ≤ level .0) × (at ≤ end) × (end ≤ length (now doc))
         × Placed (now doc) (now starts) (now lens) (level .0) ⌝ }
     ensures { λ r.
-        ⌜ Moves (now (doc .entry)) (now (starts .entry)) (now (lens .entry)) (level .0) run (now (out .entry))
-        (onFinish (part (now (doc .entry)) at end)) 1 (level .0 - 1) r (now (out .exit)) ⌝ }
+        ⌜ Moves (now (doc .entry)) (now (starts .entry)) (now (lens .entry)) (level .0) run (now (out .entry)) (now (log .entry))
+        (onFinish (part (now (doc .entry)) at end)) 1 (level .0 - 1) r (now (out .exit)) (now (log .exit)) ⌝ }
 {
     let l = level.0;
     if l == 0 {
@@ -80,21 +82,23 @@ fn finish(
     if l <= reached {
         let a = starts[l - 1];
         let n = lens[l - 1];
-        let len = end_tag(out, run.len, &doc[a..a + n]);
+        let r = ends(doc, out, log, run.len, run.noted, a, n);
         return Run {
             reached: OutputLevel(l - 1),
             kept: run.kept,
-            len,
+            len: r.len,
             count: run.count,
+            noted: r.noted,
         };
     }
     if run.kept {
-        let len = copy(out, run.len, &doc[at..end]);
+        let r = raw(doc, out, log, run.len, run.noted, at, end);
         return Run {
             reached: OutputLevel(reached),
             kept: reached + 1 < l,
-            len,
+            len: r.len,
             count: run.count,
+            noted: r.noted,
         };
     }
     run
@@ -108,62 +112,66 @@ fn start(
     starts: &[usize; Open::LEVELS],
     lens: &[usize; Open::LEVELS],
     out: &mut [u8],
+    log: &mut [u64],
     verdict: Verdict,
     at: usize,
     head: usize,
     end: usize,
 ) -> Run
-    requires { ⌜ Ready (now doc) run 144115188075855872 × (run .reached .0 ≤ level .0) × (at ≤ head) × (head ≤ end)
+    requires { ⌜ Ready (now doc) (now log) run 144115188075855872 × (run .reached .0 ≤ level .0) × (at ≤ head) × (head ≤ end)
         × (end ≤ length (now doc)) × Placed (now doc) (now starts) (now lens) (level .0 + 1) ⌝ }
     ensures { λ r.
-        ⌜ Moves (now (doc .entry)) (now (starts .entry)) (now (lens .entry)) (level .0) run (now (out .entry))
+        ⌜ Moves (now (doc .entry)) (now (starts .entry)) (now (lens .entry)) (level .0) run (now (out .entry)) (now (log .entry))
         (onStart verdict (nameAt (now (doc .entry)) (now (starts .entry)) (now (lens .entry)) (level .0))
-        (part (now (doc .entry)) at head) (part (now (doc .entry)) at end)) 1 (level .0 + 1) r (now (out .exit)) ⌝ }
+        (part (now (doc .entry)) at head) (part (now (doc .entry)) at end)) 1 (level .0 + 1) r (now (out .exit)) (now (log .exit)) ⌝ }
 {
     let l = level.0;
     let reached = run.reached.0;
     if run.kept {
-        let len = copy(out, run.len, &doc[at..end]);
+        let r = raw(doc, out, log, run.len, run.noted, at, end);
         let n = one_of(verdict);
         return Run {
             reached: OutputLevel(reached),
             kept: true,
-            len,
+            len: r.len,
             count: run.count + n,
+            noted: r.noted,
         };
     }
     match verdict {
         Verdict::Marked => {
-            let a = open_chain(doc, starts, lens, out, run.len, reached, l);
-            let len = copy(out, a, &doc[at..end]);
+            let a = open_chain(doc, starts, lens, out, log, run.len, run.noted, reached, l);
+            let r = raw(doc, out, log, a.len, a.noted, at, end);
             Run {
                 reached: OutputLevel(l),
                 kept: true,
-                len,
+                len: r.len,
                 count: run.count + 1,
+                noted: r.noted,
             }
         }
         Verdict::Selected => {
-            let a = open_chain(doc, starts, lens, out, run.len, reached, l);
-            let e = copy(out, a, &doc[at..head]);
-            let len = put(out, e, b'>');
+            let a = open_chain(doc, starts, lens, out, log, run.len, run.noted, reached, l);
+            let r = headed(doc, out, log, a.len, a.noted, at, head);
             Run {
                 reached: OutputLevel(l + 1),
                 kept: false,
-                len,
+                len: r.len,
                 count: run.count + 1,
+                noted: r.noted,
             }
         }
         Verdict::Unselected => {
             if l == 0 {
                 let a = starts[l];
                 let n = lens[l];
-                let len = start_tag(out, run.len, &doc[a..a + n]);
+                let r = bare(doc, out, log, run.len, run.noted, a, n);
                 return Run {
                     reached: OutputLevel(1),
                     kept: false,
-                    len,
+                    len: r.len,
                     count: run.count,
+                    noted: r.noted,
                 };
             }
             run
@@ -179,21 +187,35 @@ pub fn tag_step(
     starts: &[usize; Open::LEVELS],
     lens: &[usize; Open::LEVELS],
     out: &mut [u8],
+    log: &mut [u64],
     verdict: Verdict,
     at: usize,
     head: usize,
     end: usize,
     empty: bool,
 ) -> Run
-    requires { ⌜ Ready (now doc) run 72057594037927936 × (run .reached .0 ≤ level .0) × (at ≤ head) × (head ≤ end)
+    requires { ⌜ Ready (now doc) (now log) run 72057594037927936 × (run .reached .0 ≤ level .0) × (at ≤ head) × (head ≤ end)
         × (end ≤ length (now doc)) × Placed (now doc) (now starts) (now lens) (level .0 + 1) ⌝ }
     ensures { λ r.
-        ⌜ Moves (now (doc .entry)) (now (starts .entry)) (now (lens .entry)) (level .0) run (now (out .entry))
+        ⌜ Moves (now (doc .entry)) (now (starts .entry)) (now (lens .entry)) (level .0) run (now (out .entry)) (now (log .entry))
         (onTag verdict (nameAt (now (doc .entry)) (now (starts .entry)) (now (lens .entry)) (level .0))
-        (part (now (doc .entry)) at head) (part (now (doc .entry)) at end) empty) 2 (deeper empty (level .0)) r (now (out .exit)) ⌝ }
+        (part (now (doc .entry)) at head) (part (now (doc .entry)) at end) empty) 2 (deeper empty (level .0)) r
+        (now (out .exit)) (now (log .exit)) ⌝ }
 {
     let reached = level.0;
-    let inner = start(run, level, doc, starts, lens, out, verdict, at, head, end);
+    let inner = start(
+        run,
+        level,
+        doc,
+        starts,
+        lens,
+        out,
+        log,
+        verdict,
+        at,
+        head,
+        end,
+    );
     if empty {
         return finish(
             inner,
@@ -202,6 +224,7 @@ pub fn tag_step(
             starts,
             lens,
             out,
+            log,
             end,
             end,
         );
@@ -217,18 +240,19 @@ pub fn other_step(
     starts: &[usize; Open::LEVELS],
     lens: &[usize; Open::LEVELS],
     out: &mut [u8],
+    log: &mut [u64],
     at: usize,
     item: Item,
 ) -> Run
-    requires { ⌜ Ready (now doc) run 72057594037927936 × (run .reached .0 ≤ level .0) × Inside (now doc) at item
+    requires { ⌜ Ready (now doc) (now log) run 72057594037927936 × (run .reached .0 ≤ level .0) × Inside (now doc) at item
         × (at ≤ length (now doc)) × Placed (now doc) (now starts) (now lens) (level .0) ⌝ }
     ensures { λ r.
-        ⌜ Moves (now (doc .entry)) (now (starts .entry)) (now (lens .entry)) (level .0) run (now (out .entry))
-        (onOther (now (doc .entry)) at item) 1 (levelAfter item (level .0)) r (now (out .exit)) ⌝ }
+        ⌜ Moves (now (doc .entry)) (now (starts .entry)) (now (lens .entry)) (level .0) run (now (out .entry)) (now (log .entry))
+        (onOther (now (doc .entry)) at item) 1 (levelAfter item (level .0)) r (now (out .exit)) (now (log .exit)) ⌝ }
 {
     if let Item::Finish { name: _, end } = item {
-        return finish(run, level, doc, starts, lens, out, at, end);
+        return finish(run, level, doc, starts, lens, out, log, at, end);
     }
     let end = end_of(at, item);
-    aside(run, doc, out, at, end)
+    aside(run, doc, out, log, at, end)
 }
