@@ -47,6 +47,8 @@ use Rattle.matcher.proofs.Meaning.{verdict-told, unselected-told, untested-told
 use Rattle.xml.specs.Forest.{Tag}
 use Rattle.trees.specs.Cut.{on}
 use Rattle.trees.specs.Grown.{part, tagOf, tokensOf}
+use Rattle.notes.specs.Notes.{Stood}
+use Rattle.notes.proofs.Making.{stood-none}
 use Rattle.trees.specs.Engine.{Engine, engine, begun, openOf, run as runs}
 use Rattle.trees.specs.Written.{rootFirst, verdicts, cutOf, countOf, nameTests, testsOf}
 use Rattle.trees.proofs.Told.{run-cut, run-tests}
@@ -62,12 +64,12 @@ use Rattle.passes.proofs.Rests.{Rest, untagged, rest-start, rest-over, 
 use Rattle.passes.proofs.States.{none, above, Held, Stored, name-here, span-below, held-start, held-kept, held-deeper, held-same}
 use Rattle.passes.proofs.States.{parent-is, stored-long}
 
-pub record Passing (list d o₀ : List ℕ) (states : List MatchState) (starts lens : List ℕ) (opened : Open) (run : Run) (at : ℕ)
-    (first : Bool) (tests : ℕ) (o : List ℕ) : Type 0 where
+pub record Passing (list d o₀ g₀ : List ℕ) (states : List MatchState) (starts lens : List ℕ) (opened : Open) (run : Run) (at : ℕ)
+    (first : Bool) (tests : ℕ) (o g : List ℕ) : Type 0 where
   pub judging : Judging d starts lens opened at first
   pub x : Engine
   pub rest : Rest (verdicts (listPaths list)) (nameTests (listPaths list)) d at first x tests
-  pub stands : Stands d starts lens o₀ (opened .level .0) (run .reached .0) (run .kept) (run .len) (run .count) o x
+  pub stands : Stands d starts lens o₀ (opened .level .0) (run .reached .0) (run .kept) (run .len) (run .count) (run .noted) o g x
   pub held : Held (listPaths list) states d starts lens (opened .level .0)
   pub order : run .reached .0 ≤ opened .level .0
   pub far : run .len ≤ at * 4294967296
@@ -75,14 +77,15 @@ pub record Passing (list d o₀ : List ℕ) (states : List MatchState) (starts l
   pub many : tests ≤ at * 512
   pub long : length states ≡ 64
   pub room : length o ≡ length o₀
+  pub log-room : length g ≡ length g₀
 
-pub pass-start : (list d o : List ℕ) {m : MatchState} {opened : Open} {run : Run} {at : ℕ}
+pub pass-start : (list d o g : List ℕ) {m : MatchState} {opened : Open} {run : Run} {at : ℕ}
     → opened ≡ record { level = record { 0 = 0 }; rooted = false }
-    → run ≡ record { reached = record { 0 = 0 }; kept = false; len = 0; count = 0 }
+    → run ≡ record { reached = record { 0 = 0 }; kept = false; len = 0; count = 0; noted = 0 }
     → at ≡ startOf d
     → m ≡ freshState
-    → Passing list d o (replicate 64 m) (replicate 64 0) (replicate 64 0) opened run at true 0 o
-pass-start list d o {m} {at = at} p r q f =
+    → Passing list d o g (replicate 64 m) (replicate 64 0) (replicate 64 0) opened run at true 0 o g
+pass-start list d o g {m} {at = at} p r q f =
     rw (p, r)
     (record {
       judging = judge-start d refl q;
@@ -95,6 +98,7 @@ pass-start list d o {m} {at = at} p r q f =
             done-is = refl;
             num-is = refl;
             text = record { long = refl; laid = refl };
+            notes = stood-none;
           };
       held = held-start (listPaths list) f d (replicate 64 0) (replicate 64 0);
       order = omega arith;
@@ -103,17 +107,19 @@ pass-start list d o {m} {at = at} p r q f =
       many = omega arith;
       long = length-replicate {A = MatchState} 64 m;
       room = refl;
+      log-room = refl;
     })
 
 -- ---- out
 
-module _ {list d o₀ : List ℕ} {states : List MatchState} {starts lens : List ℕ} {opened : Open} {run : Run} {at : ℕ} {first : Bool}
-    {tests : ℕ} {o : List ℕ} (v : Passing list d o₀ states starts lens opened run at first tests o) {i : Item} (e : i ≡ itemAt first d at)
+module _ {list d o₀ g₀ : List ℕ} {states : List MatchState} {starts lens : List ℕ} {opened : Open} {run : Run} {at : ℕ} {first : Bool}
+    {tests : ℕ} {o g : List ℕ} (v : Passing list d o₀ g₀ states starts lens opened run at first tests o g)
+    {i : Item} (e : i ≡ itemAt first d at)
     {p : Placement} (q : p ≡ placement d at i (openedOf d starts lens opened)) where
-  pub pass-fault : (why : Why) → p ≡ Faulty why → Passed list d o₀ (Fault why at) o
+  pub pass-fault : (why : Why) → p ≡ Faulty why → Passed list d o₀ (Fault why at) o g
   pass-fault why h = record { judged = judge-fault (v .judging) e q why h; told = tt }
 
-  pub pass-over : p ≡ Over → Passed list d o₀ (Ended (run .len) (run .count) tests) o
+  pub pass-over : p ≡ Over → Passed list d o₀ (Ended (run .len) (run .count) tests (run .noted)) o g
   pass-over h = record { judged = sound; told = go (v .x) (v .stands) (whole ∙ run-cut list d (sym sound)) }
     where
       sound : Sound ≡ scanned d
@@ -125,13 +131,15 @@ module _ {list d o₀ : List ℕ} {states : List MatchState} {starts lens : List
       counted : tests ≡ testsOf list d
       counted = sum-over (v .rest) e (openedOf d starts lens opened) (sym q ∙ h) ∙ run-tests list d (sym sound)
 
-      go : (y : Engine) → Stands d starts lens o₀ (opened .level .0) (run .reached .0) (run .kept) (run .len) (run .count) o y
+      go : (y : Engine) → Stands d starts lens o₀ (opened .level .0) (run .reached .0) (run .kept) (run .len) (run .count)
+          (run .noted) o g y
           → y ≡ engine false [] [] (cutOf list d) (countOf list d)
           → (run .len ≡ length (cutOf list d)) × (run .count ≡ countOf list d) × (tests ≡ testsOf list d) × (o ≡ sets o₀ 0 (cutOf list d))
+          × Stood d g (run .noted) (cutOf list d)
       go (engine k p′ d′ w c) t z =
           let a : w ≡ cutOf list d = cc in
           let b : c ≡ countOf list d = cc in
-          (sym (t .text .long) ∙ ap length a, sym (t .num-is) ∙ b, counted, t .text .laid ∙ ap (sets o₀ 0) a)
+          (sym (t .text .long) ∙ ap length a, sym (t .num-is) ∙ b, counted, t .text .laid ∙ ap (sets o₀ 0) a, rw a at (t .notes))
 
 -- ---- on
 
@@ -140,10 +148,16 @@ by-deeper P true l a c = a
 by-deeper P false l a c = c
 
 -- the numbers of a step are within 64 bits
-module _ {list d o₀ : List ℕ} {states : List MatchState} {starts lens : List ℕ} {opened : Open} {run : Run} {at : ℕ} {first : Bool}
-    {tests : ℕ} {o : List ℕ} (v : Passing list d o₀ states starts lens opened run at first tests o) (small : length d ≤ 16777216) where
-  pub pass-ready : at < length d → Ready d run 72057594037927936
-  pass-ready l = record { small = small; near = omega (arith, v .far); few = omega (arith, v .few) }
+module _ {list d o₀ g₀ : List ℕ} {states : List MatchState} {starts lens : List ℕ} {opened : Open} {run : Run} {at : ℕ} {first : Bool}
+    {tests : ℕ} {o g : List ℕ} (v : Passing list d o₀ g₀ states starts lens opened run at first tests o g) (small : length d ≤ 16777216) where
+  pub pass-ready : length g₀ ≤ 16777216 → at < length d → Ready d g run 72057594037927936
+  pass-ready s l =
+      record {
+        small = small;
+        log-small = omega (arith, v .log-room);
+        near = omega (arith, v .far);
+        few = omega (arith, v .few);
+      }
 
   pub pass-many : at < length d → {k : ℕ} → k ≤ 512 → Fits w64 (tests + k)
   pass-many l h = record { fits = omega (arith, v .many) }
@@ -189,9 +203,9 @@ placed-more {d} {starts} {lens} {opened} s a n h l =
         ⊎-elim (λ (q : i ≡ opened .level .0). rw q here) (λ (q : i < opened .level .0). k .inside i q) (eq-or-lt-of-le le)
 
 -- what the state stands for does not see a name kept at the level reached
-stands-kept : {d starts lens o₀ o : List ℕ} {level reached len count : ℕ} {kept : Bool} {x : Engine} → reached ≤ level
-    → Stands d starts lens o₀ level reached kept len count o x → (a n : ℕ)
-    → Stands d (set starts level a) (set lens level n) o₀ level reached kept len count o x
+stands-kept : {d starts lens o₀ o g : List ℕ} {level reached len count m : ℕ} {kept : Bool} {x : Engine} → reached ≤ level
+    → Stands d starts lens o₀ level reached kept len count m o g x → (a n : ℕ)
+    → Stands d (set starts level a) (set lens level n) o₀ level reached kept len count m o g x
 stands-kept {d} {starts} {lens} {level = level} {reached} h t a n =
     record {
       kept-is = t .kept-is;
@@ -199,10 +213,12 @@ stands-kept {d} {starts} {lens} {level = level} {reached} h t a n =
       done-is = t .done-is ∙ sym (span-below d starts lens level a n 0 reached (omega arith));
       num-is = t .num-is;
       text = t .text;
+      notes = t .notes;
     }
 
-module _ {list d o₀ : List ℕ} {states : List MatchState} {starts lens : List ℕ} {opened : Open} {run : Run} {at : ℕ} {first : Bool}
-    {tests : ℕ} {o : List ℕ} (v : Passing list d o₀ states starts lens opened run at first tests o) {i : Item} (e : i ≡ itemAt first d at)
+module _ {list d o₀ g₀ : List ℕ} {states : List MatchState} {starts lens : List ℕ} {opened : Open} {run : Run} {at : ℕ} {first : Bool}
+    {tests : ℕ} {o g : List ℕ} (v : Passing list d o₀ g₀ states starts lens opened run at first tests o g)
+    {i : Item} (e : i ≡ itemAt first d at)
     {p : Placement} (q : p ≡ placement d at i (openedOf d starts lens opened)) (h : p ≡ Fine) where
   inner : Inside d at i
   inner = scan-inside (v .judging) e
@@ -232,11 +248,11 @@ module _ {list d o₀ : List ℕ} {states : List MatchState} {starts lens : List
     pub pass-placed : Placed d starts′ lens′ (opened .level .0)
     pass-placed = rw (es, el) (placed-kept (v .judging .names) (at + 1) (lenOf i))
 
-    pub pass-other : OneOf untagged (kindOf item.the-type i) → {run′ : Run} {o′ : List ℕ}
-        → Moves d starts′ lens′ (opened .level .0) run o (onOther d at i) 1 (levelAfter i (opened .level .0)) run′ o′
+    pub pass-other : OneOf untagged (kindOf item.the-type i) → {run′ : Run} {o′ g′ : List ℕ}
+        → Moves d starts′ lens′ (opened .level .0) run o g (onOther d at i) 1 (levelAfter i (opened .level .0)) run′ o′ g′
         → {opened′ : Open} → opened′ ≡ openAfter i opened → {n : ℕ} → n ≡ endOf at i
-        → Passing list d o₀ states starts′ lens′ opened′ run′ n false tests o′
-    pass-other k {run′} {o′} m {opened′} eo {n} en =
+        → Passing list d o₀ g₀ states starts′ lens′ opened′ run′ n false tests o′ g′
+    pass-other k {run′} {o′} {g′} m {opened′} eo {n} en =
         record {
           judging = scan-on (v .judging) e q h es el eo en;
           x = onOther d at i (v .x);
@@ -249,6 +265,7 @@ module _ {list d o₀ : List ℕ} {states : List MatchState} {starts lens : List
           many = omega (arith, v .many, ahead .0);
           long = v .long;
           room = m .same ∙ v .room;
+          log-room = m .room ∙ v .log-room;
         }
       where
         after : (j : Item) → OneOf untagged (kindOf item.the-type j) → levelAfter j (opened .level .0) ≡ openAfter j opened .level .0
@@ -430,12 +447,12 @@ module _ {list d o₀ : List ℕ} {states : List MatchState} {starts lens : List
             (sym (open-is (v .stands) (v .order)))
 
         pub pass-tag : {w : Verdict} → TagVerdict w → {states′ : List MatchState} → TagStored states′
-            → {k : ℕ} → (k ≡ testsBy parent fit) × (k ≤ 512) → {run′ : Run} {o′ : List ℕ}
-            → Moves d starts′ lens′ (opened .level .0) run o
-            (onTag w (nameAt d starts′ lens′ (opened .level .0)) (part d at b) (part d at f) m) 2 (deeper m (opened .level .0)) run′ o′
+            → {k : ℕ} → (k ≡ testsBy parent fit) × (k ≤ 512) → {run′ : Run} {o′ g′ : List ℕ}
+            → Moves d starts′ lens′ (opened .level .0) run o g
+            (onTag w (nameAt d starts′ lens′ (opened .level .0)) (part d at b) (part d at f) m) 2 (deeper m (opened .level .0)) run′ o′ g′
             → {opened′ : Open} → opened′ ≡ openAfter (Start n b f m t) opened
-            → Passing list d o₀ states′ starts′ lens′ opened′ run′ f false (tests + k) o′
-        pass-tag {w} ew et {k} ek {run′} {o′} mv {opened′} eo =
+            → Passing list d o₀ g₀ states′ starts′ lens′ opened′ run′ f false (tests + k) o′ g′
+        pass-tag {w} ew et {k} ek {run′} {o′} {g′} mv {opened′} eo =
             record {
               judging = scan-on (v .judging) e q h es el (eo ∙ sym (ap (λ (j : Item). openAfter j opened) s)) (sym (ap (endOf at) s));
               x = onTag w (nameFrom d (at + 1) n) (part d at b) (part d at f) m (v .x);
@@ -450,6 +467,7 @@ module _ {list d o₀ : List ℕ} {states : List MatchState} {starts lens : List
               many = omega (arith, v .many, ek .1, places .0, places .1);
               long = stored-long states (opened .level .0) (deeperOf parent fit) et ∙ v .long;
               room = mv .same ∙ v .room;
+              log-room = mv .room ∙ v .log-room;
             }
           where
             level : deeper m (opened .level .0) ≡ opened′ .level .0

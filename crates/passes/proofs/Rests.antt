@@ -8,8 +8,7 @@ use native.Mathlib.Nat.{zero-add}
 use native.Mathlib.Omega.{arith}
 use types.Run.{OneOf}
 use denote.Enum.Declared.{tagOf as kindOf}
-use lib.ListN.{length, take, drop}
-use lib.Seq.{take-add, drop-drop}
+use lib.ListN.{length}
 use Rattle.xml.specs.Forest.{Name}
 use Rattle.tags.proofs.Item as item
 use Rattle.tags.specs.Kept.{nameFrom}
@@ -21,6 +20,7 @@ use Rattle.document.specs.Place.{Opened, placement, endOf}
 use Rattle.document.specs.Judge.{startOf}
 use Rattle.document.specs.declared.Placement.the-variants.{Fine, Over}
 use Rattle.document.proofs.Placing.{not-among}
+use Rattle.notes.proofs.Making.{part-join}
 use Rattle.trees.specs.Cut.{Judge, on}
 use Rattle.trees.specs.Grown.{Token, part, tagOf, itemTokens, tokensFrom, tokensOf}
 use Rattle.trees.specs.Engine.{Engine, begun, openOf, onStart, onFinish, onAside, run, outer, tallied}
@@ -100,14 +100,6 @@ module _ {v : Judge} {f : List Name → ℕ} {d : List ℕ} {at : ℕ} {first : 
         z ∙ ap (λ (j : Item). t + tallied f (itemTokens d at j behind) (openOf x)) (sym (over-nothing d at i s q)) ∙ sum-turn
 
 -- ---- a tag
-
-part-join : (d : List ℕ) (a h e : ℕ) → a ≤ h → h ≤ e → part d a h ++ part d h e ≡ part d a e
-part-join d a h e l m =
-    let p : a + (h - a) ≡ h = omega arith in
-    let q : e - a ≡ (h - a) + (e - h) = omega arith in
-    ap (λ (s : List ℕ). part d a h ++ take (e - h) s) (ap (λ (k : ℕ). drop k d) (sym p) ∙ sym (drop-drop (h - a) a d))
-    ∙ sym (take-add (h - a) (e - h) (drop a d))
-    ∙ ap (λ (k : ℕ). take k (drop a d)) (sym q)
 
 module _ (v : Judge) (d : List ℕ) (at n h e : ℕ) (t : Bool) (x : Engine) (l : at ≤ h) (k : h ≤ e) where
   abbrev name : List ℕ

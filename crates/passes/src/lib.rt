@@ -1,5 +1,6 @@
 // One pass over the items of a document: each is read and put in its place, its element is matched, and what is written of it is laid into
-// the buffer as far as the buffer reaches. Into one byte a pass measures; into a buffer that is long enough it writes.
+// the buffer as far as the buffer reaches, and noted as far as there is room for notes. Into one byte a pass measures; into a buffer that
+// is long enough it writes.
 //
 //     levels          1     2     3                 starts, lens   the names of the open elements, by their places
 //     <g><p><v>       g     p     v                 states         what each path has come to, below each of them
@@ -39,9 +40,10 @@ use tags::Item;
 use tests::any;
 use tests::picked;
 
-// What a pass comes to: the length of the cut, the number of elements selected and that of the name tests tried; or the item at fault.
+// What a pass comes to: the length of the cut, the number of elements selected, that of the name tests tried and that of the notes; or the
+// item at fault.
 pub enum Outcome {
-    Fine(usize, usize, usize),
+    Fine(usize, usize, usize, usize),
     Fault(Why, usize),
 }
 
@@ -78,9 +80,16 @@ fn judged(
 }
 
 // By the tables of a sound list.
-pub fn pass(table: &Classes, list: &[u8], t: &Compiled, doc: &[u8], out: &mut [u8]) -> Outcome
-    requires { ⌜ (now table ≡ classTable) × (length (now doc) ≤ 16777216) × Serves (now list) (now t) ⌝ }
-    ensures { λ r. ⌜ Passed (now (list .entry)) (now (doc .entry)) (now (out .entry)) r (now (out .exit)) ⌝ }
+pub fn pass(
+    table: &Classes,
+    list: &[u8],
+    t: &Compiled,
+    doc: &[u8],
+    out: &mut [u8],
+    log: &mut [u64],
+) -> Outcome
+    requires { ⌜ (now table ≡ classTable) × (length (now doc) ≤ 16777216) × Serves (now list) (now t) × (length (now log) ≤ 16777216) ⌝ }
+    ensures { λ r. ⌜ Passed (now (list .entry)) (now (doc .entry)) (now (out .entry)) r (now (out .exit)) (now (log .exit)) ⌝ }
 {
     let tested = any(t);
     let fresh = MatchState::fresh();
@@ -99,7 +108,7 @@ pub fn pass(table: &Classes, list: &[u8], t: &Compiled, doc: &[u8], out: &mut [u
                 return Outcome::Fault(why, at);
             }
             Placement::Over => {
-                return Outcome::Fine(run.len, run.count, tests);
+                return Outcome::Fine(run.len, run.count, tests, run.noted);
             }
             Placement::Fine => {
                 keep(&mut starts, &mut lens, opened, at, next);
@@ -127,6 +136,7 @@ pub fn pass(table: &Classes, list: &[u8], t: &Compiled, doc: &[u8], out: &mut [u
                         &starts,
                         &lens,
                         out,
+                        log,
                         verdict,
                         at,
                         head,
@@ -138,7 +148,17 @@ pub fn pass(table: &Classes, list: &[u8], t: &Compiled, doc: &[u8], out: &mut [u
                     first = false;
                     continue;
                 }
-                run = other_step(run, InputLevel(level), doc, &starts, &lens, out, at, next);
+                run = other_step(
+                    run,
+                    InputLevel(level),
+                    doc,
+                    &starts,
+                    &lens,
+                    out,
+                    log,
+                    at,
+                    next,
+                );
                 opened = opened.after(next);
                 at = end_of(at, next);
                 first = false;

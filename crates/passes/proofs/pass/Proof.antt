@@ -16,12 +16,12 @@ use Rattle.passes.proofs.pass.Statement.{statement}
 use Rattle.passes.proofs.pass.Tie as tie
 
 abbrev Inv-loop : tie.InvT-loop
-Inv-loop table list t doc out₀ tested states₀ starts₀ lens₀ opened₀ run₀ at₀ first₀ tests₀ out
+Inv-loop table list t doc out₀ log₀ tested states₀ starts₀ lens₀ opened₀ run₀ at₀ first₀ tests₀ out log
     states starts lens opened run at first tests =
-    Passing list doc out₀ states starts lens opened run at first tests out
+    Passing list doc out₀ log₀ states starts lens opened run at first tests out log
 
 abbrev μ-loop : tie.MeasureT-loop
-μ-loop table list t doc out₀ tested states₀ starts₀ lens₀ opened₀ run₀ at₀ first₀ tests₀ out
+μ-loop table list t doc out₀ log₀ tested states₀ starts₀ lens₀ opened₀ run₀ at₀ first₀ tests₀ out log
     states starts lens opened run at first tests =
     length doc - at
 
@@ -42,12 +42,11 @@ start-of-requires c κs = search needs
 
 loop-holds : tie.Need-loop-holds Inv-loop μ-loop
 loop-holds c =
-    pass-start _ _ _ (c .before .before .none .ensures) (c .before .none2 .ensures) (c .start-of .ensures) (c .before .before
-    .before .fresh .ensures)
+    pass-start _ _ _ _ (c .before .before .none .ensures) (c .before .none2 .ensures) (c .start-of .ensures) (c .before .before .before .fresh .ensures)
 
 item-requires : tie.Need-item-requires Inv-loop μ-loop
 item-requires c κs =
-    c .before .before .before .before .before .before .before .before .before .pre .0
+    c .before .before .before .before .before .before .before .before .before .before .pre .0
 
 place-requires : tie.Need-place-requires Inv-loop μ-loop
 place-requires c κs = (
@@ -61,16 +60,21 @@ enum-known-why c = search needs
 same-length : tie.Need-same-length Inv-loop μ-loop
 same-length c = search needs
 
+same-length-2 : tie.Need-same-length-2 Inv-loop μ-loop
+same-length-2 c = search needs
+
 returns : tie.Need-returns Inv-loop μ-loop
 returns c =
-    pass-fault (c .before .before .before .before .before .before .before .loop .inv) (c .before .before .before .before .before
-    .before .item .ensures) (c .before .before .before .place .ensures) _ (c .before .why .given .1)
+    pass-fault (c .before .before .before .before .before .before .before .loop .inv) (c .before .before .before .before .before .before .item .ensures) (c .before .before .before .place .ensures) _ (c .before .why .given .1)
 
 enum-told : tie.Need-enum-told Inv-loop μ-loop
 enum-told c = search needs
 
-same-length-2 : tie.Need-same-length-2 Inv-loop μ-loop
-same-length-2 c = search needs
+same-length-3 : tie.Need-same-length-3 Inv-loop μ-loop
+same-length-3 c = search needs
+
+same-length-4 : tie.Need-same-length-4 Inv-loop μ-loop
+same-length-4 c = search needs
 
 returns-2 : tie.Need-returns-2 Inv-loop μ-loop
 returns-2 c =
@@ -86,9 +90,7 @@ keep-requires c κs =
     let names = v .judging .names in (
       names .starts-long,
       names .lens-long,
-      pass-next v (c .before .before .before .before .before .before .before .item .ensures) (c .before .before .before .before
-          .place .ensures) (c .before .before .enum-told2 .given .1) (c .before .before .before .before .before .before .before .before
-          .before .before .before .before .before .before .before .before .before .pre .1),
+      pass-next v (c .before .before .before .before .before .before .before .item .ensures) (c .before .before .before .before .place .ensures) (c .before .before .enum-told2 .given .1) (c .before .before .before .before .before .before .before .before .before .before .before .before .before .before .before .before .before .before .pre .1),
     )
 
 enum-known-next : tie.Need-enum-known-next Inv-loop μ-loop
@@ -97,34 +99,23 @@ enum-known-next c = search needs
 mul-parent : tie.Need-mul-parent Inv-loop μ-loop
 mul-parent c =
     let below = tag-level (c .before .before .before .before .before .before .before .before .before .before .before .before .loop
-    .inv) (c .before .before .before .before .before .before .before .before .before .before .before .item .ensures) (c .before
-    .before .before .before .before .before .before .before .place .ensures) (c .before .before .before .before .before .before
-    .enum-told2 .given .1) (c .before .next .given .1) in
+    .inv) (c .before .before .before .before .before .before .before .before .before .before .before .item .ensures) (c .before .before .before .before .before .before .before .before .place .ensures) (c .before .before .before .before .before .before .enum-told2 .given .1) (c .before .next .given .1) in
     search (needs, below)
 
 array-copy-out-parent : tie.Need-array-copy-out-parent Inv-loop μ-loop
 array-copy-out-parent c =
-    tag-level (c .before .before .before .before .before .before .before .before .before .before .before .before .loop .inv) (c
-    .before .before .before .before .before .before .before .before .before .before .before .item .ensures) (c .before .before
-    .before .before .before .before .before .before .place .ensures) (c .before .before .before .before .before .before .enum-told2
+    tag-level (c .before .before .before .before .before .before .before .before .before .before .before .before .loop .inv) (c .before .before .before .before .before .before .before .before .before .before .before .item .ensures) (c .before .before .before .before .before .before .before .before .place .ensures) (c .before .before .before .before .before .before .enum-told2
     .given .1) (c .before .next .given .1)
 
 add-a : tie.Need-add-a Inv-loop μ-loop
 add-a c =
     pass-fits (c .before .before .before .before .before .before .before .before .before .before .before .before .before .loop
-    .inv) (c .before .before .before .before .before .before .before .before .before .before .before .before .item .ensures) (c
-    .before .before .before .before .before .before .before .before .before .place .ensures) (c .before .before .before .before
-    .before .before .before .enum-told2 .given .1) (c .before .before .before .before .before .before .before .before .before
-    .before .before .before .before .before .before .before .before .before .before .before .before .before .pre .1)
+    .inv) (c .before .before .before .before .before .before .before .before .before .before .before .before .item .ensures) (c .before .before .before .before .before .before .before .before .before .place .ensures) (c .before .before .before .before .before .before .before .enum-told2 .given .1) (c .before .before .before .before .before .before .before .before .before .before .before .before .before .before .before .before .before .before .before .before .before .before .before .pre .1)
 
 add-fit-of : tie.Need-add-fit-of Inv-loop μ-loop
 add-fit-of c =
     tag-fits (c .before .before .before .before .before .before .before .before .before .before .before .before .before .loop .inv)
-    (c .before .before .before .before .before .before .before .before .before .before .before .before .item .ensures) (c .before
-    .before .before .before .before .before .before .before .before .place .ensures) (c .before .before .before .before .before
-    .before .before .enum-told2 .given .1) (c .before .before .next .given .1) (c .before .before .before .before .before .before
-    .before .before .before .before .before .before .before .before .before .before .before .before .before .before .before .before
-    .pre .1)
+    (c .before .before .before .before .before .before .before .before .before .before .before .before .item .ensures) (c .before .before .before .before .before .before .before .before .before .place .ensures) (c .before .before .before .before .before .before .before .enum-told2 .given .1) (c .before .before .next .given .1) (c .before .before .before .before .before .before .before .before .before .before .before .before .before .before .before .before .before .before .before .before .before .before .before .pre .1)
 
 sub-fit-of : tie.Need-sub-fit-of Inv-loop μ-loop
 sub-fit-of c = search needs
@@ -134,25 +125,18 @@ part-fit-of-start c = search needs
 
 part-fit-of-end : tie.Need-part-fit-of-end Inv-loop μ-loop
 part-fit-of-end c =
-    let inside = tag-name (c .before .before .before .before .before .before .before .before .before .before .before .before
-    .before .loop .inv) (c .before .before .before .before .before .before .before .before .before .before .before .before .item
-    .ensures) (c .before .before .before .before .before .before .before .before .before .place .ensures) (c .before .before
-    .before .before .before .before .before .enum-told2
+    let inside = tag-name (c .before .before .before .before .before .before .before .before .before .before .before .before .before .loop .inv) (c .before .before .before .before .before .before .before .before .before .before .before .before .item
+    .ensures) (c .before .before .before .before .before .before .before .before .before .place .ensures) (c .before .before .before .before .before .before .before .enum-told2
     .given .1) (c .before .before .next .given .1) in
     search (needs, inside)
 
 fit-of-requires : tie.Need-fit-of-requires Inv-loop μ-loop
 fit-of-requires c κs =
-    c .before .before .before .before .before .before .before .before .before .before .before .before .before .before .before
-    .before .before .before .before .before .before .before .before .pre .2
+    c .before .before .before .before .before .before .before .before .before .before .before .before .before .before .before .before .before .before .before .before .before .before .before .before .pre .2
 
 add-if1 : tie.Need-add-if1 Inv-loop μ-loop
 add-if1 c =
-    let below = tag-level (c .before .before .before .before .before .before .before .before .before .before .before .before
-    .before .before .before .loop .inv) (c .before .before .before .before .before .before .before .before .before .before .before
-    .before .before .before .item .ensures) (c .before .before .before .before .before .before .before .before .before .before
-    .before .place .ensures) (c .before .before .before .before .before .before .before .before .before .enum-told2 .given .1) (c
-    .before .before .before .before .next .given .1) in
+    let below = tag-level (c .before .before .before .before .before .before .before .before .before .before .before .before .before .before .before .loop .inv) (c .before .before .before .before .before .before .before .before .before .before .before .before .before .before .item .ensures) (c .before .before .before .before .before .before .before .before .before .before .before .place .ensures) (c .before .before .before .before .before .before .before .before .before .enum-told2 .given .1) (c .before .before .before .before .next .given .1) in
     search (needs, below)
 
 deeper-requires : tie.Need-deeper-requires Inv-loop μ-loop
@@ -175,50 +159,34 @@ cast-tests c = search needs
 
 add-tests : tie.Need-add-tests Inv-loop μ-loop
 add-tests c =
-    let v = c .before .before .before .before .before .before .before .before .before .before .before .before .before .before
-    .before .before .before .loop .inv in
-    pass-many v (c .before .before .before .before .before .before .before .before .before .before .before .before .before .before
-    .before .before .before .before .before .before .before .before .before .before .before .before .pre .1) (pass-within v (c
-    .before .before .before .before .before .before .before .before .before .before .before .before .before .before .before .before
-    .item .ensures) (c .before .before .before .before .before .before .before .before .before .before .before .before .before
-    .place .ensures) (c .before .before .before .before .before .before .before .before .before .before .before .enum-told2 .given
+    let v = c .before .before .before .before .before .before .before .before .before .before .before .before .before .before .before .before .before .loop .inv in
+    pass-many v (c .before .before .before .before .before .before .before .before .before .before .before .before .before .before .before .before .before .before .before .before .before .before .before .before .before .before .before .pre .1) (pass-within v (c .before .before .before .before .before .before .before .before .before .before .before .before .before .before .before .before .item .ensures) (c .before .before .before .before .before .before .before .before .before .before .before .before .before .place .ensures) (c .before .before .before .before .before .before .before .before .before .before .before .enum-told2 .given
     .1)) (c .tests-on .ensures .1)
 
 judged-requires : tie.Need-judged-requires Inv-loop μ-loop
 judged-requires c κs =
-    let v = c .before .before .before .before .before .before .before .before .before .before .before .before .before .before
-    .before .before .before .loop .inv in
-    let e = c .before .before .before .before .before .before .before .before .before .before .before .before .before .before
-    .before .before .item .ensures in
+    let v = c .before .before .before .before .before .before .before .before .before .before .before .before .before .before .before .before .before .loop .inv in
+    let e = c .before .before .before .before .before .before .before .before .before .before .before .before .before .before .before .before .item .ensures in
     let q = c .before .before .before .before .before .before .before .before .before .before .before .before .before .place .ensures in
     let h = c .before .before .before .before .before .before .before .before .before .before .before .enum-told2 .given .1 in
     let s = c .before .before .before .before .before .before .next .given .1 in (
-      c .before .before .before .before .before .before .before .before .before .before .before .before .before .before .before
-          .before .before .before .before .before .before .before .before .before .before .before .pre .0,
-      c .before .before .before .before .before .before .before .before .before .before .before .before .before .before .before
-          .before .before .before .before .before .before .before .before .before .before .before .pre .2,
-      c .before .before .before .before .before .before .before .before .before .before .before .before .before .before .before
-          .before .before .before .before .before .before .before .any .ensures,
+      c .before .before .before .before .before .before .before .before .before .before .before .before .before .before .before .before .before .before .before .before .before .before .before .before .before .before .before .pre .0,
+      c .before .before .before .before .before .before .before .before .before .before .before .before .before .before .before .before .before .before .before .before .before .before .before .before .before .before .before .pre .2,
+      c .before .before .before .before .before .before .before .before .before .before .before .before .before .before .before .before .before .before .before .before .before .before .any .ensures,
       tag-behind v e q h s,
       tag-head v e q h s,
     )
 
 tag-step-requires : tie.Need-tag-step-requires Inv-loop μ-loop
 tag-step-requires c κs =
-    let v = c .before .before .before .before .before .before .before .before .before .before .before .before .before .before
-    .before .before .before .before .before .before .before .loop .inv in
-    let e = c .before .before .before .before .before .before .before .before .before .before .before .before .before .before
-    .before .before .before .before .before .before .item .ensures in
-    let q = c .before .before .before .before .before .before .before .before .before .before .before .before .before .before
-    .before .before .before .place .ensures in
-    let h = c .before .before .before .before .before .before .before .before .before .before .before .before .before .before
-    .before .enum-told2 .given .1 in
-    let s = c .before .before .before .before .before .before .before .before .before .before .next .given .1 in
-    let k = c .before .before .before .before .before .before .before .before .before .before .before .before .keep
+    let v = c .before .before .before .before .before .before .before .before .before .before .before .before .before .before .before .before .before .before .before .before .before .before .loop .inv in
+    let e = c .before .before .before .before .before .before .before .before .before .before .before .before .before .before .before .before .before .before .before .before .before .item .ensures in
+    let q = c .before .before .before .before .before .before .before .before .before .before .before .before .before .before .before .before .before .before .place .ensures in
+    let h = c .before .before .before .before .before .before .before .before .before .before .before .before .before .before .before .before .enum-told2 .given .1 in
+    let s = c .before .before .before .before .before .before .before .before .before .before .before .next .given .1 in
+    let k = c .before .before .before .before .before .before .before .before .before .before .before .before .before .keep
     .ensures in (
-      pass-ready v (c .before .before .before .before .before .before .before .before .before .before .before .before .before
-          .before .before .before .before .before .before .before .before .before .before .before .before .before .before .before
-          .before .before .pre .1) (pass-within v e q h),
+      pass-ready v (c .before .before .before .before .before .before .before .before .before .before .before .before .before .before .before .before .before .before .before .before .before .before .before .before .before .before .before .before .before .before .before .before .pre .1) (c .before .before .before .before .before .before .before .before .before .before .before .before .before .before .before .before .before .before .before .before .before .before .before .before .before .before .before .before .before .before .before .before .pre .3) (pass-within v e q h),
       v .order,
       tag-from v e q h s,
       tag-to v e q h s,
@@ -228,56 +196,37 @@ tag-step-requires c κs =
 
 after-requires : tie.Need-after-requires Inv-loop μ-loop
 after-requires c κs =
-    pass-deep (c .before .before .before .before .before .before .before .before .before .before .before .before .before .before
-    .before .before .before .before .before .before .before .before .before .before .loop .inv) (c .before .before .before .before
-    .before .before .before .before .before .before .before .before .before .before .before .before .before .before .before .before
-    .before .before .before .before .before .before .before .before .before .before .before .before .before .pre .1)
+    pass-deep (c .before .before .before .before .before .before .before .before .before .before .before .before .before .before .before .before .before .before .before .before .before .before .before .before .before .before .before .loop .inv) (c .before .before .before .before .before .before .before .before .before .before .before .before .before .before .before .before .before .before .before .before .before .before .before .before .before .before .before .before .before .before .before .before .before .before .before .before .before .pre .1)
 
 loop-less : tie.Need-loop-less Inv-loop μ-loop
 loop-less c =
-    tag-less (c .before .before .before .before .before .before .before .before .before .before .before .before .before .before
-    .before .before .before .before .before .before .before .before .before .before .before .loop .inv) (c .before .before .before
-    .before .before .before .before .before .before .before .before .before .before .before .before .before .before .before .before
-    .before .before .before .before .before .item .ensures) (c .before .before .before .before .before .before .before .before
-    .before .before .before .before .before .before .before .before .before .before .before .before .before .place .ensures) (c
-    .before .before .before .before .before .before .before .before .before .before .before .before .before .before .before .before
-    .before .before .before .enum-told2 .given .1) (c .before .before .before .before .before .before .before .before .before
-    .before .before .before .before .before .next .given .1)
+    tag-less (c .before .before .before .before .before .before .before .before .before .before .before .before .before .before .before .before .before .before .before .before .before .before .before .before .before .before .before .before .loop .inv) (c .before .before .before .before .before .before .before .before .before .before .before .before .before .before .before .before .before .before .before .before .before .before .before .before .before .before .before .item .ensures) (c .before .before .before .before .before .before .before .before .before .before .before .before .before .before .before .before .before .before .before .before .before .before .before .before .place .ensures) (c .before .before .before .before .before .before .before .before .before .before .before .before .before .before .before .before .before .before .before .before .before .before .enum-told2 .given .1) (c .before .before .before .before .before .before .before .before .before .before .before .before .before .before .before .before .before .next .given .1)
 
 loop-again : tie.Need-loop-again Inv-loop μ-loop
 loop-again c =
-    let v = c .before .before .before .before .before .before .before .before .before .before .before .before .before .before
-    .before .before .before .before .before .before .before .before .before .before .before .loop .inv in
-    let e = c .before .before .before .before .before .before .before .before .before .before .before .before .before .before
-    .before .before .before .before .before .before .before .before .before .before .item .ensures in
-    let q = c .before .before .before .before .before .before .before .before .before .before .before .before .before .before
-    .before .before .before .before .before .before .before .place .ensures in
-    let h = c .before .before .before .before .before .before .before .before .before .before .before .before .before .before
-    .before .before .before .before .before .enum-told2 .given .1 in
-    let s = c .before .before .before .before .before .before .before .before .before .before .before .before .before .before .next
+    let v = c .before .before .before .before .before .before .before .before .before .before .before .before .before .before .before .before .before .before .before .before .before .before .before .before .before .before .before .before .loop .inv in
+    let e = c .before .before .before .before .before .before .before .before .before .before .before .before .before .before .before .before .before .before .before .before .before .before .before .before .before .before .before .item .ensures in
+    let q = c .before .before .before .before .before .before .before .before .before .before .before .before .before .before .before .before .before .before .before .before .before .before .before .before .place .ensures in
+    let h = c .before .before .before .before .before .before .before .before .before .before .before .before .before .before .before .before .before .before .before .before .before .before .enum-told2 .given .1 in
+    let s = c .before .before .before .before .before .before .before .before .before .before .before .before .before .before .before .before .before .next
     .given .1 in
-    let k = c .before .before .before .before .before .before .before .before .before .before .before .before .before .before
-    .before .before .keep .ensures in
-    let sound = c .before .before .before .before .before .before .before .before .before .before .before .before .before .before
-    .before .before .before .before .before .before .before .before .before .before .before .before .before .before .before .before
-    .before .before .before .before .pre .2 .sound in
-    let f = c .before .before .before .before .before .before .before .before .before .before .fit-of .ensures in
+    let k = c .before .before .before .before .before .before .before .before .before .before .before .before .before .before .before .before .before .before .before .keep .ensures in
+    let sound = c .before .before .before .before .before .before .before .before .before .before .before .before .before .before .before .before .before .before .before .before .before .before .before .before .before .before .before .before .before .before .before .before .before .before .before .before .before .before .pre .2 .sound in
+    let f = c .before .before .before .before .before .before .before .before .before .before .before .before .before .fit-of .ensures in
     pass-tag v e q h s (k .0) (k .1) sound refl f
-    (verdict-judged v e q h s (k .0) (k .1) sound refl f (c .before .before .before .before .before .before .before .judged .ensures))
-    (⊎-elim (λ z. stored _ (z .0 .taken) (z .1 .ensures) (z .2)) (λ z. inr (z .0 .left, z .1)) (c .before .before .before .before
-    .before .before .before .before .before .if1 .came))
-    (c .before .before .before .before .before .before .before .before .tests-on .ensures) (c .before .before .before .tag-step
+    (verdict-judged v e q h s (k .0) (k .1) sound refl f (c .before .before .before .before .before .before .before .before .before .before .judged .ensures))
+    (⊎-elim (λ z. stored _ (z .0 .taken) (z .1 .ensures) (z .2)) (λ z. inr (z .0 .left, z .1)) (c .before .before .before .before .before .before .before .before .before .before .before .before .if1 .came))
+    (c .before .before .before .before .before .before .before .before .before .before .before .tests-on .ensures) (c .before .before .before .before .before .tag-step
     .ensures) (c .after .ensures)
 
 other-step-requires : tie.Need-other-step-requires Inv-loop μ-loop
 other-step-requires c κs =
-    let v = c .before .before .before .before .before .before .before .before .before .before .before .before .before .loop .inv in
-    let e = c .before .before .before .before .before .before .before .before .before .before .before .before .item .ensures in
-    let q = c .before .before .before .before .before .before .before .before .before .place .ensures in
-    let h = c .before .before .before .before .before .before .before .enum-told2 .given .1 in
-    let k = c .before .before .before .before .keep .ensures in (
-      pass-ready v (c .before .before .before .before .before .before .before .before .before .before .before .before .before
-          .before .before .before .before .before .before .before .before .before .pre .1) (pass-within v e q h),
+    let v = c .before .before .before .before .before .before .before .before .before .before .before .before .before .before .loop .inv in
+    let e = c .before .before .before .before .before .before .before .before .before .before .before .before .before .item .ensures in
+    let q = c .before .before .before .before .before .before .before .before .before .before .place .ensures in
+    let h = c .before .before .before .before .before .before .before .before .enum-told2 .given .1 in
+    let k = c .before .before .before .before .before .keep .ensures in (
+      pass-ready v (c .before .before .before .before .before .before .before .before .before .before .before .before .before .before .before .before .before .before .before .before .before .before .before .before .pre .1) (c .before .before .before .before .before .before .before .before .before .before .before .before .before .before .before .before .before .before .before .before .before .before .before .before .pre .3) (pass-within v e q h),
       v .order,
       pass-inside v e q h,
       v .judging .within,
@@ -286,31 +235,20 @@ other-step-requires c κs =
 
 after-requires-2 : tie.Need-after-requires-2 Inv-loop μ-loop
 after-requires-2 c κs =
-    pass-deep (c .before .before .before .before .before .before .before .before .before .before .before .before .before .before
-    .before .before .loop .inv) (c .before .before .before .before .before .before .before .before .before .before .before .before
-    .before .before .before .before .before .before .before .before .before .before .before .before .before .pre .1)
+    pass-deep (c .before .before .before .before .before .before .before .before .before .before .before .before .before .before .before .before .before .before .before .loop .inv) (c .before .before .before .before .before .before .before .before .before .before .before .before .before .before .before .before .before .before .before .before .before .before .before .before .before .before .before .before .before .pre .1)
 
 end-of-requires : tie.Need-end-of-requires Inv-loop μ-loop
 end-of-requires c κs = search needs
 
 loop-less-2 : tie.Need-loop-less-2 Inv-loop μ-loop
 loop-less-2 c =
-    pass-less (c .before .before .before .before .before .before .before .before .before .before .before .before .before .before
-    .before .before .before .before .loop .inv) (c .before .before .before .before .before .before .before .before .before .before
-    .before .before .before .before .before .before .before .item .ensures) (c .before .before .before .before .before .before
-    .before .before .before .before .before .before .before .before .place .ensures) (c .before .before .before .before .before
-    .before .before .before .before .before .before .before .enum-told2 .given .1) (c .end-of .ensures)
+    pass-less (c .before .before .before .before .before .before .before .before .before .before .before .before .before .before .before .before .before .before .before .before .before .loop .inv) (c .before .before .before .before .before .before .before .before .before .before .before .before .before .before .before .before .before .before .before .before .item .ensures) (c .before .before .before .before .before .before .before .before .before .before .before .before .before .before .before .before .before .place .ensures) (c .before .before .before .before .before .before .before .before .before .before .before .before .before .before .before .enum-told2 .given .1) (c .end-of .ensures)
 
 loop-again-2 : tie.Need-loop-again-2 Inv-loop μ-loop
 loop-again-2 c =
-    let k = c .before .before .before .before .before .before .before .before .before .keep .ensures in
-    pass-other (c .before .before .before .before .before .before .before .before .before .before .before .before .before .before
-    .before .before .before .before .loop .inv) (c .before .before .before .before .before .before .before .before .before .before
-    .before .before .before .before .before .before .before .item .ensures) (c .before .before .before .before .before .before
-    .before .before .before .before .before .before .before .before .place .ensures) (c .before .before .before .before .before
-    .before .before .before .before .before .before .before .enum-told2 .given .1) (k .0) (k .1)
-    (c .before .before .before .before .before .before .before .before .match2 .keys2) (c .before .before .before .before
-    .other-step .ensures) (c .before .after2 .ensures) (c .end-of .ensures)
+    let k = c .before .before .before .before .before .before .before .before .before .before .before .before .keep .ensures in
+    pass-other (c .before .before .before .before .before .before .before .before .before .before .before .before .before .before .before .before .before .before .before .before .before .loop .inv) (c .before .before .before .before .before .before .before .before .before .before .before .before .before .before .before .before .before .before .before .before .item .ensures) (c .before .before .before .before .before .before .before .before .before .before .before .before .before .before .before .before .before .place .ensures) (c .before .before .before .before .before .before .before .before .before .before .before .before .before .before .before .enum-told2 .given .1) (k .0) (k .1)
+    (c .before .before .before .before .before .before .before .before .before .before .before .match2 .keys2) (c .before .before .before .before .before .before .other-step .ensures) (c .before .after2 .ensures) (c .end-of .ensures)
 
 pub pass-spec : {M : Type 1} → statement M
 pass-spec =
@@ -328,9 +266,11 @@ pass-spec =
     place-requires
     enum-known-why
     same-length
+    same-length-2
     returns
     enum-told
-    same-length-2
+    same-length-3
+    same-length-4
     returns-2
     enum-told-2
     keep-requires
