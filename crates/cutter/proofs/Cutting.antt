@@ -4,13 +4,13 @@
 use mathlib.Core.Path.{_≡_, refl, sym, ap, _∙_}
 use mathlib.Core.Bool.{Bool, true, false, cond}
 use mathlib.Core.List.{List}
-use Prim.Native.Nat.{ℕ, _≤_, _<_}
+use Prim.Native.Nat.{ℕ, _-_, _≤_, _<_}
 use native.Mathlib.Omega.{arith}
 use borrow.Author.Needs.{needs}
 use borrow.Author.Tests.{lt-ltb, le-ltb}
 use lib.Dec.{ltb}
-use lib.ListN.{length, drop}
-use lib.Seq.{sets}
+use lib.ListN.{length, take, drop, length-drop}
+use lib.Seq.{sets, length-take-le}
 use Rattle.paths.specs.Judge.{listAnswer}
 use Rattle.paths.specs.declared.ListAnswer.{ListAnswer}
 use Rattle.paths.specs.declared.ListAnswer.the-variants as lists
@@ -24,7 +24,9 @@ use Rattle.document.specs.declared.Why.the-variants as why
 use Rattle.document.specs.declared.judge.Judged.{Judged}
 use Rattle.document.specs.declared.judge.Judged.the-variants as judged
 use Rattle.document.proofs.Judging.{judged-long, judged-other, judged-items, judged-char}
+use Rattle.writer.specs.Wrote.{Wrote}
 use Rattle.writer.proofs.Laying.{laid-whole}
+use Rattle.notes.specs.Notes.{textOf, Within, Stood}
 use Rattle.trees.specs.Written.{cutOf, countOf, testsOf}
 use Rattle.cutter.specs.Answer.{byList, faultOf, byDocument, byRoom, answerBy, answerOf, after, bytesBy, bytesAfter}
 use Rattle.passes.specs.Passed.{judgedBy, Told, Passed}
@@ -104,8 +106,15 @@ module _ (list d o : List ℕ) where
 
 -- ---- and a document of characters
 
+-- the notes are inside it, if none was left out
+pub noted-within : {list d s s′ g : List ℕ} {m : Outcome} → Passed list d s m s′ g → {len count tests k : ℕ} → m ≡ Fine len count tests k
+    → k ≤ length g → Within d g k
+noted-within {list} {d} {s} {s′} {g} p {len} {count} {tests} {k} q f =
+    let z : Told d (cutOf list d) (countOf list d) (testsOf list d) s (Fine len count tests k) s′ g = rw q at (p .told) in
+    z .4 .inside f
+
 module _ (list d o : List ℕ) (small : length d ≤ 16777216) (utf8 : otherEncoding (drop (startOf d) d) ≡ false) (chars : checkOf d
-    ≡ All) {s s′ : List ℕ} {m : Outcome} (p : Passed list d s m s′) where
+    ≡ All) {s s′ g : List ℕ} {m : Outcome} (p : Passed list d s m s′ g) where
   judged-is : judgedBy m ≡ judgeOf d
   judged-is = judged-items d small utf8 (sym chars) refl (p .judged)
 
@@ -113,16 +122,18 @@ module _ (list d o : List ℕ) (small : length d ≤ 16777216) (utf8 : otherEnco
   written-fault {w} {at} q e =
       rw e (stays (cutOf list d) o (fault-keeps w at) (by-document list d o (sym (ap judgedBy q) ∙ judged-is)))
 
-  module _ {len count tests : ℕ} (q : m ≡ Fine len count tests) where
+  module _ {len count tests k : ℕ} (q : m ≡ Fine len count tests k) where
     told : (len ≡ length (cutOf list d)) × (count ≡ countOf list d) × (tests ≡ testsOf list d) × (s′ ≡ sets s 0 (cutOf list d))
+        × Stood d g k (cutOf list d)
     told = rw q at (p .told)
 
     room-is : {b : Bool} → ltb (length o) (length (cutOf list d)) ≡ b
-        → cond b (Short (length (cutOf list d))) (Written (length (cutOf list d)) (countOf list d) (testsOf list d)) ≡ answerBy
-        list d (length o)
+        → cond b (Short (length (cutOf list d))) (Written (length (cutOf list d)) (countOf list d) (testsOf list d))
+        ≡ answerBy list d (length o)
     room-is e =
-        ap (λ (x : Bool). cond x (Short (length (cutOf list d))) (Written (length (cutOf list d)) (countOf list d) (testsOf list
-        d))) (sym e)
+        ap
+        (λ (x : Bool). cond x (Short (length (cutOf list d))) (Written (length (cutOf list d)) (countOf list d) (testsOf list d)))
+        (sym e)
         ∙ by-document list d o (sym (ap judgedBy q) ∙ judged-is)
 
     pub written-short : length o < len → AnswersBy list d o (Short len) o
@@ -130,26 +141,39 @@ module _ (list d o : List ℕ) (small : length d ≤ 16777216) (utf8 : otherEnco
         let z = told .0 in
         rw z (stays (cutOf list d) o (λ w o. refl) (room-is (lt-ltb (length o) (length (cutOf list d)) (omega (arith, z)))))
 
-    pub written-whole : len ≤ length o → {m₂ : Outcome} {o′ : List ℕ} → Passed list d o m₂ o′ → AnswersBy list d o (Written len
-        count tests) o′
-    written-whole l {m₂} {o′} p₂ =
+    -- the cut is laid
+    laid-answers : len ≤ length o → {o′ : List ℕ} → o′ ≡ sets o 0 (cutOf list d) → AnswersBy list d o (Written len count tests) o′
+    laid-answers l y =
         let z = told .0 in
         let e = room-is (le-ltb (length o) (length (cutOf list d)) (omega (arith, z))) in
         rw (z, told .1, told .2)
         (record {
           is = e;
-          bytes =
-              laid m₂ (p₂ .judged) (p₂ .told)
-              ∙ laid-whole (cutOf list d) o (omega (arith, z))
-              ∙ ap (λ (x : Answer). after x (cutOf list d) o) e;
+          bytes = y ∙ laid-whole (cutOf list d) o (omega (arith, z)) ∙ ap (λ (x : Answer). after x (cutOf list d) o) e;
         })
+
+    -- by the notes, if none was left out
+    pub written-noted : len ≤ length o → k ≤ length g → {r : ℕ} {o′ : List ℕ} → Wrote o 0 (textOf d g k) r o′
+        → AnswersBy list d o (Written len count tests) o′
+    written-noted l f w = laid-answers l (w .laid ∙ ap (sets o 0) (told .4 .text f))
+
+    -- by a second pass
+    pub written-whole : len ≤ length o → {m₂ : Outcome} {o′ g′ : List ℕ} → Passed list d o m₂ o′ g′
+        → AnswersBy list d o (Written len count tests) o′
+    written-whole l {m₂} {o′} {g′} p₂ = laid-answers l (laid m₂ (p₂ .judged) (p₂ .told))
       where
-        laid : (x : Outcome) → judgedBy x ≡ scanned d → Told (cutOf list d) (countOf list d) (testsOf list d) o x o′ → o′ ≡ sets o
-            0 (cutOf list d)
-        laid (Fine n c k) j t = t .3
-        laid (Fault w at) j t =
-            let y : judged.AtFault w at ≡ judged.Sound = j ∙ sym (p .judged) ∙ ap judgedBy q in
+        laid : (x : Outcome) → judgedBy x ≡ scanned d → Told d (cutOf list d) (countOf list d) (testsOf list d) o x o′ g′
+            → o′ ≡ sets o 0 (cutOf list d)
+        laid (Fine n c i j) e t = t .3
+        laid (Fault w at) e t =
+            let y : judged.AtFault w at ≡ judged.Sound = e ∙ sym (p .judged) ∙ ap judgedBy q in
             cc
+
+-- the part of a log that is used
+pub used-short : (g : List ℕ) (n : ℕ) → (n ≤ length g) × (n ≤ 16777216) → length (take (n - 0) (drop 0 g)) ≤ 16777216
+used-short g n h =
+    let some : n - 0 ≤ length (drop 0 g) = omega (arith, length-drop 0 g, h .0) in
+    omega (arith, length-take-le (n - 0) (drop 0 g) some, h .1)
 
 -- ---- any list
 

@@ -1,10 +1,13 @@
--- Two results that the contract of `cut` or of `cut_by` allows are equal, the answer and every byte of the buffer: over the contracts that
--- the toolchain makes of the source. So are the three numbers of document 01, which are functions of the answer.
+-- Two results that the contract of `cut`, `cut_by`, `cut_with` or `cut_by_with` allows are equal, the answer and every byte of the buffer:
+-- over the contracts that the toolchain makes of the source. So are the three numbers of document 01, which are functions of the answer.
+-- Of the log nothing is said.
 use mathlib.Core.Path.{sym, _∙_}
 use denote.Ref.{now}
 use Rattle.contracts.specs.One.{OneOutcome}
 use Rattle.cutter.proofs.cut.Reads as cut
 use Rattle.cutter.proofs.cut_by.Reads as cut-by
+use Rattle.cutter.proofs.cut_with.Reads as cut-with
+use Rattle.cutter.proofs.cut_by_with.Reads as cut-by-with
 
 -- `cut`
 pub cut-one : OneOutcome cut.Asked cut.Learnt (λ κs e. now (e .1 .1 .0))
@@ -13,3 +16,11 @@ cut-one κs a z z′ e e′ x p q = (p .0 ∙ sym (q .0), p .1 ∙ sym (q .1))
 -- `cut_by`
 pub cut-by-one : OneOutcome cut-by.Asked cut-by.Learnt (λ κs e. now (e .1 .1 .1 .0))
 cut-by-one κs a z z′ e e′ x p q = (p .0 ∙ sym (q .0), p .1 ∙ sym (q .1))
+
+-- `cut_with`
+pub cut-with-one : OneOutcome cut-with.Asked cut-with.Learnt (λ κs e. now (e .1 .1 .0))
+cut-with-one κs a z z′ e e′ x p q = (p .0 ∙ sym (q .0), p .1 ∙ sym (q .1))
+
+-- `cut_by_with`
+pub cut-by-with-one : OneOutcome cut-by-with.Asked cut-by-with.Learnt (λ κs e. now (e .1 .1 .1 .0))
+cut-by-with-one κs a z z′ e e′ x p q = (p .0 ∙ sym (q .0), p .1 ∙ sym (q .1))
