@@ -1,5 +1,6 @@
 -- Two results that one contract allows are equal, over the contracts that the toolchain makes of the source: of `choughbell_characters`,
--- `choughbell_judge` and `numbers_of`, which can't change what they are lent, and of `choughbell_cut` with what it leaves in the buffer.
+-- `choughbell_judge` and `numbers_of`, which can't change what they are lent, and of `choughbell_cut` and `choughbell_cut_with` with what
+-- they leave in the buffer. Of the log nothing is said.
 use mathlib.Core.Path.{sym, _∙_}
 use denote.Ref.{now}
 use Rattle.contracts.specs.One.{OneResult, OneOutcome}
@@ -7,6 +8,7 @@ use Rattle.exported.proofs.choughbell_characters.Reads as characters
 use Rattle.exported.proofs.choughbell_judge.Reads as judge
 use Rattle.exported.proofs.numbers_of.Reads as numbers
 use Rattle.exported.proofs.choughbell_cut.Reads as cut
+use Rattle.exported.proofs.choughbell_cut_with.Reads as cut-with
 
 pub characters-one : OneResult characters.Asked characters.Learnt
 characters-one κs a z z′ e e′ x p q = p ∙ sym q
@@ -19,3 +21,6 @@ numbers-one κs a z z′ e e′ x p q = p ∙ sym q
 
 pub cut-one : OneOutcome cut.Asked cut.Learnt (λ κs e. now (e .1 .1 .0))
 cut-one κs a z z′ e e′ x p q = (p .0 ∙ sym (q .0), p .1 ∙ sym (q .1))
+
+pub cut-with-one : OneOutcome cut-with.Asked cut-with.Learnt (λ κs e. now (e .1 .1 .0))
+cut-with-one κs a z z′ e e′ x p q = (p .0 ∙ sym (q .0), p .1 ∙ sym (q .1))

@@ -125,3 +125,19 @@ pub extern "C" fn choughbell_cut(list: &[u8], doc: &[u8], out: &mut [u8]) -> Fou
     let a = cutter::cut(list, doc, out);
     numbers_of(a)
 }
+
+// The same with a log that the caller lends: room for notes, of any length and whatever stands in it. Only the time depends on it, and what
+// stands in it afterwards says nothing.
+#[no_mangle]
+pub extern "C" fn choughbell_cut_with(
+    list: &[u8],
+    doc: &[u8],
+    out: &mut [u8],
+    log: &mut [u64],
+) -> FourNumbers
+    ensures { λ r. ⌜ r ≡ numbersOf (answerOf (now (list .entry)) (now (doc .entry)) (length (now (out .entry)))) ⌝ }
+    ensures { λ r. ⌜ now (out .exit) ≡ bytesAfter (now (list .entry)) (now (doc .entry)) (now (out .entry)) ⌝ }
+{
+    let a = cutter::cut_with(list, doc, out, log);
+    numbers_of(a)
+}
