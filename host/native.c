@@ -9,6 +9,8 @@ typedef struct choughbell_numbers judge_numbers;
 
 void *rattle_choughbell_cut(cut_numbers *result, const uint8_t *list, size_t list_len, const uint8_t *doc, size_t doc_len, uint8_t *out,
                             size_t out_len);
+void *rattle_choughbell_cut_with(cut_numbers *result, const uint8_t *list, size_t list_len, const uint8_t *doc, size_t doc_len,
+                                 uint8_t *out, size_t out_len, uint64_t *log, size_t log_len);
 void *rattle_choughbell_judge(judge_numbers *result, const uint8_t *doc, size_t doc_len);
 size_t rattle_choughbell_characters(const uint8_t *s, size_t s_len);
 
@@ -16,6 +18,14 @@ cut_numbers choughbell_cut(const uint8_t *list, size_t list_len, const uint8_t *
 {
     cut_numbers result;
     rattle_choughbell_cut(&result, list, list_len, doc, doc_len, out, out_len);
+    return result;
+}
+
+cut_numbers choughbell_cut_with(const uint8_t *list, size_t list_len, const uint8_t *doc, size_t doc_len, uint8_t *out, size_t out_len,
+                                uint64_t *log, size_t log_len)
+{
+    cut_numbers result;
+    rattle_choughbell_cut_with(&result, list, list_len, doc, doc_len, out, out_len, log, log_len);
     return result;
 }
 

@@ -1,4 +1,4 @@
-/* The proved filter, for callers in C: three functions of a static library, choughbell 0.2.0. Link with -lchoughbell, or with
+/* The proved filter, for callers in C: four functions of a static library, choughbell 0.2.0. Link with -lchoughbell, or with
  * target/native/libexported.a as `make library` leaves it. They allocate nothing, keep nothing between calls and call nothing but memset and
  * memcpy, so threads may call them at once. A call takes less than 96 KiB of stack.
  *
@@ -60,6 +60,13 @@ struct choughbell_four_numbers {
  * is never 9. */
 struct choughbell_four_numbers choughbell_cut(const uint8_t *list, size_t list_len, const uint8_t *doc, size_t doc_len, uint8_t *out,
                                               size_t out_len);
+
+/* The same, with a log that the caller lends: room for log_len notes on what is written. A document is gone through once where all notes
+ * fit, and a second time where they do not; `choughbell_cut` has a small log of its own. A kept entry is one note, another element two.
+ * Numbers and bytes do not depend on the log: it may be of any length, 0 too, and hold anything. What it holds afterwards says nothing. It
+ * overlaps none of the others. */
+struct choughbell_four_numbers choughbell_cut_with(const uint8_t *list, size_t list_len, const uint8_t *doc, size_t doc_len, uint8_t *out,
+                                                   size_t out_len, uint64_t *log, size_t log_len);
 
 /* The numbers of a document alone, as above: 4 to 8 or 10 with the second number, or 0 where the document is sound, and then the second
  * number is 0 too. The third is 0. A sound document is cut by every sound list, in a room that suffices. */

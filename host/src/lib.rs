@@ -50,7 +50,20 @@ extern "C" {
     // Nothing checks these against the Rattle source, crates/exported/src/lib.rt: a slice is its pointer and then its length.
     fn choughbell_judge(doc: *const u8, doc_len: usize) -> Numbers;
     fn choughbell_cut(list: *const u8, list_len: usize, doc: *const u8, doc_len: usize, out: *mut u8, out_len: usize) -> FourNumbers;
+    fn choughbell_cut_with(
+        list: *const u8,
+        list_len: usize,
+        doc: *const u8,
+        doc_len: usize,
+        out: *mut u8,
+        out_len: usize,
+        log: *mut u64,
+        log_len: usize,
+    ) -> FourNumbers;
 }
+
+/// Notes enough for a cut of most documents, in a megabyte.
+const NOTES: usize = 131_072;
 
 /// Writes the cut of a document by a list to the front of `out`, or refuses and leaves all of `out` as it was. For a document of n bytes a
 /// buffer of 2n - 1 bytes always suffices.
@@ -63,6 +76,30 @@ extern "C" {
 /// ```
 pub fn cut(list: &[u8], doc: &[u8], out: &mut [u8]) -> FourNumbers {
     unsafe { choughbell_cut(list.as_ptr(), list.len(), doc.as_ptr(), doc.len(), out.as_mut_ptr(), out.len()) }
+}
+
+/// The same, with a log that is lent: room for notes on what is written. Where all notes fit, the document is gone through once, and else a
+/// second time. Numbers and bytes do not depend on the log, and what it holds afterwards says nothing.
+///
+/// ```
+/// let (mut out, mut log) = ([0; 21], [7; 3]);
+/// let numbers = choughbell::cut_with(b"//v\n", b"<g><p><v/></p></g>", &mut out, &mut log);
+/// assert_eq!((numbers.number, numbers.second, numbers.third, numbers.fourth), (0, 21, 1, 3));
+/// assert_eq!(&out, b"<g><p><v></v></p></g>");
+/// ```
+pub fn cut_with(list: &[u8], doc: &[u8], out: &mut [u8], log: &mut [u64]) -> FourNumbers {
+    unsafe {
+        choughbell_cut_with(
+            list.as_ptr(),
+            list.len(),
+            doc.as_ptr(),
+            doc.len(),
+            out.as_mut_ptr(),
+            out.len(),
+            log.as_mut_ptr(),
+            log.len(),
+        )
+    }
 }
 
 /// A cut with its bytes.
@@ -80,7 +117,9 @@ pub struct Cut {
 pub fn cut_of(list: &[u8], doc: &[u8]) -> Result<Cut, Refusal> {
     // With so much room no list and no document are answered by 9: `never-short` in crates/demands/proofs/Room.antt.
     let mut bytes = vec![0; (2 * doc.len()).saturating_sub(1)];
-    let Written { length, selected, name_tests } = cut(list, doc, &mut bytes).answer()?;
+    // An element takes two notes at most and has four bytes, so that a short document asks for a short log.
+    let mut log = vec![0; NOTES.min(doc.len() / 2)];
+    let Written { length, selected, name_tests } = cut_with(list, doc, &mut bytes, &mut log).answer()?;
     bytes.truncate(length as usize);
     Ok(Cut { bytes, selected, name_tests })
 }
@@ -103,6 +142,20 @@ mod tests {
         assert_eq!(numbers, FourNumbers { number: 9, second: 21, third: 0, fourth: 0 });
         assert_eq!(numbers.answer(), Err(Refusal::Short { needed: 21 }));
         assert_eq!(&out, b"twenty bytes of room");
+    }
+
+    #[test]
+    fn log_of_any_length_changes_nothing() {
+        let list = b"//v\n//w #\n";
+        let doc = b"<g><p><v k='1'>a</v></p><w><v/>b</w><v/></g>";
+        let mut whole = [b'+'; 80];
+        let numbers = cut(list, doc, &mut whole);
+        assert_eq!((numbers.number, numbers.third), (0, 4));
+        for length in 0..12 {
+            let (mut out, mut log) = ([b'+'; 80], vec![u64::MAX; length]);
+            assert_eq!(cut_with(list, doc, &mut out, &mut log), numbers, "{length}");
+            assert_eq!(out, whole, "{length}");
+        }
     }
 
     #[test]
