@@ -12,8 +12,8 @@
 //               the log has no room for all, the same
 //               pass writes
 //
-// The log is room for notes. Only the time depends on it: `cut` and `cut_by` have a short one of their own, and `cut_with` and `cut_by_with`
-// take one from the caller, of any length.
+// The log is room for notes. Only the time depends on it: `cut` and `cut_by` have a short one of their own, and `cut_with` and
+// `cut_by_with` take one from the caller, of any length.
 ghost use mathlib.Core.Path.{_≡_};
 ghost use mathlib.Core.Bool.{false};
 ghost use lib.ListN.{length, drop};
@@ -85,7 +85,8 @@ fn used(length: usize) -> usize
     16777216
 }
 
-// By the tables of a sound list, a document of characters that names no other encoding: measured and noted, and written where there is room.
+// By the tables of a sound list, a document of characters that names no other encoding: measured and noted, and written where there is
+// room.
 fn written(list: &[u8], t: &Compiled, doc: &[u8], out: &mut [u8], log: &mut [u64]) -> Answer
     requires { ⌜ Serves (now list) (now t) × (length (now doc) ≤ 16777216)
         × (otherEncoding (drop (startOf (now doc)) (now doc)) ≡ false) × (checkOf (now doc) ≡ All) × (length (now log) ≤ 16777216) ⌝ }

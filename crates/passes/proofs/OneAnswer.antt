@@ -1,5 +1,5 @@
--- Two results that the contract of `pass` allows are alike: the outcome but for the number of notes; and where it is no fault, every byte of
--- the buffer, and what the notes stand for, unless some were left out. After a fault nothing is said of the buffer and of the log.
+-- Two results that the contract of `pass` allows are alike: the outcome but for the number of notes; and where it is no fault, every byte
+-- of the buffer, and what the notes stand for, unless some were left out. After a fault nothing is said of the buffer and of the log.
 -- Both theorems are over the contract that the toolchain makes of the source.
 use mathlib.Core.Path.{_≡_, sym, _∙_}
 use mathlib.Core.Bool.{false≢true}

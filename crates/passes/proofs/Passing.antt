@@ -149,7 +149,8 @@ by-deeper P false l a c = c
 
 -- the numbers of a step are within 64 bits
 module _ {list d o₀ g₀ : List ℕ} {states : List MatchState} {starts lens : List ℕ} {opened : Open} {run : Run} {at : ℕ} {first : Bool}
-    {tests : ℕ} {o g : List ℕ} (v : Passing list d o₀ g₀ states starts lens opened run at first tests o g) (small : length d ≤ 16777216) where
+    {tests : ℕ} {o g : List ℕ} (v : Passing list d o₀ g₀ states starts lens opened run at first tests o g)
+    (small : length d ≤ 16777216) where
   pub pass-ready : length g₀ ≤ 16777216 → at < length d → Ready d g run 72057594037927936
   pass-ready s l =
       record {

@@ -28,18 +28,22 @@ same-length c = search needs
 
 returns : tie.Need-returns
 returns c =
-    let p = c .before .before .before .before .before .before .before .before .before .before .before .before .before .before .before .before .pre in
-    both-by _ _ _ (written-short _ _ _ (p .1) (p .2) (p .3) (c .before .before .before .before .before .before .before .pass .ensures) (c .before .before .length .given .1) (c .if1 .taken))
+    let p = c .before .before .before .before .before .before .before .before .before .before .before .before .before .before
+    .before .before .pre in
+    both-by _ _ _ (written-short _ _ _ (p .1) (p .2) (p .3) (c .before .before .before .before .before .before .before .pass
+    .ensures) (c .before .before .length .given .1) (c .if1 .taken))
 
 replay-requires : tie.Need-replay-requires
 replay-requires c κs =
-    let p = c .before .before .before .before .before .before .before .before .before .before .before .before .before .before .before .before .before .before .before .pre in
+    let p = c .before .before .before .before .before .before .before .before .before .before .before .before .before .before
+    .before .before .before .before .before .pre in
     let small = p .4 in
     let same = c .before .before .before .before .before .before .before .before .log .given in (
       p .1,
       search (needs, small, same),
       c .before .before .if2 .taken,
-      noted-within (c .before .before .before .before .before .before .before .before .before .before .pass .ensures) (c .before .before .before .before .before .length .given .1) (c .before .before .if2 .taken),
+      noted-within (c .before .before .before .before .before .before .before .before .before .before .pass .ensures) (c .before
+          .before .before .before .before .length .given .1) (c .before .before .if2 .taken),
     )
 
 same-length-2 : tie.Need-same-length-2
@@ -50,8 +54,12 @@ same-length-3 c = search needs
 
 returns-2 : tie.Need-returns-2
 returns-2 c =
-    let p = c .before .before .before .before .before .before .before .before .before .before .before .before .before .before .before .before .before .before .before .before .before .before .pre in
-    both-by _ _ _ (written-noted _ _ _ (p .1) (p .2) (p .3) (c .before .before .before .before .before .before .before .before .before .before .before .before .before .pass .ensures) (c .before .before .before .before .before .before .before .before .length .given .1) (c .before .before .before .before .before .before .if1 .left) (c .before .before .before .before .before .if2 .taken)
+    let p = c .before .before .before .before .before .before .before .before .before .before .before .before .before .before
+    .before .before .before .before .before .before .before .before .pre in
+    both-by _ _ _ (written-noted _ _ _ (p .1) (p .2) (p .3) (c .before .before .before .before .before .before .before .before
+    .before .before .before .before .before .pass .ensures) (c .before .before .before .before .before .before .before .before
+    .length .given .1) (c .before .before .before .before .before .before .if1 .left) (c .before .before .before .before .before
+    .if2 .taken)
     (c .before .before .replay .ensures))
 
 pass-requires-2 : tie.Need-pass-requires-2
@@ -62,8 +70,10 @@ same-length-4 c = search needs
 
 returns-3 : tie.Need-returns-3
 returns-3 c =
-    let p = c .before .before .before .before .before .before .before .before .before .before .before .before .before .before .before .before .pre in
-    both-by _ _ _ (written-fault _ _ _ (p .1) (p .2) (p .3) (c .before .before .before .before .before .before .before .pass .ensures) (c .before .before .why .given .1) (c .fault-of .ensures))
+    let p = c .before .before .before .before .before .before .before .before .before .before .before .before .before .before
+    .before .before .pre in
+    both-by _ _ _ (written-fault _ _ _ (p .1) (p .2) (p .3) (c .before .before .before .before .before .before .before .pass
+    .ensures) (c .before .before .why .given .1) (c .fault-of .ensures))
 
 same-length-5 : tie.Need-same-length-5
 same-length-5 c = search needs
@@ -73,8 +83,12 @@ same-length-6 c = search needs
 
 returns-4 : tie.Need-returns-4
 returns-4 c =
-    let p = c .before .before .before .before .before .before .before .before .before .before .before .before .before .before .before .before .before .before .before .before .before .before .before .before .before .pre in
-    both-by _ _ _ (written-whole _ _ _ (p .1) (p .2) (p .3) (c .before .before .before .before .before .before .before .before .before .before .before .before .before .before .before .before .pass .ensures) (c .before .before .before .before .before .before .before .before .before .before .before .length .given .1) (c .before .before .before .before .before .before .before .before .before .if1 .left) (c .before .before .before .before .pass2 .ensures))
+    let p = c .before .before .before .before .before .before .before .before .before .before .before .before .before .before
+    .before .before .before .before .before .before .before .before .before .before .before .pre in
+    both-by _ _ _ (written-whole _ _ _ (p .1) (p .2) (p .3) (c .before .before .before .before .before .before .before .before
+    .before .before .before .before .before .before .before .before .pass .ensures) (c .before .before .before .before .before
+    .before .before .before .before .before .before .length .given .1) (c .before .before .before .before .before .before .before
+    .before .before .if1 .left) (c .before .before .before .before .pass2 .ensures))
 
 pub written-spec : {M : Type 1} → statement M
 written-spec =
