@@ -58,8 +58,11 @@ use Rattle.output.specs.Levels.{nameAt, Placed, Stands, Moves, Ready}
 use Rattle.output.specs.declared.Run.{Run}
 use Rattle.output.proofs.Chains.{name-part}
 use Rattle.output.proofs.Steps.{open-is}
+use Rattle.passes.specs.Opens.{Opens}
 use Rattle.passes.specs.Passed.{Passed}
 use Rattle.passes.specs.declared.Outcome.the-variants.{Fine as Ended, Fault}
+use Rattle.quick.proofs.Opened.{start-named}
+use Rattle.passes.proofs.Ends.{opens-none, opens-kept, opens-more}
 use Rattle.passes.proofs.Rests.{Rest, untagged, rest-start, rest-over, sum-over, rest-tag, rest-other}
 use Rattle.passes.proofs.States.{none, above, Held, Stored, name-here, span-below, held-start, held-kept, held-deeper, held-same}
 use Rattle.passes.proofs.States.{parent-is, stored-long}
@@ -71,6 +74,7 @@ pub record Passing (list d o₀ g₀ : List ℕ) (states : List MatchState) (sta
   pub rest : Rest (verdicts (listPaths list)) (nameTests (listPaths list)) d at first x tests
   pub stands : Stands d starts lens o₀ (opened .level .0) (run .reached .0) (run .kept) (run .len) (run .count) (run .noted) o g x
   pub held : Held (listPaths list) states d starts lens (opened .level .0)
+  pub opens : Opens d starts lens (opened .level .0)
   pub order : run .reached .0 ≤ opened .level .0
   pub far : run .len ≤ at * 4294967296
   pub few : run .count ≤ at * 2
@@ -101,6 +105,7 @@ pass-start list d o g {m} {at = at} p r q f =
             notes = stood-none;
           };
       held = held-start (listPaths list) f d (replicate 64 0) (replicate 64 0);
+      opens = opens-none d (replicate 64 0) (replicate 64 0);
       order = omega arith;
       far = omega arith;
       few = omega arith;
@@ -260,6 +265,7 @@ module _ {list d o₀ g₀ : List ℕ} {states : List MatchState} {starts lens :
           rest = rw en (rest-other (v .rest) e (openedOf d starts lens opened) (sym q ∙ h) k (ahead .0) (ahead .1));
           stands = rw level at (m .moves o₀ (v .x) (rw (es, el) (stands-kept (v .order) (v .stands) (at + 1) (lenOf i))));
           held = rw (es, el) (held-kept (v .held) (at + 1) (lenOf i) (opened′ .level .0) less);
+          opens = rw (es, el) (opens-kept (v .opens) (at + 1) (lenOf i) (opened′ .level .0) less);
           order = rw level at (m .order);
           far = omega (arith, m .far, v .far, ahead .0);
           few = omega (arith, m .few, v .few, ahead .0);
@@ -447,6 +453,16 @@ module _ {list d o₀ g₀ : List ℕ} {states : List MatchState} {starts lens :
             (at + 1) n)))
             (sym (open-is (v .stands) (v .order)))
 
+        opens-next : (empty : Bool)
+            → Opens d (set starts (opened .level .0) (at + 1)) (set lens (opened .level .0) n) (deeper empty (opened .level .0))
+        opens-next empty =
+            by-deeper (Opens d (set starts (opened .level .0) (at + 1)) (set lens (opened .level .0) n)) empty (opened .level .0)
+            (opens-kept (v .opens) (at + 1) n (opened .level .0) (omega arith))
+            (opens-more (v .opens) (at + 1) n
+            (omega (arith, tag-level, v .judging .names .starts-long))
+            (omega (arith, tag-level, v .judging .names .lens-long))
+            (start-named d at first (sym s ∙ e)) tag-name)
+
         pub pass-tag : {w : Verdict} → TagVerdict w → {states′ : List MatchState} → TagStored states′
             → {k : ℕ} → (k ≡ testsBy parent fit) × (k ≤ 512) → {run′ : Run} {o′ g′ : List ℕ}
             → Moves d starts′ lens′ (opened .level .0) run o g
@@ -462,6 +478,7 @@ module _ {list d o₀ g₀ : List ℕ} {states : List MatchState} {starts lens :
                   rw (name-is, level) at
                   (mv .moves o₀ (v .x) (rw (es, lens-is) (stands-kept (v .order) (v .stands) (at + 1) n)));
               held = rw (es, lens-is, ← level) (held-next et m);
+              opens = rw (es, lens-is, ← level) (opens-next m);
               order = rw level at (mv .order);
               far = omega (arith, mv .far, v .far, places .0, places .1);
               few = omega (arith, mv .few, v .few, places .0, places .1);

@@ -15,7 +15,9 @@ ghost use Rattle.points.specs.Class.{classTable};
 ghost use Rattle.matcher.specs.Fit.{Serves};
 ghost use Rattle.paths.specs.Judge.{listPaths};
 ghost use Rattle.attributes.specs.Held.{attributesIn};
+ghost use Rattle.items.specs.Item.{itemAt};
 ghost use Rattle.tests.specs.Passing.{somePlace};
+ghost use Rattle.passes.specs.Opens.{Opens, Closes};
 ghost use Rattle.passes.specs.Passed.{Passed};
 ghost use Rattle.passes.specs.ByTests.{ByTests};
 use compiled::Compiled;
@@ -36,6 +38,7 @@ use output::Run;
 use output::step::other_step;
 use output::step::tag_step;
 use points::table::Classes;
+use quick::end::end_tag;
 use tags::Item;
 use tests::any;
 use tests::picked;
@@ -45,6 +48,57 @@ use tests::picked;
 pub enum Outcome {
     Fine(usize, usize, usize, usize),
     Fault(Why, usize),
+}
+
+// How long the end tag at a place is, if it is that of the innermost open element and has no white space; else 0. It is told by its bytes,
+// and not read.
+fn closing(
+    doc: &[u8],
+    starts: &[usize; Open::LEVELS],
+    lens: &[usize; Open::LEVELS],
+    level: usize,
+    at: usize,
+) -> usize
+    requires { ⌜ (level ≤ 64) × (length (now starts) ≡ 64) × (length (now lens) ≡ 64) × (at ≤ length (now doc))
+        × (length (now doc) ≤ 16777216) × Opens (now doc) (now starts) (now lens) level ⌝ }
+    ensures { λ r. ⌜ Closes (now (doc .entry)) (now (lens .entry)) level at r ⌝ }
+{
+    if level == 0 {
+        return 0;
+    }
+    if at == doc.len() {
+        return 0;
+    }
+    if doc[at] != b'<' {
+        return 0;
+    }
+    let x = starts[level - 1];
+    let n = lens[level - 1];
+    end_tag(doc, at, x, n)
+}
+
+// The item at a place. Inside an element, an end tag of the element's name is compared with it; all else is read.
+fn next_item(
+    table: &Classes,
+    doc: &[u8],
+    starts: &[usize; Open::LEVELS],
+    lens: &[usize; Open::LEVELS],
+    level: usize,
+    at: usize,
+    first: bool,
+) -> Item
+    requires { ⌜ (now table ≡ classTable) × (level ≤ 64) × (length (now starts) ≡ 64) × (length (now lens) ≡ 64)
+        × (at ≤ length (now doc)) × (length (now doc) ≤ 16777216) × Opens (now doc) (now starts) (now lens) level ⌝ }
+    ensures { λ r. ⌜ r ≡ itemAt first (now (doc .entry)) at ⌝ }
+{
+    let size = closing(doc, starts, lens, level, at);
+    if size == 0 {
+        return item(table, doc, at, first);
+    }
+    Item::Finish {
+        name: lens[level - 1],
+        end: at + size,
+    }
 }
 
 // What the list says of an element. Where the steps of no path select it, or no path has a test (`tested`), its attributes are not looked
@@ -102,7 +156,7 @@ pub fn pass(
     let mut first = true;
     let mut tests: usize = 0;
     loop {
-        let next = item(table, doc, at, first);
+        let next = next_item(table, doc, &starts, &lens, opened.level.0, at, first);
         match place(doc, &starts, &lens, opened, at, next) {
             Placement::Fault(why) => {
                 return Outcome::Fault(why, at);

@@ -1,0 +1,88 @@
+-- `end_tag` meets its contract: one law for each way out.
+-- proofs/Ending.antt has them.
+use Rattle.quick.proofs.Ending.{ending, end-told}
+use Rattle.quick.proofs.end.end_tag.Statement.{statement}
+use Rattle.quick.proofs.end.end_tag.Tie as tie
+
+sub-if1 : tie.Need-sub-if1
+sub-if1 c = search ending
+
+add-if1 : tie.Need-add-if1
+add-if1 c = search ending
+
+returns : tie.Need-returns
+returns c = search ending
+
+add-if2 : tie.Need-add-if2
+add-if2 c = search ending
+
+shared-slice-read-if2 : tie.Need-shared-slice-read-if2
+shared-slice-read-if2 c = search ending
+
+returns-2 : tie.Need-returns-2
+returns-2 c = search ending
+
+add-if3 : tie.Need-add-if3
+add-if3 c = search ending
+
+add-if3-2 : tie.Need-add-if3-2
+add-if3-2 c = search ending
+
+shared-slice-read-if3 : tie.Need-shared-slice-read-if3
+shared-slice-read-if3 c = search ending
+
+returns-3 : tie.Need-returns-3
+returns-3 c = search ending
+
+add-stands : tie.Need-add-stands
+add-stands c = search ending
+
+add-stands-2 : tie.Need-add-stands-2
+add-stands-2 c = search ending
+
+sub-stands : tie.Need-sub-stands
+sub-stands c = search ending
+
+part-stands-start : tie.Need-part-stands-start
+part-stands-start c = search ending
+
+part-stands-end : tie.Need-part-stands-end
+part-stands-end c = search ending
+
+stands-requires : tie.Need-stands-requires
+stands-requires c κs = search ending
+
+add-result : tie.Need-add-result
+add-result c = search ending
+
+returns-4 : tie.Need-returns-4
+returns-4 c = end-told _ _ _ _ (c .before .before .before .before .before .before .before .before .before .pre .1) (c .before
+    .before .before .before .before .before .before .if1 .left) (c .before .before .before .before .before .if2 .left) (c .before
+        .before .before .if3 .left) (c .before .stands .ensures) (c .if4 .taken)
+
+returns-5 : tie.Need-returns-5
+returns-5 c = search ending
+
+pub end-tag-spec : {M : Type 1} → statement M
+end-tag-spec =
+    tie.close
+    (tie.spec
+    sub-if1
+    add-if1
+    returns
+    add-if2
+    shared-slice-read-if2
+    returns-2
+    add-if3
+    add-if3-2
+    shared-slice-read-if3
+    returns-3
+    add-stands
+    add-stands-2
+    sub-stands
+    part-stands-start
+    part-stands-end
+    stands-requires
+    add-result
+    returns-4
+    returns-5)
