@@ -54,9 +54,10 @@ fn unchecked(line: &str) -> Option<String> {
     }
     let sign = after.split_whitespace().next().unwrap_or("");
     let assigned = before.trim().is_empty() && sign.ends_with('=') && !["==", "!=", "<=", ">="].contains(&sign);
-    let got = match assigned {
-        true => format!("*unsafe {{ {name}.get_unchecked_mut({index}) }}"),
-        false => format!("(*unsafe {{ {name}.get_unchecked({index}) }})"),
+    let got = match (assigned, before.ends_with("&mut ")) {
+        (true, _) => format!("*unsafe {{ {name}.get_unchecked_mut({index}) }}"),
+        (false, true) => format!("(*unsafe {{ {name}.get_unchecked_mut({index}) }})"),
+        (false, false) => format!("(*unsafe {{ {name}.get_unchecked({index}) }})"),
     };
     Some(format!("{before}{got}{}", unchecked(after)?))
 }
