@@ -1,8 +1,8 @@
 // Masks: bit 7 of a mask's byte is set where that byte of a word is of a kind, and no other bit is. Each byte is treated apart: no sum of
 // two bytes carries into the next.
 //
-//   bytes   p  a  r  t  <  b  C3 BC    the low seven bits beside `<`, 3C: `^` leaves 0 where they are equal, and a sum with 7F sets bit 7 of
-//   mask    00 00 00 00 80 00 00 00    all others; BC has the low bits of `<`, but is none, since its own bit 7 is set
+//   bytes   p  a  r  t  <  b  C3 BC    the low seven bits beside `<`, 3C: `^` leaves 0 where they are equal, and a sum with 7F sets bit 7
+//   mask    00 00 00 00 80 00 00 00    of all others; BC has the low bits of `<`, but is none, since its own bit 7 is set
 ghost use mathlib.Core.Path.{_≡_};
 ghost use Prim.Native.Nat.{_<_};
 ghost use Rattle.words.specs.Word.{bytesOf, marksOf, oneOf};

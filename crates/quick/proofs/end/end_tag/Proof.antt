@@ -58,7 +58,7 @@ add-result c = search ending
 returns-4 : tie.Need-returns-4
 returns-4 c = end-told _ _ _ _ (c .before .before .before .before .before .before .before .before .before .pre .1) (c .before
     .before .before .before .before .before .before .if1 .left) (c .before .before .before .before .before .if2 .left) (c .before
-        .before .before .if3 .left) (c .before .stands .ensures) (c .if4 .taken)
+    .before .before .if3 .left) (c .before .stands .ensures) (c .if4 .taken)
 
 returns-5 : tie.Need-returns-5
 returns-5 c = search ending
