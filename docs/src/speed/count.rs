@@ -19,7 +19,7 @@ use std::hint::black_box;
 #[inline(never)]
 fn counted(what: &str, list: &[u8], doc: &[u8], out: &mut [u8]) -> u64 {
     match what {
-        "ours" => choughbell::cut(list, doc, out).second,
+        "ours" => choughbell::cut_with(list, doc, out, &mut vec![0; 131_072]).second,
         "baseline" => baseline::cut(list, doc, out).second,
         #[cfg(expat)]
         "expat" => expat::check(doc) as u64,
