@@ -1,22 +1,29 @@
--- Names by their characters' classes. In order: one step of a name, by an ASCII byte or by a sequence; the run of name characters; the
--- first character, and the answer.
+-- Names by their characters' classes. In order: one step of a name, by an ASCII byte or by a sequence; the run of name characters, one at
+-- a time; the run by words; the first character, and the answer.
 use mathlib.Core.Path.{_≡_, refl, sym, ap, _∙_}
-use mathlib.Core.Bool.{Bool, true, false, cond}
+use mathlib.Core.Bool.{Bool, true, false, cond, _&&_}
 use mathlib.Core.List.{List}
-use Prim.Native.Nat.{ℕ, _+_, _-_, _≤_, _<_}
+use Prim.Native.Nat.{ℕ, zero, suc, _+_, _-_, _≤_, _<_}
+use native.Mathlib.Nat.{add-zero}
 use native.Mathlib.Omega.{arith}
 use borrow.Author.Needs.{needs}
-use lib.ListN.{length, getD, drop}
+use borrow.Author.Tests.{ltb-true, lt-ltb, not-false, not-true}
+use lib.Dec.{ltb}
+use lib.ListN.{length, getD, drop, length-drop}
 use Rattle.xml.specs.Character.{character, starts, wide}
 use Rattle.xml.specs.Productions.{isNameStart, isName}
+use Rattle.xml.proofs.Bools.{and-left, and-right}
 use Rattle.xml.proofs.Utf8.{utf8-low}
 use Rattle.xml.proofs.Character.{character-low}
-use Rattle.xml.proofs.Run.{starts-nil, starts-low, wide-long}
+use Rattle.xml.proofs.Run.{starts-nil, starts-low, wide-long, run-length}
 use Rattle.chars.specs.Name.{nameOf, nameAt, nameEnd, nameStep}
+use Rattle.utf8.specs.Place.{endsAt}
 use Rattle.utf8.specs.Sequence.{sequenceAt}
 use Rattle.utf8.specs.declared.Sequence.{Sequence}
 use Rattle.utf8.specs.declared.Sequence.the-variants.{Point, Bad}
 use Rattle.chars.specs.declared.name.Reading.the-variants.{Ends, Fault}
+use Rattle.blocks.specs.Block.{First}
+use Rattle.words.specs.Word.{isNoName}
 use Rattle.utf8.proofs.Place.{drop-step, drop-end}
 use Rattle.chars.proofs.Runs.{point-starts, bad-starts, point-wide, Running, run-start, run-ends, run-over, run-less, run-on}
 
@@ -95,6 +102,80 @@ unfolding nameEnd
 names-over v h = run-over v h
 
 pub ruleset naming = (run-start, names-end, names-less, names-on, names-over, needs)
+
+-- ---- the run, by words
+
+-- a byte that is an ASCII name character, and one that is no such but ASCII
+module _ (b : ℕ) where
+  passed-byte : isNoName b ≡ false → (b < 0x80) × (isName b ≡ true)
+  unfolding isNoName
+  passed-byte e =
+      let t = not-false (ltb b 0x80 && isName b) e in
+      (ltb-true b 0x80 (and-left (ltb b 0x80) (isName b) t), and-right (ltb b 0x80) (isName b) t)
+
+  other-byte : isNoName b ≡ true → b < 0x80 → isName b ≡ false
+  unfolding isNoName
+  other-byte e l = rw (lt-ltb b 0x80 l) at (not-true (ltb b 0x80 && isName b) e)
+
+passes : {d : List ℕ} {at i : ℕ} → Running isName d at i → (n : ℕ) → i + n ≤ length d
+    → ((k : ℕ) → k < n → isNoName (getD d (i + k) 0) ≡ false) → Running isName d at (i + n)
+passes {d} {at} {i} v zero h f = rw (add-zero i) v
+passes {d} {at} {i} v (suc n) h f =
+    let (l, y) = passed-byte (getD d (i + n) 0) (f n (omega arith)) in
+    let one : (i + n) + 1 ≡ i + suc n = omega arith in
+    let m = passes v n (omega arith) (λ k g. f k (omega arith)) in
+    rw one at (names-on d (i + n) (low-goes d (i + n) (omega arith) l refl y) m (omega arith) (λ z. omega arith))
+
+-- from at to i, which is no place past the end, there are name characters
+pub record Passing (d : List ℕ) (at i : ℕ) : Type 0 where
+  pub inside : i ≤ length d
+  pub running : Running isName d at i
+
+pub words-start : {d : List ℕ} {at : ℕ} → at < length d → Passing d at at
+words-start h = record { inside = omega arith; running = run-start }
+
+module _ {d : List ℕ} {at i : ℕ} (v : Passing d at i) where
+  -- what one character at a time leads to from there
+  pub words-over : {r : ℕ} → r ≡ nameEnd d i → r ≡ nameEnd d at
+  unfolding nameEnd endsAt
+  words-over e =
+      let l = run-length isName (drop i d) in
+      let w = v .inside in
+      omega (arith, e, v .running .begun, ap length (v .running .same), length-drop i d, length-drop at d)
+
+  -- n of the eight bytes at i stand before the first that is no ASCII name character
+  module _ (l : i + 8 ≤ length d) {n : ℕ} (f : First (λ k. isNoName (getD d (i + k) 0)) 8 n) where
+    passed : Running isName d at (i + n)
+    passed = let w = f .within in passes (v .running) n (omega arith) (f .passed)
+
+    pub words-on : Passing d at (i + n)
+    words-on = let w = f .within in record { inside = omega arith; running = passed }
+
+    module _ (z : n ≡ 8 → ⊥) where
+      short : i + n < length d
+      short = let w = f .within in omega arith
+
+      pub words-end : getD d (i + n) 0 < 0x80 → i + n ≡ nameEnd d at
+      words-end g =
+          let w = f .within in
+          let other = other-byte (getD d (i + n) 0) (f .found (omega arith)) g in
+          names-end d (i + n) (low-stays d (i + n) short g refl other) passed short refl
+
+      -- the character after them
+      module _ {e : ℕ} (q : e ≡ nameStep d (i + n)) where
+        pub after-end : e ≡ i + n → i + n ≡ nameEnd d at
+        after-end g = names-end d (i + n) q passed short g
+
+        module _ (g : e ≡ i + n → ⊥) where
+          pub after-less : length d - e < length d - i
+          after-less = let h = names-less d (i + n) q passed short g in omega arith
+
+          pub after-on : Passing d at e
+          after-on =
+              let r = names-on d (i + n) q passed short g in
+              record { inside = omega (arith, r .bound, v .running .begun); running = r }
+
+pub ruleset wording = (run-start, names-over, words-start, words-over, needs)
 
 -- ---- the first character, and the answer
 

@@ -7,4 +7,5 @@ pub mod First
 pub mod Join
 pub mod Part
 pub mod Marks
+pub mod Names
 pub mod OneAnswer

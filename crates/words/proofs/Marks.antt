@@ -142,7 +142,7 @@ abbrev differs : ℕ → ℕ → ℕ
 differs w a = bitXor (bitAnd w 0x7F7F7F7F7F7F7F7F) (0x0101010101010101 * a) + 0x7F7F7F7F7F7F7F7F
 
 module _ {w : ℕ} (h : w < 2 ^ 64) where
-  each-differs : (a : ℕ) → a < 128 → Each w (differs w a) (other a)
+  pub each-differs : (a : ℕ) → a < 128 → Each w (differs w a) (other a)
   each-differs a l =
       let low = each-same 0x7F (omega arith) refl in
       each-sum (each-xor (each-and (each-word h) low) (each-same a (omega arith) (omega arith))) low (λ b k. other-lt a b l)
