@@ -19,7 +19,7 @@ differ-same zero y e = sym e
 differ-same (suc x) zero e = e
 differ-same (suc x) (suc y) e = ap suc (differ-same x y e)
 
-xor-same : (a b : ℕ) → bitXor a b ≡ 0 → a ≡ b
+pub xor-same : (a b : ℕ) → bitXor a b ≡ 0 → a ≡ b
 xor-same =
     bin-ind (λ (n : ℕ). (b : ℕ) → bitXor n b ≡ 0 → n ≡ b) (λ b e. sym e)
     (λ n rec b e. together n b (rec (b / 2)) (sym (xor-step n b) ∙ e))

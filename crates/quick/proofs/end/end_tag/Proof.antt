@@ -34,31 +34,20 @@ shared-slice-read-if3 c = search ending
 returns-3 : tie.Need-returns-3
 returns-3 c = search ending
 
-add-stands : tie.Need-add-stands
-add-stands c = search ending
+add-same-name : tie.Need-add-same-name
+add-same-name c = search ending
 
-add-stands-2 : tie.Need-add-stands-2
-add-stands-2 c = search ending
-
-sub-stands : tie.Need-sub-stands
-sub-stands c = search ending
-
-part-stands-start : tie.Need-part-stands-start
-part-stands-start c = search ending
-
-part-stands-end : tie.Need-part-stands-end
-part-stands-end c = search ending
-
-stands-requires : tie.Need-stands-requires
-stands-requires c κs = search ending
+same-name-requires : tie.Need-same-name-requires
+same-name-requires c κs = search ending
 
 add-result : tie.Need-add-result
 add-result c = search ending
 
 returns-4 : tie.Need-returns-4
-returns-4 c = end-told _ _ _ _ (c .before .before .before .before .before .before .before .before .before .pre .1) (c .before
-    .before .before .before .before .before .before .if1 .left) (c .before .before .before .before .before .if2 .left) (c .before
-    .before .before .if3 .left) (c .before .stands .ensures) (c .if4 .taken)
+returns-4 c =
+    let at = c .before .before in
+    end-told _ _ _ _ (at .before .before .before .before .before .before .pre .1) (at .before .before .before .before .if1 .left)
+    (at .before .before .if2 .left) (at .if3 .left) (c .before .same-name .ensures) (c .if4 .taken)
 
 returns-5 : tie.Need-returns-5
 returns-5 c = search ending
@@ -77,12 +66,8 @@ end-tag-spec =
     add-if3-2
     shared-slice-read-if3
     returns-3
-    add-stands
-    add-stands-2
-    sub-stands
-    part-stands-start
-    part-stands-end
-    stands-requires
+    add-same-name
+    same-name-requires
     add-result
     returns-4
     returns-5)
