@@ -72,7 +72,7 @@ module _ {d starts lens : List ℕ} {level : ℕ} (p : Placed d starts lens leve
   pub finish-inside : getD starts (level - 1) 0 + getD lens (level - 1) 0 ≤ length d
   finish-inside = name-inside p small (omega arith)
 
-  pub finish-level : {o g o′ g′ raw : List ℕ} {reached len count m r m′ : ℕ} {kept : Bool} → reached ≤ level → level ≤ reached
+  pub finish-level : {o g o′ g′ raw : List ℕ} {reached kept len count m r m′ : ℕ} → reached ≤ level → level ≤ reached
       → Inked d o g len m (endTag (lent d starts lens (level - 1))) r m′ o′ g′
       → Moved d starts lens level reached kept len count m o g (onFinish raw) 1 (level - 1) (level - 1) kept r count m′ o′ g′
   finish-level h g w =
@@ -109,9 +109,9 @@ module _ {d starts lens : List ℕ} (level : ℕ) (p : Placed d starts lens (lev
   pub start-inside : getD starts level 0 + getD lens level 0 ≤ length d
   start-inside = name-inside p small (omega arith)
 
-  pub start-bare : {o g o′ g′ head raw : List ℕ} {reached len count m r m′ : ℕ} {kept : Bool} {v : Verdict} → reached ≤ level
-      → kept ≡ false → v ≡ Unselected → level ≡ 0 → Inked d o g len m (startTag (lent d starts lens level)) r m′ o′ g′
-      → Moved d starts lens level reached kept len count m o g (onStart v (nameAt d starts lens level) head raw) 1 (level + 1) 1 false r
+  pub start-bare : {o g o′ g′ head raw : List ℕ} {reached kept len count m r m′ : ℕ} {v : Verdict} → reached ≤ level
+      → kept ≡ 0 → v ≡ Unselected → level ≡ 0 → Inked d o g len m (startTag (lent d starts lens level)) r m′ o′ g′
+      → Moved d starts lens level reached kept len count m o g (onStart v (nameAt d starts lens level) head raw) 1 (level + 1) 1 0 r
       count m′ o′ g′
   start-bare h k e z w =
       let q = lent-is d starts lens level in

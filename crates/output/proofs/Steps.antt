@@ -1,7 +1,7 @@
 -- The steps of an item that is no tag, of an end and of a start: one law for each way out.
 -- Each says what the way makes of whatever engine the code's state stands for.
-use mathlib.Core.Path.{_≡_, refl, sym, _∙_}
-use mathlib.Core.Bool.{Bool, true, false}
+use mathlib.Core.Path.{_≡_, refl, sym, ap, _∙_}
+use mathlib.Core.Bool.{Bool, true, false, cond}
 use mathlib.Core.List.{List, [], _∷_, _++_}
 use Prim.Native.Nat.{ℕ, _+_, _-_, _≤_, _<_}
 use native.Mathlib.Omega.{arith}
@@ -30,16 +30,25 @@ laid-more {o₀} {w = w} {s} t u =
     }
 
 -- what is open in the input
-pub open-is : {d starts lens o₀ o g : List ℕ} {level reached len count m : ℕ} {kept : Bool} {e : Engine}
+pub open-is : {d starts lens o₀ o g : List ℕ} {level reached kept len count m : ℕ} {e : Engine}
     → Stands d starts lens o₀ level reached kept len count m o g e → reached ≤ level → openOf e ≡ span (nameAt d starts lens) 0 level
 open-is {d} {starts} {lens} {level = level} {reached} {e = engine k p q x c} t h =
     rw (t .pend-is, t .done-is) (sym (span-whole (nameAt d starts lens) reached level h))
 
+-- inside a kept entry, and outside
+kept-true : (b : Bool) {kept : ℕ} → cond b 1 0 ≡ kept → (kept ≡ 0 → ⊥) → b ≡ true
+kept-true true e n = refl
+kept-true false e n = absurd (n (sym e))
+
+kept-false : (b : Bool) {kept : ℕ} → cond b 1 0 ≡ kept → kept ≡ 0 → b ≡ false
+kept-false true e z = absurd (omega arith)
+kept-false false e z = refl
+
 -- ---- an item that is no tag
 
-module _ {d starts lens o g : List ℕ} {level reached : ℕ} {kept : Bool} {len count m : ℕ} (h : reached ≤ level) where
-  pub aside-kept : {o′ g′ raw : List ℕ} {r m′ : ℕ} → kept ≡ true → Inked d o g len m raw r m′ o′ g′ → length raw ≤ 16777216
-      → Moved d starts lens level reached kept len count m o g (onAside raw) 1 level reached true r count m′ o′ g′
+module _ {d starts lens o g : List ℕ} {level reached kept len count m : ℕ} (h : reached ≤ level) where
+  pub aside-kept : {o′ g′ raw : List ℕ} {r m′ : ℕ} → (kept ≡ 0 → ⊥) → Inked d o g len m raw r m′ o′ g′ → length raw ≤ 16777216
+      → Moved d starts lens level reached kept len count m o g (onAside raw) 1 level reached 1 r count m′ o′ g′
   aside-kept {o′} {g′} {raw} {r} {m′} ek w b =
       record {
         moves = go;
@@ -51,9 +60,9 @@ module _ {d starts lens o g : List ℕ} {level reached : ℕ} {kept : Bool} {len
       }
     where
       go : (o₀ : List ℕ) (e : Engine) → Stands d starts lens o₀ level reached kept len count m o g e
-          → Stands d starts lens o₀ level reached true r count m′ o′ g′ (onAside raw e)
+          → Stands d starts lens o₀ level reached 1 r count m′ o′ g′ (onAside raw e)
       go o₀ (engine k p q x c) t =
-          rw (t .kept-is ∙ ek)
+          rw (kept-true k (t .kept-is) ek)
           (record {
             kept-is = refl;
             pend-is = t .pend-is;
@@ -63,7 +72,7 @@ module _ {d starts lens o g : List ℕ} {level reached : ℕ} {kept : Bool} {len
             notes = stood-more (t .notes) (w .noted);
           })
 
-  pub aside-dropped : kept ≡ false → (raw : List ℕ)
+  pub aside-dropped : kept ≡ 0 → (raw : List ℕ)
       → Moved d starts lens level reached kept len count m o g (onAside raw) 1 level reached kept len count m o g
   aside-dropped ek raw =
       record {
@@ -78,7 +87,7 @@ module _ {d starts lens o g : List ℕ} {level reached : ℕ} {kept : Bool} {len
       go : (o₀ : List ℕ) (e : Engine) → Stands d starts lens o₀ level reached kept len count m o g e
           → Stands d starts lens o₀ level reached kept len count m o g (onAside raw e)
       go o₀ (engine k p q x c) t =
-          rw (t .kept-is ∙ ek)
+          rw (kept-false k (t .kept-is) ek)
           (record {
             kept-is = sym ek;
             pend-is = t .pend-is;
@@ -90,7 +99,7 @@ module _ {d starts lens o g : List ℕ} {level reached : ℕ} {kept : Bool} {len
 
 -- ---- an end
 
-module _ {d starts lens o g : List ℕ} {level reached : ℕ} {kept : Bool} {len count m : ℕ} where
+module _ {d starts lens o g : List ℕ} {level reached kept len count m : ℕ} where
   -- nothing is open
   pub end-none : {raw : List ℕ} → reached ≤ level → level ≡ 0
       → Moved d starts lens level reached kept len count m o g (onFinish raw) 1 (level - 1) reached kept len count m o g
@@ -152,10 +161,10 @@ module _ {d starts lens o g : List ℕ} {level reached : ℕ} {kept : Bool} {len
           })
 
   -- in a kept entry, or the entry's own
-  pub end-kept : {o′ g′ raw : List ℕ} {r m′ : ℕ} → kept ≡ true → reached < level → Inked d o g len m raw r m′ o′ g′ → length raw ≤ 16777216
-      → Moved d starts lens level reached kept len count m o g (onFinish raw) 1 (level - 1) reached (ltb (reached + 1) level) r count m′
-      o′ g′
-  end-kept {o′} {g′} {raw} {r} {m′} ek h w b =
+  pub end-kept : {o′ g′ raw : List ℕ} {r m′ inner : ℕ} → (kept ≡ 0 → ⊥) → reached < level → inner ≡ cond (ltb (reached + 1) level) 1 0
+      → Inked d o g len m raw r m′ o′ g′ → length raw ≤ 16777216
+      → Moved d starts lens level reached kept len count m o g (onFinish raw) 1 (level - 1) reached inner r count m′ o′ g′
+  end-kept {o′} {g′} {raw} {r} {m′} {inner} ek h i w b =
       record {
         moves = go;
         order = omega arith;
@@ -166,11 +175,11 @@ module _ {d starts lens o g : List ℕ} {level reached : ℕ} {kept : Bool} {len
       }
     where
       go : (o₀ : List ℕ) (e : Engine) → Stands d starts lens o₀ level reached kept len count m o g e
-          → Stands d starts lens o₀ (level - 1) reached (ltb (reached + 1) level) r count m′ o′ g′ (onFinish raw e)
+          → Stands d starts lens o₀ (level - 1) reached inner r count m′ o′ g′ (onFinish raw e)
       go o₀ (engine k p q x c) t =
-          rw (t .pend-is ∙ span-less (nameAt d starts lens) reached level h, t .kept-is ∙ ek)
+          rw (t .pend-is ∙ span-less (nameAt d starts lens) reached level h, kept-true k (t .kept-is) ek)
           (record {
-            kept-is = some-left (nameAt d starts lens) reached level;
+            kept-is = ap (λ (b : Bool). cond b 1 0) (some-left (nameAt d starts lens) reached level) ∙ sym i;
             pend-is = refl;
             done-is = t .done-is;
             num-is = t .num-is;
@@ -179,7 +188,7 @@ module _ {d starts lens o g : List ℕ} {level reached : ℕ} {kept : Bool} {len
           })
 
   -- it waited, and is dropped
-  pub end-waits : {raw : List ℕ} → kept ≡ false → reached < level
+  pub end-waits : {raw : List ℕ} → kept ≡ 0 → reached < level
       → Moved d starts lens level reached kept len count m o g (onFinish raw) 1 (level - 1) reached kept len count m o g
   end-waits {raw} ek h =
       record {
@@ -194,7 +203,7 @@ module _ {d starts lens o g : List ℕ} {level reached : ℕ} {kept : Bool} {len
       go : (o₀ : List ℕ) (e : Engine) → Stands d starts lens o₀ level reached kept len count m o g e
           → Stands d starts lens o₀ (level - 1) reached kept len count m o g (onFinish raw e)
       go o₀ (engine k p q x c) t =
-          rw (t .pend-is ∙ span-less (nameAt d starts lens) reached level h, t .kept-is ∙ ek)
+          rw (t .pend-is ∙ span-less (nameAt d starts lens) reached level h, kept-false k (t .kept-is) ek)
           (record {
             kept-is = sym ek;
             pend-is = refl;
@@ -206,11 +215,11 @@ module _ {d starts lens o g : List ℕ} {level reached : ℕ} {kept : Bool} {len
 
 -- ---- a start
 
-module _ {d starts lens o g : List ℕ} {level reached : ℕ} {kept : Bool} {len count m : ℕ} (h : reached ≤ level) where
-  pub start-kept : {v : Verdict} {head raw o′ g′ : List ℕ} {r m′ n : ℕ} → kept ≡ true → Inked d o g len m raw r m′ o′ g′
+module _ {d starts lens o g : List ℕ} {level reached kept len count m : ℕ} (h : reached ≤ level) where
+  pub start-kept : {v : Verdict} {head raw o′ g′ : List ℕ} {r m′ n : ℕ} → (kept ≡ 0 → ⊥) → Inked d o g len m raw r m′ o′ g′
       → length raw ≤ 16777216 → n ≡ one v → n ≤ 1
       → Moved d starts lens level reached kept len count m o g
-      (onStart v (nameAt d starts lens level) head raw) 1 (level + 1) reached true r (count + n) m′ o′ g′
+      (onStart v (nameAt d starts lens level) head raw) 1 (level + 1) reached 1 r (count + n) m′ o′ g′
   start-kept {v} {head} {raw} {o′} {g′} {r} {m′} {n} ek w b en l =
       record {
         moves = go;
@@ -222,9 +231,9 @@ module _ {d starts lens o g : List ℕ} {level reached : ℕ} {kept : Bool} {len
       }
     where
       go : (o₀ : List ℕ) (e : Engine) → Stands d starts lens o₀ level reached kept len count m o g e
-          → Stands d starts lens o₀ (level + 1) reached true r (count + n) m′ o′ g′ (onStart v (nameAt d starts lens level) head raw e)
+          → Stands d starts lens o₀ (level + 1) reached 1 r (count + n) m′ o′ g′ (onStart v (nameAt d starts lens level) head raw e)
       go o₀ (engine k p q x c) t =
-          rw (t .kept-is ∙ ek)
+          rw (kept-true k (t .kept-is) ek)
           (record {
             kept-is = refl;
             pend-is = rw (t .pend-is) (sym (span-more (nameAt d starts lens) reached level h));
@@ -234,11 +243,11 @@ module _ {d starts lens o g : List ℕ} {level reached : ℕ} {kept : Bool} {len
             notes = stood-more (t .notes) (w .noted);
           })
 
-  pub start-marked : {v : Verdict} {head raw o₁ g₁ o′ g′ : List ℕ} {a b r m′ : ℕ} → kept ≡ false → v ≡ Marked
+  pub start-marked : {v : Verdict} {head raw o₁ g₁ o′ g′ : List ℕ} {a b r m′ : ℕ} → kept ≡ 0 → v ≡ Marked
       → Inked d o g len m (chain (span (nameAt d starts lens) reached (level - reached))) a b o₁ g₁ → a ≤ len + 1073741952
       → Inked d o₁ g₁ a b raw r m′ o′ g′ → length raw ≤ 16777216
       → Moved d starts lens level reached kept len count m o g
-      (onStart v (nameAt d starts lens level) head raw) 1 (level + 1) level true r (count + 1) m′ o′ g′
+      (onStart v (nameAt d starts lens level) head raw) 1 (level + 1) level 1 r (count + 1) m′ o′ g′
   start-marked {v} {head} {raw} {o₁} {g₁} {o′} {g′} {a} {b} {r} {m′} ek ev u ua w l =
       record {
         moves = go;
@@ -250,9 +259,9 @@ module _ {d starts lens o g : List ℕ} {level reached : ℕ} {kept : Bool} {len
       }
     where
       go : (o₀ : List ℕ) (e : Engine) → Stands d starts lens o₀ level reached kept len count m o g e
-          → Stands d starts lens o₀ (level + 1) level true r (count + 1) m′ o′ g′ (onStart v (nameAt d starts lens level) head raw e)
+          → Stands d starts lens o₀ (level + 1) level 1 r (count + 1) m′ o′ g′ (onStart v (nameAt d starts lens level) head raw e)
       go o₀ (engine k p q x c) t =
-          rw (t .kept-is ∙ ek, ev)
+          rw (kept-false k (t .kept-is) ek, ev)
           (record {
             kept-is = refl;
             pend-is =
@@ -264,11 +273,11 @@ module _ {d starts lens o g : List ℕ} {level reached : ℕ} {kept : Bool} {len
             notes = rw (t .pend-is) (stood-more (t .notes) (noted-more (u .noted) (w .noted)));
           })
 
-  pub start-selected : {v : Verdict} {head raw o₁ g₁ o′ g′ : List ℕ} {a b r m′ : ℕ} → kept ≡ false → v ≡ Selected
+  pub start-selected : {v : Verdict} {head raw o₁ g₁ o′ g′ : List ℕ} {a b r m′ : ℕ} → kept ≡ 0 → v ≡ Selected
       → Inked d o g len m (chain (span (nameAt d starts lens) reached (level - reached))) a b o₁ g₁ → a ≤ len + 1073741952
       → Inked d o₁ g₁ a b (head ++ (62 ∷ [])) r m′ o′ g′ → length head ≤ 16777216
       → Moved d starts lens level reached kept len count m o g
-      (onStart v (nameAt d starts lens level) head raw) 1 (level + 1) (level + 1) false r (count + 1) m′ o′ g′
+      (onStart v (nameAt d starts lens level) head raw) 1 (level + 1) (level + 1) 0 r (count + 1) m′ o′ g′
   start-selected {v} {head} {raw} {o₁} {g₁} {o′} {g′} {a} {b} {r} {m′} ek ev u ua w l =
       record {
         moves = go;
@@ -280,9 +289,9 @@ module _ {d starts lens o g : List ℕ} {level reached : ℕ} {kept : Bool} {len
       }
     where
       go : (o₀ : List ℕ) (e : Engine) → Stands d starts lens o₀ level reached kept len count m o g e
-          → Stands d starts lens o₀ (level + 1) (level + 1) false r (count + 1) m′ o′ g′ (onStart v (nameAt d starts lens level) head raw e)
+          → Stands d starts lens o₀ (level + 1) (level + 1) 0 r (count + 1) m′ o′ g′ (onStart v (nameAt d starts lens level) head raw e)
       go o₀ (engine k p q x c) t =
-          rw (t .kept-is ∙ ek, ev)
+          rw (kept-false k (t .kept-is) ek, ev)
           (record {
             kept-is = refl;
             pend-is = sym (span-none (nameAt d starts lens) (level + 1) (level + 1) (omega arith));
@@ -294,10 +303,10 @@ module _ {d starts lens o g : List ℕ} {level reached : ℕ} {kept : Bool} {len
             notes = rw (t .pend-is) (stood-more (t .notes) (noted-more (u .noted) (w .noted)));
           })
 
-  pub start-root : {v : Verdict} {head raw o′ g′ : List ℕ} {r m′ : ℕ} → kept ≡ false → v ≡ Unselected → level ≡ 0
+  pub start-root : {v : Verdict} {head raw o′ g′ : List ℕ} {r m′ : ℕ} → kept ≡ 0 → v ≡ Unselected → level ≡ 0
       → Inked d o g len m (startTag (nameAt d starts lens level)) r m′ o′ g′ → length (nameAt d starts lens level) ≤ 16777216
       → Moved d starts lens level reached kept len count m o g
-      (onStart v (nameAt d starts lens level) head raw) 1 (level + 1) 1 false r count m′ o′ g′
+      (onStart v (nameAt d starts lens level) head raw) 1 (level + 1) 1 0 r count m′ o′ g′
   start-root {v} {head} {raw} {o′} {g′} {r} {m′} ek ev z w b =
       record {
         moves = go;
@@ -309,12 +318,12 @@ module _ {d starts lens o g : List ℕ} {level reached : ℕ} {kept : Bool} {len
       }
     where
       go : (o₀ : List ℕ) (e : Engine) → Stands d starts lens o₀ level reached kept len count m o g e
-          → Stands d starts lens o₀ (level + 1) 1 false r count m′ o′ g′ (onStart v (nameAt d starts lens level) head raw e)
+          → Stands d starts lens o₀ (level + 1) 1 0 r count m′ o′ g′ (onStart v (nameAt d starts lens level) head raw e)
       go o₀ (engine k p q x c) t =
           let ep : p ≡ [] = t .pend-is ∙ span-none (nameAt d starts lens) reached level (omega arith) in
           let y : reached ≡ 0 = omega arith in
           let eq : q ≡ [] = t .done-is ∙ rw y in
-          rw (t .kept-is ∙ ek, ev, ep, eq)
+          rw (kept-false k (t .kept-is) ek, ev, ep, eq)
           (record {
             kept-is = refl;
             pend-is = rw z;
@@ -324,7 +333,7 @@ module _ {d starts lens o g : List ℕ} {level reached : ℕ} {kept : Bool} {len
             notes = stood-more (t .notes) (w .noted);
           })
 
-  pub start-waits : {v : Verdict} {head raw : List ℕ} → kept ≡ false → v ≡ Unselected → (level ≡ 0 → ⊥)
+  pub start-waits : {v : Verdict} {head raw : List ℕ} → kept ≡ 0 → v ≡ Unselected → (level ≡ 0 → ⊥)
       → Moved d starts lens level reached kept len count m o g
       (onStart v (nameAt d starts lens level) head raw) 1 (level + 1) reached kept len count m o g
   start-waits {v} {head} {raw} ek ev z =
@@ -333,7 +342,7 @@ module _ {d starts lens o g : List ℕ} {level reached : ℕ} {kept : Bool} {len
       go : (o₀ : List ℕ) (e : Engine) → Stands d starts lens o₀ level reached kept len count m o g e
           → Stands d starts lens o₀ (level + 1) reached kept len count m o g (onStart v (nameAt d starts lens level) head raw e)
       go o₀ (engine k p q x c) t =
-          rw (t .kept-is ∙ ek, ev, open-is t h ∙ refl, some-span (nameAt d starts lens) level, lt-ltb 0 level (omega arith))
+          rw (kept-false k (t .kept-is) ek, ev, open-is t h ∙ refl, some-span (nameAt d starts lens) level, lt-ltb 0 level (omega arith))
           (record {
             kept-is = sym ek;
             pend-is = rw (t .pend-is) (sym (span-more (nameAt d starts lens) reached level h));

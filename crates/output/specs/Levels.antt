@@ -1,7 +1,7 @@
 -- What the code's numbers and arrays stand for: an engine. In order: the names kept by level; the text laid; the engine that they stand
 -- for; and a step, which makes of whatever engine they stand for what f makes of it.
 use mathlib.Core.Path.{_≡_}
-use mathlib.Core.Bool.{Bool}
+use mathlib.Core.Bool.{cond}
 use mathlib.Core.List.{List, [], _∷_}
 use Prim.Native.Nat.{ℕ, zero, suc, _+_, _-_, _*_, _≤_, _<_}
 use lib.ListN.{length, getD}
@@ -39,11 +39,11 @@ pub record Inked (d o g : List ℕ) (len m : ℕ) (s : List ℕ) (len′ m′ : 
   pub wrote : Wrote o len s len′ o′
   pub noted : Noted d g m s m′ g′
 
--- The code's state stands for an engine: `level` is the input level, `reached` the output level; o₀ is the buffer at the beginning, o the
--- buffer now, g the log with m notes.
-pub record Stands (d starts lens o₀ : List ℕ) (level reached : ℕ) (kept : Bool) (len count m : ℕ) (o g : List ℕ) (e : Engine) : Type 0
+-- The code's state stands for an engine: `level` is the input level, `reached` the output level; `kept` is 1 inside a kept entry, else 0; o₀
+-- is the buffer at the beginning, o the buffer now, g the log with m notes.
+pub record Stands (d starts lens o₀ : List ℕ) (level reached kept len count m : ℕ) (o g : List ℕ) (e : Engine) : Type 0
   where
-    pub kept-is : keptOf e ≡ kept
+    pub kept-is : cond (keptOf e) 1 0 ≡ kept
     pub pend-is : pendOf e ≡ span (nameAt d starts lens) reached (level - reached)
     pub done-is : doneOf e ≡ span (nameAt d starts lens) 0 reached
     pub num-is : numOf e ≡ count
@@ -51,8 +51,8 @@ pub record Stands (d starts lens o₀ : List ℕ) (level reached : ℕ) (kept : 
     pub notes : Stood d g m (outOf e)
 
 -- Some steps do what f does to whatever engine the state stands for. Each writes at most 2^31 bytes, and selects one element at most.
-pub record Moved (d starts lens : List ℕ) (level reached : ℕ) (kept : Bool) (len count m : ℕ) (o g : List ℕ) (f : Engine → Engine)
-    (steps level′ reached′ : ℕ) (kept′ : Bool) (len′ count′ m′ : ℕ) (o′ g′ : List ℕ) : Type 0 where
+pub record Moved (d starts lens : List ℕ) (level reached kept len count m : ℕ) (o g : List ℕ) (f : Engine → Engine)
+    (steps level′ reached′ kept′ len′ count′ m′ : ℕ) (o′ g′ : List ℕ) : Type 0 where
   pub moves : (o₀ : List ℕ) (e : Engine) → Stands d starts lens o₀ level reached kept len count m o g e
       → Stands d starts lens o₀ level′ reached′ kept′ len′ count′ m′ o′ g′ (f e)
   pub order : reached′ ≤ level′

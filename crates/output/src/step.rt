@@ -1,6 +1,7 @@
 // An item's step: what is written at it, and what the run is after it. The names of the open elements are kept by level, and that of a
 // start tag or empty tag stands there before its step.
 ghost use mathlib.Core.Path.{_≡_};
+ghost use mathlib.Core.Bool.{cond};
 ghost use mathlib.Core.List.{List};
 ghost use Prim.Native.Nat.{ℕ, _+_, _-_, _≤_, _<_};
 ghost use lib.ListN.{length};
@@ -35,6 +36,13 @@ fn one_of(verdict: Verdict) -> usize
     }
 }
 
+// 1 where b holds, else 0.
+fn one_if(b: bool) -> usize
+    ensures { λ r. ⌜ r ≡ cond b 1 0 ⌝ }
+{
+    if b { 1 } else { 0 }
+}
+
 // An item that is no tag: written inside a kept entry, else dropped.
 fn aside(run: Run, doc: &[u8], out: &mut [u8], log: &mut [u64], at: usize, end: usize) -> Run
     requires { ⌜ Ready (now doc) (now log) run 144115188075855872 × (at ≤ end) × (end ≤ length (now doc)) ⌝ }
@@ -43,11 +51,11 @@ fn aside(run: Run, doc: &[u8], out: &mut [u8], log: &mut [u64], at: usize, end: 
         → Moves (now (doc .entry)) starts lens level run (now (out .entry)) (now (log .entry))
         (onAside (part (now (doc .entry)) at end)) 1 level r (now (out .exit)) (now (log .exit))) ⌝ }
 {
-    if run.kept {
+    if run.kept != 0 {
         let r = raw(doc, out, log, run.len, run.noted, at, end);
         return Run {
             reached: OutputLevel(run.reached.0),
-            kept: true,
+            kept: 1,
             len: r.len,
             count: run.count,
             noted: r.noted,
@@ -91,11 +99,12 @@ fn finish(
             noted: r.noted,
         };
     }
-    if run.kept {
+    if run.kept != 0 {
         let r = raw(doc, out, log, run.len, run.noted, at, end);
+        let inner = one_if(reached + 1 < l);
         return Run {
             reached: OutputLevel(reached),
-            kept: reached + 1 < l,
+            kept: inner,
             len: r.len,
             count: run.count,
             noted: r.noted,
@@ -127,12 +136,12 @@ fn start(
 {
     let l = level.0;
     let reached = run.reached.0;
-    if run.kept {
+    if run.kept != 0 {
         let r = raw(doc, out, log, run.len, run.noted, at, end);
         let n = one_of(verdict);
         return Run {
             reached: OutputLevel(reached),
-            kept: true,
+            kept: 1,
             len: r.len,
             count: run.count + n,
             noted: r.noted,
@@ -144,7 +153,7 @@ fn start(
             let r = raw(doc, out, log, a.len, a.noted, at, end);
             Run {
                 reached: OutputLevel(l),
-                kept: true,
+                kept: 1,
                 len: r.len,
                 count: run.count + 1,
                 noted: r.noted,
@@ -155,7 +164,7 @@ fn start(
             let r = headed(doc, out, log, a.len, a.noted, at, head);
             Run {
                 reached: OutputLevel(l + 1),
-                kept: false,
+                kept: 0,
                 len: r.len,
                 count: run.count + 1,
                 noted: r.noted,
@@ -168,7 +177,7 @@ fn start(
                 let r = bare(doc, out, log, run.len, run.noted, a, n);
                 return Run {
                     reached: OutputLevel(1),
-                    kept: false,
+                    kept: 0,
                     len: r.len,
                     count: run.count,
                     noted: r.noted,

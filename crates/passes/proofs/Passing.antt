@@ -85,7 +85,7 @@ pub record Passing (list d o₀ g₀ : List ℕ) (states : List MatchState) (sta
 
 pub pass-start : (list d o g : List ℕ) {m : MatchState} {opened : Open} {run : Run} {at : ℕ}
     → opened ≡ record { level = record { 0 = 0 }; rooted = false }
-    → run ≡ record { reached = record { 0 = 0 }; kept = false; len = 0; count = 0; noted = 0 }
+    → run ≡ record { reached = record { 0 = 0 }; kept = 0; len = 0; count = 0; noted = 0 }
     → at ≡ startOf d
     → m ≡ freshState
     → Passing list d o g (replicate 64 m) (replicate 64 0) (replicate 64 0) opened run at true 0 o g
@@ -209,7 +209,7 @@ placed-more {d} {starts} {lens} {opened} s a n h l =
         ⊎-elim (λ (q : i ≡ opened .level .0). rw q here) (λ (q : i < opened .level .0). k .inside i q) (eq-or-lt-of-le le)
 
 -- what the state stands for does not see a name kept at the level reached
-stands-kept : {d starts lens o₀ o g : List ℕ} {level reached len count m : ℕ} {kept : Bool} {x : Engine} → reached ≤ level
+stands-kept : {d starts lens o₀ o g : List ℕ} {level reached kept len count m : ℕ} {x : Engine} → reached ≤ level
     → Stands d starts lens o₀ level reached kept len count m o g x → (a n : ℕ)
     → Stands d (set starts level a) (set lens level n) o₀ level reached kept len count m o g x
 stands-kept {d} {starts} {lens} {level = level} {reached} h t a n =
