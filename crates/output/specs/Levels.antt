@@ -39,16 +39,15 @@ pub record Inked (d o g : List ℕ) (len m : ℕ) (s : List ℕ) (len′ m′ : 
   pub wrote : Wrote o len s len′ o′
   pub noted : Noted d g m s m′ g′
 
--- The code's state stands for an engine: `level` is the input level, `reached` the output level; `kept` is 1 inside a kept entry, else 0; o₀
--- is the buffer at the beginning, o the buffer now, g the log with m notes.
-pub record Stands (d starts lens o₀ : List ℕ) (level reached kept len count m : ℕ) (o g : List ℕ) (e : Engine) : Type 0
-  where
-    pub kept-is : cond (keptOf e) 1 0 ≡ kept
-    pub pend-is : pendOf e ≡ span (nameAt d starts lens) reached (level - reached)
-    pub done-is : doneOf e ≡ span (nameAt d starts lens) 0 reached
-    pub num-is : numOf e ≡ count
-    pub text : Laid o₀ len o (outOf e)
-    pub notes : Stood d g m (outOf e)
+-- The code's state stands for an engine: `level` is the input level, `reached` the output level; `kept` is 1 inside a kept entry, else 0;
+-- o₀ is the buffer at the beginning, o the buffer now, g the log with m notes.
+pub record Stands (d starts lens o₀ : List ℕ) (level reached kept len count m : ℕ) (o g : List ℕ) (e : Engine) : Type 0 where
+  pub kept-is : cond (keptOf e) 1 0 ≡ kept
+  pub pend-is : pendOf e ≡ span (nameAt d starts lens) reached (level - reached)
+  pub done-is : doneOf e ≡ span (nameAt d starts lens) 0 reached
+  pub num-is : numOf e ≡ count
+  pub text : Laid o₀ len o (outOf e)
+  pub notes : Stood d g m (outOf e)
 
 -- Some steps do what f does to whatever engine the state stands for. Each writes at most 2^31 bytes, and selects one element at most.
 pub record Moved (d starts lens : List ℕ) (level reached kept len count m : ℕ) (o g : List ℕ) (f : Engine → Engine)
