@@ -62,7 +62,7 @@ use Rattle.passes.specs.Opens.{Opens}
 use Rattle.passes.specs.Passed.{Passed}
 use Rattle.passes.specs.declared.Outcome.the-variants.{Fine as Ended, Fault}
 use Rattle.quick.proofs.Opened.{start-named}
-use Rattle.passes.proofs.Ends.{opens-none, opens-kept, opens-more}
+use Rattle.passes.proofs.Telling.{opens-none, opens-kept, opens-more}
 use Rattle.passes.proofs.Rests.{Rest, untagged, rest-start, rest-over, sum-over, rest-tag, rest-other}
 use Rattle.passes.proofs.States.{none, above, Held, Stored, name-here, span-below, held-start, held-kept, held-deeper, held-same}
 use Rattle.passes.proofs.States.{parent-is, stored-long}

@@ -9,17 +9,20 @@
 // State 0 is the fresh one, under which the root stands, and state k the one below level k. No element stands below level 64, so there is
 // none of it.
 ghost use mathlib.Core.Path.{_≡_};
-ghost use Prim.Native.Nat.{_+_, _-_, _≤_};
-ghost use lib.ListN.{length, take, drop};
+ghost use Prim.Native.Nat.{_+_, _-_, _≤_, _<_};
+ghost use lib.ListN.{length, getD, take, drop};
 ghost use Rattle.points.specs.Class.{classTable};
 ghost use Rattle.matcher.specs.Fit.{Serves};
 ghost use Rattle.paths.specs.Judge.{listPaths};
 ghost use Rattle.attributes.specs.Held.{attributesIn};
 ghost use Rattle.items.specs.Item.{itemAt};
+ghost use Rattle.document.specs.Place.{placement};
+ghost use Rattle.document.specs.Levels.{Names, openedOf};
 ghost use Rattle.tests.specs.Passing.{somePlace};
-ghost use Rattle.passes.specs.Opens.{Opens, Closes};
+ghost use Rattle.passes.specs.Opens.{Opens, Usual};
 ghost use Rattle.passes.specs.Passed.{Passed};
 ghost use Rattle.passes.specs.ByTests.{ByTests};
+use chars::name::Reading;
 use compiled::Compiled;
 use document::InputLevel;
 use document::Open;
@@ -37,9 +40,11 @@ use matcher::state::MatchState;
 use output::Run;
 use output::step::other_step;
 use output::step::tag_step;
+use plain::text::text;
 use points::table::Classes;
 use quick::end::end_tag;
 use tags::Item;
+use tags::tag::tag;
 use tests::any;
 use tests::picked;
 
@@ -50,54 +55,122 @@ pub enum Outcome {
     Fault(Why, usize),
 }
 
-// How long the end tag at a place is, if it is that of the innermost open element and has no white space; else 0. It is told by its bytes,
-// and not read.
-fn closing(
+// An item, and whether it may stand at its place.
+struct Next {
+    item: Item,
+    placed: Placement,
+}
+
+// Inside an element, the item that begins with `<`, where it is a usual one: an end tag of the element's name, which is compared with it
+// and not read; or a start tag with no attribute twice, whose element is not too deep. Both may stand there. Else nothing is told.
+fn usual_tag(
+    table: &Classes,
     doc: &[u8],
     starts: &[usize; Open::LEVELS],
     lens: &[usize; Open::LEVELS],
-    level: usize,
+    opened: Open,
     at: usize,
-) -> usize
-    requires { ⌜ (level ≤ 64) × (length (now starts) ≡ 64) × (length (now lens) ≡ 64) × (at ≤ length (now doc))
-        × (length (now doc) ≤ 16777216) × Opens (now doc) (now starts) (now lens) level ⌝ }
-    ensures { λ r. ⌜ Closes (now (doc .entry)) (now (lens .entry)) level at r ⌝ }
+) -> Item
+    requires { ⌜ (now table ≡ classTable) × Names (now doc) (now starts) (now lens) opened × (length (now doc) ≤ 16777216)
+        × Opens (now doc) (now starts) (now lens) (opened .level .0) × (1 ≤ opened .level .0) × (at < length (now doc))
+        × (getD (now doc) at 0 ≡ 0x3C) ⌝ }
+    ensures { λ r.
+        ⌜ Usual (now (doc .entry)) at (openedOf (now (doc .entry)) (now (starts .entry)) (now (lens .entry)) opened) r ⌝ }
 {
-    if level == 0 {
-        return 0;
-    }
-    if at == doc.len() {
-        return 0;
-    }
-    if doc[at] != b'<' {
-        return 0;
-    }
+    let level = opened.level.0;
     let x = starts[level - 1];
     let n = lens[level - 1];
-    end_tag(doc, at, x, n)
+    let size = end_tag(doc, at, x, n);
+    if size > 0 {
+        return Item::Finish {
+            name: n,
+            end: at + size,
+        };
+    }
+    if level == Open::LEVELS {
+        return Item::Nothing;
+    }
+    if doc.len() - at == 1 {
+        return Item::Nothing;
+    }
+    if doc[at + 1] < 0x40 {
+        return Item::Nothing;
+    }
+    let next = tag(table, doc, at);
+    if let Item::Start {
+        name: _,
+        head: _,
+        end: _,
+        empty: _,
+        twice,
+    } = next {
+        if !twice {
+            return next;
+        }
+    }
+    Item::Nothing
 }
 
-// The item at a place. Inside an element, an end tag of the element's name is compared with it; all else is read.
+// Inside an element, the item at a place where it is a usual one: such a tag, or text. Else nothing is told: `Nothing`.
+fn usual(
+    table: &Classes,
+    doc: &[u8],
+    starts: &[usize; Open::LEVELS],
+    lens: &[usize; Open::LEVELS],
+    opened: Open,
+    at: usize,
+) -> Item
+    requires { ⌜ (now table ≡ classTable) × Names (now doc) (now starts) (now lens) opened × (length (now doc) ≤ 16777216)
+        × Opens (now doc) (now starts) (now lens) (opened .level .0) × (at ≤ length (now doc)) ⌝ }
+    ensures { λ r.
+        ⌜ Usual (now (doc .entry)) at (openedOf (now (doc .entry)) (now (starts .entry)) (now (lens .entry)) opened) r ⌝ }
+{
+    let level = opened.level.0;
+    if level == 0 {
+        return Item::Nothing;
+    }
+    if at == doc.len() {
+        return Item::Nothing;
+    }
+    let b = doc[at];
+    if b == b'<' {
+        return usual_tag(table, doc, starts, lens, opened, at);
+    }
+    if b == b'&' {
+        return Item::Nothing;
+    }
+    match text(doc, at) {
+        Reading::Ends(e) => Item::Text(e),
+        Reading::Fault => Item::Nothing,
+    }
+}
+
+// The item at a place, and whether it may stand there. Those that `usual` does not tell are read and placed.
 fn next_item(
     table: &Classes,
     doc: &[u8],
     starts: &[usize; Open::LEVELS],
     lens: &[usize; Open::LEVELS],
-    level: usize,
+    opened: Open,
     at: usize,
     first: bool,
-) -> Item
-    requires { ⌜ (now table ≡ classTable) × (level ≤ 64) × (length (now starts) ≡ 64) × (length (now lens) ≡ 64)
-        × (at ≤ length (now doc)) × (length (now doc) ≤ 16777216) × Opens (now doc) (now starts) (now lens) level ⌝ }
-    ensures { λ r. ⌜ r ≡ itemAt first (now (doc .entry)) at ⌝ }
+) -> Next
+    requires { ⌜ (now table ≡ classTable) × Names (now doc) (now starts) (now lens) opened × (length (now doc) ≤ 16777216)
+        × Opens (now doc) (now starts) (now lens) (opened .level .0) × (at ≤ length (now doc)) ⌝ }
+    ensures { λ r. ⌜ r .item ≡ itemAt first (now (doc .entry)) at ⌝ }
+    ensures { λ r.
+        ⌜ r .placed ≡ placement (now (doc .entry)) at (r .item)
+        (openedOf (now (doc .entry)) (now (starts .entry)) (now (lens .entry)) opened) ⌝ }
 {
-    let size = closing(doc, starts, lens, level, at);
-    if size == 0 {
-        return item(table, doc, at, first);
+    let told = usual(table, doc, starts, lens, opened, at);
+    if let Item::Nothing = told {
+        let next = item(table, doc, at, first);
+        let placed = place(doc, starts, lens, opened, at, next);
+        return Next { item: next, placed };
     }
-    Item::Finish {
-        name: lens[level - 1],
-        end: at + size,
+    Next {
+        item: told,
+        placed: Placement::Fine,
     }
 }
 
@@ -156,8 +229,10 @@ pub fn pass(
     let mut first = true;
     let mut tests: usize = 0;
     loop {
-        let next = next_item(table, doc, &starts, &lens, opened.level.0, at, first);
-        match place(doc, &starts, &lens, opened, at, next) {
+        let seen = next_item(table, doc, &starts, &lens, opened, at, first);
+        let next = seen.item;
+        let placed = seen.placed;
+        match placed {
             Placement::Fault(why) => {
                 return Outcome::Fault(why, at);
             }

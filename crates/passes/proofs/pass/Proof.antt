@@ -5,7 +5,6 @@ use mathlib.Core.Logic.{⊎-elim, inr}
 use Prim.Native.Nat.{_-_}
 use borrow.Author.Needs.{needs}
 use lib.ListN.{length}
-use Rattle.document.proofs.Judging.{scan-inside}
 use Rattle.passes.proofs.Passing.{Passing, pass-start, pass-fault, pass-over, pass-ready, pass-many, pass-deep, pass-within}
 use Rattle.passes.proofs.Passing.{pass-next}
 use Rattle.passes.proofs.Passing.{pass-fits, pass-inside, pass-less, pass-placed, pass-other, tag-level, tag-from, tag-to}
@@ -42,30 +41,21 @@ start-of-requires c κs = search needs
 
 loop-holds : tie.Need-loop-holds Inv-loop μ-loop
 loop-holds c =
-    pass-start _ _ _ _ (c .before .before .none .ensures) (c .before .none2 .ensures) (c .start-of .ensures) (c .before .before
-    .before .fresh .ensures)
+    pass-start _ _ _ _ (c .before .before .none .ensures) (c .before .none2 .ensures) (c .start-of .ensures)
+    (c .before .before .before .fresh .ensures)
 
 next-item-requires : tie.Need-next-item-requires Inv-loop μ-loop
 next-item-requires c κs =
-    let v = c .before .before .loop .inv in
-    let names = v .judging .names in (
+    let v = c .before .before .loop .inv in (
       c .before .before .before .before .before .before .before .before .before .before .before .before .pre .0,
-      names .deep,
-      names .starts-long,
-      names .lens-long,
-      v .judging .within,
+      v .judging .names,
       c .before .before .before .before .before .before .before .before .before .before .before .before .pre .1,
       v .opens,
+      v .judging .within,
     )
 
-place-requires : tie.Need-place-requires Inv-loop μ-loop
-place-requires c κs = (
-  c .before .before .before .before .before .loop .inv .judging .names,
-  scan-inside (c .before .before .before .before .before .loop .inv .judging) (c .before .before .next-item .ensures),
-)
-
-enum-known-why : tie.Need-enum-known-why Inv-loop μ-loop
-enum-known-why c = search needs
+enum-known-placed : tie.Need-enum-known-placed Inv-loop μ-loop
+enum-known-placed c = search needs
 
 same-length : tie.Need-same-length Inv-loop μ-loop
 same-length c = search needs
@@ -75,8 +65,8 @@ same-length-2 c = search needs
 
 returns : tie.Need-returns Inv-loop μ-loop
 returns c =
-    pass-fault (c .before .before .before .before .before .before .before .before .before .loop .inv) (c .before .before .before
-    .before .before .before .next-item .ensures) (c .before .before .before .place .ensures) _ (c .before .why .given .1)
+    pass-fault (c .before .before .before .before .before .before .loop .inv) (c .before .before .before .next-item .ensures .0)
+    (c .before .before .before .next-item .ensures .1) _ (c .before .placed .given .1)
 
 enum-told : tie.Need-enum-told Inv-loop μ-loop
 enum-told c = search needs
@@ -89,22 +79,22 @@ same-length-4 c = search needs
 
 returns-2 : tie.Need-returns-2 Inv-loop μ-loop
 returns-2 c =
-    pass-over (c .before .before .before .before .before .before .before .before .loop .inv) (c .before .before .before .before
-    .before .next-item
-    .ensures) (c .before .before .place .ensures) (c .enum-told .given .1)
+    pass-over (c .before .before .before .before .before .loop .inv) (c .before .before .next-item .ensures .0)
+    (c .before .before .next-item .ensures .1) (c .enum-told .given .1)
 
 enum-told-2 : tie.Need-enum-told-2 Inv-loop μ-loop
 enum-told-2 c = search needs
 
 keep-requires : tie.Need-keep-requires Inv-loop μ-loop
 keep-requires c κs =
-    let v = c .before .before .before .before .before .before .before .before .before .before .loop .inv in
+    let v = c .before .before .before .before .before .before .before .loop .inv in
     let names = v .judging .names in (
       names .starts-long,
       names .lens-long,
-      pass-next v (c .before .before .before .before .before .before .before .next-item .ensures) (c .before .before .before
-          .before .place .ensures) (c .before .before .enum-told2 .given .1) (c .before .before .before .before .before .before
-          .before .before .before .before .before .before .before .before .before .before .before .before .before .before .pre .1),
+      pass-next v (c .before .before .before .before .next-item .ensures .0)
+          (c .before .before .before .before .next-item .ensures .1) (c .before .before .enum-told2 .given .1)
+          (c .before .before .before .before .before .before .before .before .before .before .before .before .before .before
+          .before .before .before .pre .1),
     )
 
 enum-known-next : tie.Need-enum-known-next Inv-loop μ-loop
@@ -112,39 +102,36 @@ enum-known-next c = search needs
 
 mul-parent : tie.Need-mul-parent Inv-loop μ-loop
 mul-parent c =
-    let below = tag-level (c .before .before .before .before .before .before .before .before .before .before .before .before
-    .before .before .loop
-    .inv) (c .before .before .before .before .before .before .before .before .before .before .before .next-item .ensures) (c
-    .before .before .before .before .before .before .before .before .place .ensures) (c .before .before .before .before .before
-    .before .enum-told2 .given .1) (c .before .next .given .1) in
+    let below = tag-level (c .before .before .before .before .before .before .before .before .before .before .before .loop
+    .inv) (c .before .before .before .before .before .before .before .before .next-item .ensures .0)
+    (c .before .before .before .before .before .before .before .before .next-item .ensures .1)
+    (c .before .before .before .before .before .before .enum-told2 .given .1) (c .before .next .given .1) in
     search (needs, below)
 
 array-copy-out-parent : tie.Need-array-copy-out-parent Inv-loop μ-loop
 array-copy-out-parent c =
-    tag-level (c .before .before .before .before .before .before .before .before .before .before .before .before .before .before
-    .loop .inv) (c .before .before .before .before .before .before .before .before .before .before .before .next-item .ensures)
-    (c .before .before .before .before .before .before .before .before .place .ensures) (c .before .before .before .before
-    .before .before .enum-told2
+    tag-level (c .before .before .before .before .before .before .before .before .before .before .before .loop .inv)
+    (c .before .before .before .before .before .before .before .before .next-item .ensures .0)
+    (c .before .before .before .before .before .before .before .before .next-item .ensures .1)
+    (c .before .before .before .before .before .before .enum-told2
     .given .1) (c .before .next .given .1)
 
 add-a : tie.Need-add-a Inv-loop μ-loop
 add-a c =
-    pass-fits (c .before .before .before .before .before .before .before .before .before .before .before .before .before .before
-    .before .loop
-    .inv) (c .before .before .before .before .before .before .before .before .before .before .before .before .next-item .ensures)
-    (c .before .before .before .before .before .before .before .before .before .place .ensures) (c .before .before .before
-    .before .before .before .before .enum-told2 .given .1) (c .before .before .before .before .before .before .before
-    .before .before .before .before .before .before .before .before .before .before .before .before .before .before
-    .before .before .before .before .pre .1)
+    pass-fits (c .before .before .before .before .before .before .before .before .before .before .before .before .loop
+    .inv) (c .before .before .before .before .before .before .before .before .before .next-item .ensures .0)
+    (c .before .before .before .before .before .before .before .before .before .next-item .ensures .1)
+    (c .before .before .before .before .before .before .before .enum-told2 .given .1)
+    (c .before .before .before .before .before .before .before .before .before .before .before .before .before .before .before
+    .before .before .before .before .before .before .before .pre .1)
 
 add-fit-of : tie.Need-add-fit-of Inv-loop μ-loop
 add-fit-of c =
-    tag-fits (c .before .before .before .before .before .before .before .before .before .before .before .before .before .before
-    .before .loop .inv)
-    (c .before .before .before .before .before .before .before .before .before .before .before .before .next-item .ensures) (c
-    .before .before .before .before .before .before .before .before .before .place .ensures) (c .before .before .before .before
-    .before .before .before .enum-told2 .given .1) (c .before .before .next .given .1) (c .before .before .before .before
-    .before .before .before .before .before .before .before .before .before .before .before .before .before .before
+    tag-fits (c .before .before .before .before .before .before .before .before .before .before .before .before .loop .inv)
+    (c .before .before .before .before .before .before .before .before .before .next-item .ensures .0)
+    (c .before .before .before .before .before .before .before .before .before .next-item .ensures .1)
+    (c .before .before .before .before .before .before .before .enum-told2 .given .1) (c .before .before .next .given .1)
+    (c .before .before .before .before .before .before .before .before .before .before .before .before .before .before .before
     .before .before .before .before .before .before .before .pre .1)
 
 sub-fit-of : tie.Need-sub-fit-of Inv-loop μ-loop
@@ -155,26 +142,25 @@ part-fit-of-start c = search needs
 
 part-fit-of-end : tie.Need-part-fit-of-end Inv-loop μ-loop
 part-fit-of-end c =
-    let inside = tag-name (c .before .before .before .before .before .before .before .before .before .before .before .before
-    .before .before .before .loop .inv) (c .before .before .before .before .before .before .before .before .before .before
-    .before .before .next-item
-    .ensures) (c .before .before .before .before .before .before .before .before .before .place .ensures) (c .before .before
-    .before .before .before .before .before .enum-told2
+    let inside = tag-name (c .before .before .before .before .before .before .before .before .before .before .before .before .loop
+    .inv) (c .before .before .before .before .before .before .before .before .before .next-item .ensures .0)
+    (c .before .before .before .before .before .before .before .before .before .next-item .ensures .1)
+    (c .before .before .before .before .before .before .before .enum-told2
     .given .1) (c .before .before .next .given .1) in
     search (needs, inside)
 
 fit-of-requires : tie.Need-fit-of-requires Inv-loop μ-loop
 fit-of-requires c κs =
     c .before .before .before .before .before .before .before .before .before .before .before .before .before .before .before
-    .before .before .before .before .before .before .before .before .before .before .before .pre .2
+    .before .before .before .before .before .before .before .before .pre .2
 
 add-if1 : tie.Need-add-if1 Inv-loop μ-loop
 add-if1 c =
     let below = tag-level (c .before .before .before .before .before .before .before .before .before .before .before .before
-    .before .before .before .before .before .loop .inv) (c .before .before .before .before .before .before .before .before
-    .before .before .before .before .before .before .next-item .ensures) (c .before .before .before .before .before .before
-    .before .before .before .before .before .place .ensures) (c .before .before .before .before .before .before .before
-    .before .before .enum-told2 .given .1) (c .before .before .before .before .next .given .1) in
+    .before .before .loop .inv) (c .before .before .before .before .before .before .before .before .before .before .before
+    .next-item .ensures .0) (c .before .before .before .before .before .before .before .before .before .before .before
+    .next-item .ensures .1) (c .before .before .before .before .before .before .before .before .before .enum-told2 .given .1)
+    (c .before .before .before .before .next .given .1) in
     search (needs, below)
 
 deeper-requires : tie.Need-deeper-requires Inv-loop μ-loop
@@ -198,30 +184,31 @@ cast-tests c = search needs
 add-tests : tie.Need-add-tests Inv-loop μ-loop
 add-tests c =
     let v = c .before .before .before .before .before .before .before .before .before .before .before .before .before .before
-    .before .before .before .before .before .loop .inv in
+    .before .before .loop .inv in
     pass-many v (c .before .before .before .before .before .before .before .before .before .before .before .before .before .before
-    .before .before .before .before .before .before .before .before .before .before .before .before .before .before .before
-    .pre .1) (pass-within v (c .before .before .before .before .before .before .before .before .before .before .before
-    .before .before .before .before .before .next-item .ensures) (c .before .before .before .before .before .before
-    .before .before .before .before .before .before .before .place .ensures) (c .before .before .before .before
-    .before .before .before .before .before .before .before .enum-told2 .given
+    .before .before .before .before .before .before .before .before .before .before .before .before .pre .1) (pass-within v
+    (c .before .before .before .before .before .before .before .before .before .before .before .before .before .next-item
+    .ensures .0) (c .before .before .before .before .before .before .before .before .before .before .before .before .before
+    .next-item .ensures .1) (c .before .before .before .before .before .before .before .before .before .before .before
+    .enum-told2 .given
     .1)) (c .tests-on .ensures .1)
 
 judged-requires : tie.Need-judged-requires Inv-loop μ-loop
 judged-requires c κs =
     let v = c .before .before .before .before .before .before .before .before .before .before .before .before .before .before
-    .before .before .before .before .before .loop .inv in
-    let e = c .before .before .before .before .before .before .before .before .before .before .before .before .before .before
-    .before .before .next-item .ensures in
-    let q = c .before .before .before .before .before .before .before .before .before .before .before .before .before .place .ensures in
+    .before .before .loop .inv in
+    let e = c .before .before .before .before .before .before .before .before .before .before .before .before .before .next-item
+    .ensures .0 in
+    let q = c .before .before .before .before .before .before .before .before .before .before .before .before .before .next-item
+    .ensures .1 in
     let h = c .before .before .before .before .before .before .before .before .before .before .before .enum-told2 .given .1 in
     let s = c .before .before .before .before .before .before .next .given .1 in (
       c .before .before .before .before .before .before .before .before .before .before .before .before .before .before .before
-          .before .before .before .before .before .before .before .before .before .before .before .before .before .before .pre .0,
+          .before .before .before .before .before .before .before .before .before .before .before .pre .0,
       c .before .before .before .before .before .before .before .before .before .before .before .before .before .before .before
-          .before .before .before .before .before .before .before .before .before .before .before .before .before .before .pre .2,
+          .before .before .before .before .before .before .before .before .before .before .before .pre .2,
       c .before .before .before .before .before .before .before .before .before .before .before .before .before .before .before
-          .before .before .before .before .before .before .before .before .before .any .ensures,
+          .before .before .before .before .before .before .any .ensures,
       tag-behind v e q h s,
       tag-head v e q h s,
     )
@@ -229,11 +216,11 @@ judged-requires c κs =
 tag-step-requires : tie.Need-tag-step-requires Inv-loop μ-loop
 tag-step-requires c κs =
     let v = c .before .before .before .before .before .before .before .before .before .before .before .before .before .before
-    .before .before .before .before .before .before .before .before .before .before .loop .inv in
+    .before .before .before .before .before .before .before .loop .inv in
     let e = c .before .before .before .before .before .before .before .before .before .before .before .before .before .before
-    .before .before .before .before .before .before .before .next-item .ensures in
+    .before .before .before .before .next-item .ensures .0 in
     let q = c .before .before .before .before .before .before .before .before .before .before .before .before .before .before
-    .before .before .before .before .place .ensures in
+    .before .before .before .before .next-item .ensures .1 in
     let h = c .before .before .before .before .before .before .before .before .before .before .before .before .before .before
     .before .before .enum-told2 .given .1 in
     let s = c .before .before .before .before .before .before .before .before .before .before .before .next .given .1 in
@@ -241,9 +228,9 @@ tag-step-requires c κs =
     .ensures in (
       pass-ready v (c .before .before .before .before .before .before .before .before .before .before .before .before .before
           .before .before .before .before .before .before .before .before .before .before .before .before .before .before .before
-          .before .before .before .before .before .before .pre .1) (c .before .before .before .before .before .before .before
-          .before .before .before .before .before .before .before .before .before .before .before .before .before .before
-          .before .before .before .before .before .before .before .before .before .before .before .before .before .pre
+          .before .before .before .pre .1) (c .before .before .before .before .before .before .before .before .before .before
+          .before .before .before .before .before .before .before .before .before .before .before .before .before .before .before
+          .before .before .before .before .before .before .pre
           .3) (pass-within v e q h),
       v .order,
       tag-from v e q h s,
@@ -255,33 +242,32 @@ tag-step-requires c κs =
 after-requires : tie.Need-after-requires Inv-loop μ-loop
 after-requires c κs =
     pass-deep (c .before .before .before .before .before .before .before .before .before .before .before .before .before .before
+    .before .before .before .before .before .before .before .before .before .before .before .before .loop .inv)
+    (c .before .before .before .before .before .before .before .before .before .before .before .before .before .before .before
     .before .before .before .before .before .before .before .before .before .before .before .before .before .before .before
-    .loop .inv) (c .before .before .before .before .before .before .before .before .before .before .before .before .before
-    .before .before .before .before .before .before .before .before .before .before .before .before .before .before
-    .before .before .before .before .before .before .before .before .before .before .before .before .pre .1)
+    .before .before .before .before .before .before .pre .1)
 
 loop-less : tie.Need-loop-less Inv-loop μ-loop
 loop-less c =
     tag-less (c .before .before .before .before .before .before .before .before .before .before .before .before .before .before
-    .before .before .before .before .before .before .before .before .before .before .before .before .before .before .before
-    .before .loop .inv) (c .before .before .before .before .before .before .before .before .before .before .before .before
-    .before .before .before .before .before .before .before .before .before .before .before .before .before .before
-    .before .next-item .ensures) (c .before .before .before .before .before .before .before .before .before .before
-    .before .before .before .before .before .before .before .before .before .before .before .before .before
-    .before .place .ensures) (c .before .before .before .before .before .before .before .before .before
-    .before .before .before .before .before .before .before .before .before .before .before .before
-    .before .enum-told2 .given .1) (c .before .before .before .before .before .before .before
-    .before .before .before .before .before .before .before .before .before .before .next .given .1)
+    .before .before .before .before .before .before .before .before .before .before .before .before .before .loop .inv)
+    (c .before .before .before .before .before .before .before .before .before .before .before .before .before .before .before
+    .before .before .before .before .before .before .before .before .before .next-item .ensures .0)
+    (c .before .before .before .before .before .before .before .before .before .before .before .before .before .before .before
+    .before .before .before .before .before .before .before .before .before .next-item .ensures .1)
+    (c .before .before .before .before .before .before .before .before .before .before .before .before .before .before .before
+    .before .before .before .before .before .before .before .enum-told2 .given .1)
+    (c .before .before .before .before .before .before .before .before .before .before .before .before .before .before .before
+    .before .before .next .given .1)
 
 loop-again : tie.Need-loop-again Inv-loop μ-loop
 loop-again c =
     let v = c .before .before .before .before .before .before .before .before .before .before .before .before .before .before
-    .before .before .before .before .before .before .before .before .before .before .before .before .before .before .before
-    .before .loop .inv in
+    .before .before .before .before .before .before .before .before .before .before .before .before .before .loop .inv in
     let e = c .before .before .before .before .before .before .before .before .before .before .before .before .before .before
-    .before .before .before .before .before .before .before .before .before .before .before .before .before .next-item .ensures in
+    .before .before .before .before .before .before .before .before .before .before .next-item .ensures .0 in
     let q = c .before .before .before .before .before .before .before .before .before .before .before .before .before .before
-    .before .before .before .before .before .before .before .before .before .before .place .ensures in
+    .before .before .before .before .before .before .before .before .before .before .next-item .ensures .1 in
     let h = c .before .before .before .before .before .before .before .before .before .before .before .before .before .before
     .before .before .before .before .before .before .before .before .enum-told2 .given .1 in
     let s = c .before .before .before .before .before .before .before .before .before .before .before .before .before .before
@@ -291,29 +277,28 @@ loop-again c =
     .before .before .before .before .before .keep .ensures in
     let sound = c .before .before .before .before .before .before .before .before .before .before .before .before .before .before
     .before .before .before .before .before .before .before .before .before .before .before .before .before .before .before
-    .before .before .before .before .before .before .before .before .before .before .before .pre .2 .sound in
+    .before .before .before .before .before .before .before .before .pre .2 .sound in
     let f = c .before .before .before .before .before .before .before .before .before .before .before .before .before .fit-of .ensures in
     pass-tag v e q h s (k .0) (k .1) sound refl f
     (verdict-judged v e q h s (k .0) (k .1) sound refl f (c .before .before .before .before .before .before .before .before .before
     .before .judged .ensures))
-    (⊎-elim (λ z. stored _ (z .0 .taken) (z .1 .ensures) (z .2)) (λ z. inr (z .0 .left, z .1)) (c .before .before .before .before
-    .before .before .before .before .before .before .before .before .if1 .came))
-    (c .before .before .before .before .before .before .before .before .before .before .before .tests-on .ensures) (c .before
-    .before .before .before .before .tag-step
+    (⊎-elim (λ z. stored _ (z .0 .taken) (z .1 .ensures) (z .2)) (λ z. inr (z .0 .left, z .1))
+    (c .before .before .before .before .before .before .before .before .before .before .before .before .if1 .came))
+    (c .before .before .before .before .before .before .before .before .before .before .before .tests-on .ensures)
+    (c .before .before .before .before .before .tag-step
     .ensures) (c .after .ensures)
 
 other-step-requires : tie.Need-other-step-requires Inv-loop μ-loop
 other-step-requires c κs =
-    let v = c .before .before .before .before .before .before .before .before .before .before .before .before .before .before
-    .before .before .loop .inv in
-    let e = c .before .before .before .before .before .before .before .before .before .before .before .before .before .next-item .ensures in
-    let q = c .before .before .before .before .before .before .before .before .before .before .place .ensures in
+    let v = c .before .before .before .before .before .before .before .before .before .before .before .before .before .loop .inv in
+    let e = c .before .before .before .before .before .before .before .before .before .before .next-item .ensures .0 in
+    let q = c .before .before .before .before .before .before .before .before .before .before .next-item .ensures .1 in
     let h = c .before .before .before .before .before .before .before .before .enum-told2 .given .1 in
     let k = c .before .before .before .before .before .keep .ensures in (
       pass-ready v (c .before .before .before .before .before .before .before .before .before .before .before .before .before
-          .before .before .before .before .before .before .before .before .before .before .before .before .before .pre .1) (c
-          .before .before .before .before .before .before .before .before .before .before .before .before .before .before
-          .before .before .before .before .before .before .before .before .before .before .before .before .pre .3)
+          .before .before .before .before .before .before .before .before .before .before .pre .1)
+          (c .before .before .before .before .before .before .before .before .before .before .before .before .before .before
+          .before .before .before .before .before .before .before .before .before .pre .3)
           (pass-within v e q h),
       v .order,
       pass-inside v e q h,
@@ -324,9 +309,9 @@ other-step-requires c κs =
 after-requires-2 : tie.Need-after-requires-2 Inv-loop μ-loop
 after-requires-2 c κs =
     pass-deep (c .before .before .before .before .before .before .before .before .before .before .before .before .before .before
-    .before .before .before .before .before .before .before .loop .inv) (c .before .before .before .before .before .before
+    .before .before .before .before .loop .inv) (c .before .before .before .before .before .before .before .before .before
     .before .before .before .before .before .before .before .before .before .before .before .before .before .before .before
-    .before .before .before .before .before .before .before .before .before .before .pre .1)
+    .before .before .before .before .pre .1)
 
 end-of-requires : tie.Need-end-of-requires Inv-loop μ-loop
 end-of-requires c κs = search needs
@@ -334,25 +319,25 @@ end-of-requires c κs = search needs
 loop-less-2 : tie.Need-loop-less-2 Inv-loop μ-loop
 loop-less-2 c =
     pass-less (c .before .before .before .before .before .before .before .before .before .before .before .before .before .before
-    .before .before .before .before .before .before .before .before .before .loop .inv) (c .before .before .before .before
-    .before .before .before .before .before .before .before .before .before .before .before .before .before .before .before
-    .before .next-item .ensures) (c .before .before .before .before .before .before .before .before .before .before
-    .before .before .before .before .before .before .before .place .ensures) (c .before .before .before .before
-    .before .before .before .before .before .before .before .before .before .before .before .enum-told2 .given
+    .before .before .before .before .before .before .loop .inv) (c .before .before .before .before .before .before .before
+    .before .before .before .before .before .before .before .before .before .before .next-item .ensures .0)
+    (c .before .before .before .before .before .before .before .before .before .before .before .before .before .before .before
+    .before .before .next-item .ensures .1) (c .before .before .before .before .before .before .before .before .before .before
+    .before .before .before .before .before .enum-told2 .given
     .1) (c .end-of .ensures)
 
 loop-again-2 : tie.Need-loop-again-2 Inv-loop μ-loop
 loop-again-2 c =
     let k = c .before .before .before .before .before .before .before .before .before .before .before .before .keep .ensures in
     pass-other (c .before .before .before .before .before .before .before .before .before .before .before .before .before .before
-    .before .before .before .before .before .before .before .before .before .loop .inv) (c .before .before .before .before
-    .before .before .before .before .before .before .before .before .before .before .before .before .before .before .before
-    .before .next-item .ensures) (c .before .before .before .before .before .before .before .before .before .before
-    .before .before .before .before .before .before .before .place .ensures) (c .before .before .before .before
-    .before .before .before .before .before .before .before .before .before .before .before .enum-told2 .given
+    .before .before .before .before .before .before .loop .inv) (c .before .before .before .before .before .before .before
+    .before .before .before .before .before .before .before .before .before .before .next-item .ensures .0)
+    (c .before .before .before .before .before .before .before .before .before .before .before .before .before .before .before
+    .before .before .next-item .ensures .1) (c .before .before .before .before .before .before .before .before .before .before
+    .before .before .before .before .before .enum-told2 .given
     .1) (k .0) (k .1)
-    (c .before .before .before .before .before .before .before .before .before .before .before .match2 .keys2) (c .before .before
-    .before .before .before .before .other-step .ensures) (c .before .after2 .ensures) (c .end-of .ensures)
+    (c .before .before .before .before .before .before .before .before .before .before .before .match2 .keys2)
+    (c .before .before .before .before .before .before .other-step .ensures) (c .before .after2 .ensures) (c .end-of .ensures)
 
 pub pass-spec : {M : Type 1} → statement M
 pass-spec =
@@ -367,8 +352,7 @@ pass-spec =
     start-of-requires
     loop-holds
     next-item-requires
-    place-requires
-    enum-known-why
+    enum-known-placed
     same-length
     same-length-2
     returns
