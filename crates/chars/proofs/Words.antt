@@ -1,11 +1,13 @@
 -- The first byte of a class among the eight that a word has. In order: the first of a list; the first of eight bytes, by the mask of their
 -- word. Readers of names and of marks go by it.
 use mathlib.Core.Path.{_≡_, refl, sym, ap, _∙_}
-use mathlib.Core.Bool.{Bool, true, false, cond}
+use mathlib.Core.Bool.{Bool, true, false, cond, false≢true}
 use mathlib.Core.List.{List, [], _∷_}
 use Prim.Native.Nat.{ℕ, zero, suc, _+_, _≤_, _<_}
 use native.Mathlib.Nat.{not-suc-le-zero, le-of-suc-le-suc}
 use native.Mathlib.Omega.{arith}
+use borrow.Author.Tests.{ltb-true, ltb-false}
+use lib.Dec.{ltb}
 use lib.ListN.{length, getD, take, drop}
 use Rattle.blocks.specs.Block.{First}
 use Rattle.words.specs.Word.{numberOf, bytesOf, marksOf, before, isSet}
@@ -34,6 +36,21 @@ pub first-like : {p q : ℕ → Bool} {n r : ℕ} → ((k : ℕ) → k < n → p
 first-like h f =
     let w = f .within in
     record { within = w; passed = λ k l. sym (h k (omega arith)) ∙ f .passed k l; found = λ l. sym (h _ l) ∙ f .found l }
+
+-- there is one first place
+pub first-once : {p : ℕ → Bool} {n r r′ : ℕ} → First p n r → First p n r′ → r ≡ r′
+first-once {p} {n} {r} {r′} f g = let low = before-none f g in let high = before-none g f in omega arith
+  where
+    -- what is found is not before the first place
+    before-none : {a b : ℕ} → First p n a → First p n b → a ≤ b
+    before-none {a} {b} x y = go (ltb b a) refl
+      where
+        go : (c : Bool) → ltb b a ≡ c → a ≤ b
+        go true e =
+            let l = ltb-true b a e in
+            let w = x .within in
+            absurd (false≢true (sym (x .passed b l) ∙ y .found (omega arith)))
+        go false e = ltb-false b a e
 
 module _ (p : ℕ → Bool) (d : List ℕ) (i : ℕ) (known : (k : ℕ) → getD d k 0 < 256) (l : i + 8 ≤ length d) {w m : ℕ}
     (e : w ≡ numberOf (take 8 (drop i d))) (f : m ≡ marksOf p (bytesOf 8 w)) {r : ℕ} (g : r ≡ before isSet (bytesOf 8 m)) where

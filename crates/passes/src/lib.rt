@@ -44,7 +44,7 @@ use plain::text::text;
 use points::table::Classes;
 use quick::end::end_tag;
 use tags::Item;
-use tags::tag::tag;
+use tags::usual::next_tag;
 use tests::any;
 use tests::picked;
 
@@ -96,7 +96,7 @@ fn usual_tag(
     if doc[at + 1] < 0x40 {
         return Item::Nothing;
     }
-    let next = tag(table, doc, at);
+    let next = next_tag(table, doc, at);
     if let Item::Start {
         name: _,
         head: _,

@@ -21,7 +21,7 @@ fn is_mark(b: u8, q: u8) -> bool
 }
 
 // How many of the 16 bytes from i on stand before the first mark. Both words are looked at before either is asked.
-fn before16(s: &[u8], i: usize, q: u8) -> usize
+pub fn before16(s: &[u8], i: usize, q: u8) -> usize
     requires { ⌜ (i + 16 ≤ length (now s)) × (q < 0x80) ⌝ }
     ensures { λ r. ⌜ First (λ k. isMark q (getD (now (s .entry)) (i + k) 0)) 16 r ⌝ }
 {

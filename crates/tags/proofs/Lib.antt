@@ -4,4 +4,5 @@ pub mod Named
 pub mod Kept
 pub mod Gathers
 pub mod Tagging
+pub mod Usuals
 pub mod OneAnswer

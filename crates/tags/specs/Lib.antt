@@ -2,3 +2,4 @@
 -- which the contracts of private functions cite.
 pub mod Tag
 pub mod Kept
+pub mod Usual

@@ -52,7 +52,7 @@ fn seen(
 }
 
 // The name of n bytes at a is kept, where there is room for it; whether it was there before.
-fn note(
+pub fn note(
     doc: &[u8],
     starts: &mut [usize; Item::ATTRIBUTES],
     lens: &mut [usize; Item::ATTRIBUTES],

@@ -5,6 +5,7 @@ pub mod names; // names compared
 mod gather; // the attributes of a tag
 pub mod finish; // end tags
 pub mod tag; // start tags and empty tags
+pub mod usual; // the same, as they mostly stand
 
 // What stands at a place. A sound item with the place of its end; a reference also with the code point that it says; a tag also with the
 // length of its name, which begins after `<` or `</`; a start or empty tag also with the place of its final `>` or `/>`, and whether an

@@ -49,8 +49,8 @@ shared-slice-read-if4 c = search usual-tags
 returns-4 : tie.Need-returns-4
 returns-4 c = search usual-tags
 
-tag-requires : tie.Need-tag-requires
-tag-requires c κs = search usual-tags
+next-tag-requires : tie.Need-next-tag-requires
+next-tag-requires c κs = search usual-tags
 
 enum-known-next : tie.Need-enum-known-next
 enum-known-next c = search usual-tags
@@ -60,7 +60,7 @@ returns-5 c =
     let p = c .before .before .before .before .before .before .before .before .before .before .before .before .before .before .pre in
     usual-start (p .1) (p .4) _ (p .5) (p .6) (c .before .before .before .before .before .before .before .if3 .left)
     (c .before .before .before .before .before .before .before .before .if2 .left)
-    (c .before .before .before .before .before .if4 .left) (c .before .before .before .before .tag .ensures)
+    (c .before .before .before .before .before .if4 .left) (c .before .before .before .before .next-tag .ensures)
     (c .before .before .next .given .1) (c .if5 .taken)
 
 returns-6 : tie.Need-returns-6
@@ -88,7 +88,7 @@ usual-tag-spec =
     add-if4
     shared-slice-read-if4
     returns-4
-    tag-requires
+    next-tag-requires
     enum-known-next
     returns-5
     returns-6
