@@ -1,6 +1,7 @@
--- Laws by part of the crate: masks, blocks, plain bytes;
+-- Laws by part of the crate: masks, blocks, plain bytes, usual characters;
 -- one answer.
 pub mod Mask
 pub mod Until
 pub mod Plain
+pub mod Owed
 pub mod OneAnswer

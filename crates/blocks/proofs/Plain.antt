@@ -1,16 +1,19 @@
 -- Plain bytes: the code's test of a byte is that of `isOther`; a byte that is not other is an ASCII Char, and an other one below 0x80 is
--- no Char.
-use mathlib.Core.Path.{_≡_, refl}
-use mathlib.Core.Bool.{Bool, true, false, not, _&&_, _||_}
+-- no Char. A run of Chars passes plain bytes.
+use mathlib.Core.Path.{_≡_, refl, sym, _∙_}
+use mathlib.Core.Bool.{Bool, true, false, cond, not, _&&_, _||_}
+use mathlib.Core.List.{List, [], _∷_}
 use Prim.Native.Nat.{ℕ, _<_}
 use native.Mathlib.Omega.{arith}
 use borrow.Author.Needs.{needs}
 use borrow.Author.Tests.{ltb-true, ltb-false, lt-ltb, le-leb, lt-leb, ne-eqb, not-true, not-false}
 use lib.Dec.{eqb, leb, ltb}
+use Rattle.xml.specs.Character.{run}
 use Rattle.xml.specs.Productions.{isChar}
 use Rattle.xml.proofs.Bools.{and-left, and-right}
-use Rattle.blocks.specs.Block.{isOther}
 use Rattle.xml.proofs.Borders.{char-control, char-basic}
+use Rattle.xml.proofs.Run.{run-low}
+use Rattle.blocks.specs.Block.{until, isOther}
 
 module _ (b : ℕ) where
   pub other-test : (ltb b 0x20 || leb 0x80 b) && not ((eqb b 0x9 || eqb b 0xA) || eqb b 0xD) ≡ isOther b
@@ -39,5 +42,16 @@ module _ (b : ℕ) where
   pub other-low : isOther b ≡ true → b < 0x80 → isChar b ≡ false
   unfolding isOther
   other-low e l = rw (lt-ltb b 0x80 l) at (not-true (ltb b 0x80 && isChar b) e)
+
+-- a run passes plain bytes
+pub plain-run : (s : List ℕ) → run isChar 0 (until isOther s) ≡ run isChar 0 s
+unfolding until
+plain-run [] = refl
+plain-run (b ∷ s) = go (isOther b) refl (plain-run s)
+  where
+    go : (x : Bool) → isOther b ≡ x → run isChar 0 (until isOther s) ≡ run isChar 0 s
+        → run isChar 0 (cond x (b ∷ s) (until isOther s)) ≡ run isChar 0 (b ∷ s)
+    go true e rec = refl
+    go false e rec = let (l, c) = other-plain b e in rec ∙ sym (run-low isChar b s l ∙ rw c)
 
 pub ruleset plain = (other-test, needs)

@@ -29,7 +29,7 @@ unfolding until
 until-end p d i h = rw (drop-end d i h)
 
 -- where the test holds at no place, it holds at none of them
-some-none : (p : ℕ → Bool) (n : ℕ) → someOf p n ≡ false → (k : ℕ) → k < n → p k ≡ false
+pub some-none : (p : ℕ → Bool) (n : ℕ) → someOf p n ≡ false → (k : ℕ) → k < n → p k ≡ false
 unfolding someOf
 some-none p zero e k h = absurd (not-suc-le-zero h)
 some-none p (suc n) e k h = go (someOf p n) (p n) refl e (eqb k n) refl (some-none p n)

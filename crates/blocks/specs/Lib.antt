@@ -1,3 +1,4 @@
 -- Definitions:
--- bytes passed in blocks.
+-- bytes passed in blocks; usual characters, by their bytes.
 pub mod Block
+pub mod Usual

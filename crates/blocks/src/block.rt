@@ -17,7 +17,7 @@ fn is_other(b: u8) -> bool
 }
 
 // Whether one of the 64 bytes from i on is not plain.
-fn some_other64(s: &[u8], i: usize) -> bool
+pub fn some_other64(s: &[u8], i: usize) -> bool
     requires { ⌜ i + 64 ≤ length (now s) ⌝ }
     ensures { λ r. ⌜ r ≡ someOf (λ k. isOther (getD (now (s .entry)) (i + k) 0)) 64 ⌝ }
 {

@@ -24,20 +24,10 @@ use Rattle.utf8.specs.declared.Sequence.{Sequence}
 use Rattle.utf8.specs.declared.Sequence.the-variants.{Point, Bad}
 use Rattle.chars.specs.declared.whole.Checked.the-variants.{All, BadAt}
 use Rattle.utf8.proofs.Place.{drop-step, drop-end}
-use Rattle.blocks.proofs.Plain.{other-plain, other-low}
+use Rattle.blocks.proofs.Plain.{other-low, plain-run}
 use Rattle.chars.proofs.Runs.{point-starts, bad-starts, point-wide, Running, run-start, run-stands, run-whole, run-less, run-on}
 
 -- ---- plain bytes
-
-plain-run : (s : List ℕ) → run isChar 0 (until isOther s) ≡ run isChar 0 s
-unfolding until
-plain-run [] = refl
-plain-run (b ∷ s) = go (isOther b) refl (plain-run s)
-  where
-    go : (x : Bool) → isOther b ≡ x → run isChar 0 (until isOther s) ≡ run isChar 0 s
-        → run isChar 0 (cond x (b ∷ s) (until isOther s)) ≡ run isChar 0 (b ∷ s)
-    go true e rec = refl
-    go false e rec = let (l, c) = other-plain b e in rec ∙ sym (run-low isChar b s l ∙ rw c)
 
 until-length : (p : ℕ → Bool) (s : List ℕ) → length (until p s) ≤ length s
 unfolding until

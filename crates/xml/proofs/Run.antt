@@ -62,7 +62,7 @@ drop-wide a s = go (wide (character (a ∷ s))) (wide-long (character (a ∷ s))
     go zero h = absurd (omega arith)
     go (suc n) h = refl
 
-run-skip : (p : ℕ → Bool) (k : ℕ) (s : List ℕ) → run p k s ≡ run p 0 (drop k s)
+pub run-skip : (p : ℕ → Bool) (k : ℕ) (s : List ℕ) → run p k s ≡ run p 0 (drop k s)
 unfolding run
 run-skip p zero [] = refl
 run-skip p (suc k) [] = refl

@@ -149,14 +149,14 @@ no-bytes (b ∷ w) e = absurd (let z : suc (length w) ≡ 0 = e in omega arith)
 
 -- ---- from the bytes to the code point
 
-encode-two : (a b g : ℕ) → g + 0x3080 ≡ a * 0x40 + b → 0xC2 ≤ a → a ≤ 0xDF → 0x80 ≤ b → b ≤ 0xBF → utf8 g ≡ a ∷ b ∷ []
+pub encode-two : (a b g : ℕ) → g + 0x3080 ≡ a * 0x40 + b → 0xC2 ≤ a → a ≤ 0xDF → 0x80 ≤ b → b ≤ 0xBF → utf8 g ≡ a ∷ b ∷ []
 unfolding utf8
 encode-two a b g e h₁ h₂ h₃ h₄ =
     let e₀ : 0xC0 + g / 0x40 ≡ a = omega arith in
     let e₁ : 0x80 + g % 0x40 ≡ b = omega arith in
     rw (le-ltb g 0x80 (omega arith), lt-ltb g 0x800 (omega arith), e₀, e₁)
 
-encode-three : (a b c g : ℕ) → g + 0xE2080 ≡ a * 0x1000 + b * 0x40 + c → a ≤ 0xEF → 0x80 ≤ b → b ≤ 0xBF → 0x80 ≤ c → c ≤ 0xBF
+pub encode-three : (a b c g : ℕ) → g + 0xE2080 ≡ a * 0x1000 + b * 0x40 + c → a ≤ 0xEF → 0x80 ≤ b → b ≤ 0xBF → 0x80 ≤ c → c ≤ 0xBF
     → 0x800 ≤ g → utf8 g ≡ a ∷ b ∷ c ∷ []
 unfolding utf8
 encode-three a b c g e h₁ h₂ h₃ h₄ h₅ n =
@@ -165,7 +165,7 @@ encode-three a b c g e h₁ h₂ h₃ h₄ h₅ n =
     let e₂ : 0x80 + g % 0x40 ≡ c = omega arith in
     rw (le-ltb g 0x80 (omega arith), le-ltb g 0x800 n, lt-ltb g 0x10000 (omega arith), e₀, e₁, e₂)
 
-encode-four : (a b c d g : ℕ) → g + 0x3C82080 ≡ a * 0x40000 + b * 0x1000 + c * 0x40 + d → 0x80 ≤ b → b ≤ 0xBF → 0x80 ≤ c → c ≤ 0xBF
+pub encode-four : (a b c d g : ℕ) → g + 0x3C82080 ≡ a * 0x40000 + b * 0x1000 + c * 0x40 + d → 0x80 ≤ b → b ≤ 0xBF → 0x80 ≤ c → c ≤ 0xBF
     → 0x80 ≤ d → d ≤ 0xBF → 0x10000 ≤ g → utf8 g ≡ a ∷ b ∷ c ∷ d ∷ []
 unfolding utf8
 encode-four a b c d g e h₁ h₂ h₃ h₄ h₅ h₆ n =
