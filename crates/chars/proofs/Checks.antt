@@ -18,13 +18,15 @@ use Rattle.xml.proofs.Character.{character-high}
 use Rattle.xml.proofs.Run.{starts-low, reads-starts, reads-rest, run-low, run-step, run-stop, run-stops, run-holds, run-length}
 use Rattle.utf8.specs.Place.{Stands}
 use Rattle.blocks.specs.Block.{until, isOther}
-use Rattle.chars.specs.Check.{checkOf, isHigh}
+use Rattle.blocks.specs.Usual.{afterBlock}
+use Rattle.chars.specs.Check.{checkOf, isHigh, Passes}
 use Rattle.utf8.specs.Sequence.{sequenceAt}
 use Rattle.utf8.specs.declared.Sequence.{Sequence}
 use Rattle.utf8.specs.declared.Sequence.the-variants.{Point, Bad}
 use Rattle.chars.specs.declared.whole.Checked.the-variants.{All, BadAt}
 use Rattle.utf8.proofs.Place.{drop-step, drop-end}
 use Rattle.blocks.proofs.Plain.{other-low, plain-run}
+use Rattle.blocks.proofs.Owed.{block-passed}
 use Rattle.chars.proofs.Runs.{point-starts, bad-starts, point-wide, Running, run-start, run-stands, run-whole, run-less, run-on}
 
 -- ---- plain bytes
@@ -102,29 +104,49 @@ high-over v l h = let b = v .bound in run-whole v h (omega arith)
 
 pub ruleset highing = (run-start, high-ascii, high-bad, high-none, high-less, high-on, high-over, needs)
 
+-- ---- `after_blocks`
+
+pub pass-start : {d : List ℕ} {from : ℕ} → from ≤ length d → Passes d from from
+pass-start h = record { ahead = omega arith; inside = h; same = refl }
+
+module _ {d : List ℕ} {from i : ℕ} (v : Passes d from i) where
+  pub pass-on : {e : ℕ} → Passes d i e → Passes d from e
+  pass-on {e} w =
+      let a : from ≤ i = v .ahead in
+      let b : i ≤ e = w .ahead in
+      record { ahead = omega arith; inside = w .inside; same = w .same ∙ v .same }
+
+  module _ (h : 67 ≤ length d - i) {e : ℕ} (q : e ≡ afterBlock d i) where
+    block-pass : Passes d i e
+    block-pass =
+        let (a, b, s) = block-passed d i (omega arith) in
+        rw q (record { ahead = a; inside = b; same = s })
+
+    pub block-on : Passes d from e
+    block-on = pass-on block-pass
+
+    pub block-less : (e ≡ i → ⊥) → length d - e < length d - i
+    block-less n = omega (arith, n, block-pass .ahead, block-pass .inside)
+
+pub ruleset passing = (pass-start, block-on, block-less, needs)
+
 -- ---- `check`
 
-pub record Checking (d : List ℕ) (i : ℕ) : Type 0 where
-  pub in-d : i ≤ length d
-  pub same : run isChar 0 (drop i d) ≡ run isChar 0 d
-
-pub check-start : {d : List ℕ} → Checking d 0
-check-start = record { in-d = omega arith; same = refl }
-
-module _ {d : List ℕ} {i j : ℕ} (v : Checking d i) (s : Stands d j (until isOther (drop i d))) where
-  plain-on : Checking d j
-  plain-on = record { in-d = s .inside; same = ap (run isChar 0) (s .rest) ∙ plain-run (drop i d) ∙ v .same }
+module _ {d : List ℕ} {i k j : ℕ} (v : Passes d 0 i) (w : Passes d i k) (s : Stands d j (until isOther (drop k d))) where
+  plain-same : run isChar 0 (drop j d) ≡ run isChar 0 d
+  plain-same = ap (run isChar 0) (s .rest) ∙ plain-run (drop k d) ∙ w .same ∙ v .same
 
   plain-after : i ≤ j
   plain-after =
-      let a : i ≤ length d = v .in-d in
+      let a : k ≤ length d = w .inside in
       let b : j ≤ length d = s .inside in
-      let n : length (drop j d) ≡ length (until isOther (drop i d)) = ap length (s .rest) in
-      omega (arith, until-length isOther (drop i d), length-drop i d, length-drop j d)
+      let c : i ≤ k = w .ahead in
+      let n : length (drop j d) ≡ length (until isOther (drop k d)) = ap length (s .rest) in
+      omega (arith, until-length isOther (drop k d), length-drop k d, length-drop j d)
 
   pub check-all : length d ≤ j → All ≡ checkOf d
   unfolding checkOf run
-  check-all h = sym (rw (← plain-on .same, drop-end d j h))
+  check-all h = sym (rw (← plain-same, drop-end d j h))
 
   module _ {e : ℕ} (t : Stands d e (run isHigh 0 (drop j d))) where
     high-after : j ≤ e
@@ -134,11 +156,12 @@ module _ {d : List ℕ} {i j : ℕ} (v : Checking d i) (s : Stands d j (until is
         let n : length (drop e d) ≡ length (run isHigh 0 (drop j d)) = ap length (t .rest) in
         omega (arith, run-length isHigh (drop j d), length-drop j d, length-drop e d)
 
-    pub check-on : Checking d e
+    pub check-on : Passes d 0 e
     check-on =
         record {
-          in-d = t .inside;
-          same = ap (run isChar 0) (t .rest) ∙ run-within isHigh isChar high-char (drop j d) ∙ plain-on .same;
+          ahead = omega arith;
+          inside = t .inside;
+          same = ap (run isChar 0) (t .rest) ∙ run-within isHigh isChar high-char (drop j d) ∙ plain-same;
         }
 
     pub check-less : (e ≡ j → ⊥) → length d - e < length d - i
@@ -150,7 +173,7 @@ module _ {d : List ℕ} {i j : ℕ} (v : Checking d i) (s : Stands d j (until is
       nothing-starts = go (ltb (getD d j 0) 0x80) refl
         where
           other : isOther (getD d j 0) ≡ true
-          other = until-stops isOther (drop i d) (sym (s .rest) ∙ drop-step d j h)
+          other = until-stops isOther (drop k d) (sym (s .rest) ∙ drop-step d j h)
 
           go : (x : Bool) → ltb (getD d j 0) 0x80 ≡ x → starts isChar (drop j d) ≡ false
           go true k =
@@ -165,8 +188,8 @@ module _ {d : List ℕ} {i j : ℕ} (v : Checking d i) (s : Stands d j (until is
       pub check-bad : BadAt e ≡ checkOf d
       unfolding checkOf
       check-bad =
-          let r : run isChar 0 d ≡ drop j d = sym (plain-on .same) ∙ run-stop isChar (drop j d) nothing-starts in
+          let r : run isChar 0 d ≡ drop j d = sym (plain-same) ∙ run-stop isChar (drop j d) nothing-starts in
           let n : e ≡ length d - length (getD d j 0 ∷ drop (j + 1) d) = omega (arith, length-drop (j + 1) d) in
           sym (rw (r, drop-step d j h, ← n))
 
-pub ruleset checking = (check-start, check-all, check-on, check-less, check-bad, needs)
+pub ruleset checking = (pass-start, check-all, check-on, check-less, check-bad, needs)

@@ -1,12 +1,13 @@
-// The whole document's characters: plain bytes are passed in blocks, and the characters that are not ASCII one by one, in turn, until the
-// end or the first sequence that is no character.
+// The whole document's characters: blocks that are plain or usual are passed at once. In any other block, and at the end, plain bytes are
+// passed, and the characters that are not ASCII one by one, in turn, until the end or the first sequence that is no character.
 ghost use mathlib.Core.Path.{_≡_};
 ghost use Prim.Native.Nat.{_≤_};
 ghost use lib.ListN.{length, drop};
 ghost use Rattle.xml.specs.Character.{run};
 ghost use Rattle.utf8.specs.Place.{Stands};
-ghost use Rattle.chars.specs.Check.{checkOf, isHigh};
+ghost use Rattle.chars.specs.Check.{checkOf, isHigh, Passes};
 use blocks::block::after_plain;
+use blocks::usual::after_block;
 use points::allowed::is_char;
 use utf8::Sequence;
 use utf8::sequence_at;
@@ -15,6 +16,22 @@ use utf8::sequence_at;
 pub enum Checked {
     All,
     BadAt(usize),
+}
+
+// A place up to which there are characters alone: past all blocks from `from` on that are plain or usual, in turn.
+fn after_blocks(s: &[u8], from: usize) -> usize
+    requires { ⌜ from ≤ length (now s) ⌝ }
+    ensures { λ r. ⌜ Passes (now (s .entry)) from r ⌝ }
+{
+    let mut i = from;
+    while s.len() - i >= 67 {
+        let e = after_block(s, i);
+        if e == i {
+            return i;
+        }
+        i = e;
+    }
+    i
 }
 
 // Where the characters from at on end that are not ASCII: at itself where there is none.
@@ -48,7 +65,8 @@ pub fn check(s: &[u8]) -> Checked
 {
     let mut i: usize = 0;
     loop {
-        let j = after_plain(s, i);
+        let k = after_blocks(s, i);
+        let j = after_plain(s, k);
         if s.len() <= j {
             return Checked::All;
         }

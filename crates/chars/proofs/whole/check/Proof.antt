@@ -1,19 +1,23 @@
--- `check` meets its contract. The loop's invariant: the Chars at the front of what is left from i on leave what those of the whole leave.
+-- `check` meets its contract. The loop's invariant: up to i there are Chars alone.
 -- The measure is what is left of the slice.
 use Prim.Native.Nat.{_-_}
 use lib.ListN.{length}
-use Rattle.chars.proofs.Checks.{checking, Checking}
+use Rattle.chars.specs.Check.{Passes}
+use Rattle.chars.proofs.Checks.{checking}
 use Rattle.chars.proofs.whole.check.Statement.{statement}
 use Rattle.chars.proofs.whole.check.Tie as tie
 
 abbrev Inv-loop : tie.InvT-loop
-Inv-loop s i₀ i = Checking s i
+Inv-loop s i₀ i = Passes s 0 i
 
 abbrev μ-loop : tie.MeasureT-loop
 μ-loop s i₀ i = length s - i
 
 loop-holds : tie.Need-loop-holds Inv-loop μ-loop
 loop-holds c = search checking
+
+after-blocks-requires : tie.Need-after-blocks-requires Inv-loop μ-loop
+after-blocks-requires c κs = search checking
 
 after-plain-requires : tie.Need-after-plain-requires Inv-loop μ-loop
 after-plain-requires c κs = search checking
@@ -40,6 +44,7 @@ check-spec =
     Inv-loop
     μ-loop
     loop-holds
+    after-blocks-requires
     after-plain-requires
     returns
     after-high-requires
