@@ -1,6 +1,5 @@
--- Laws by part of the crate: masks, blocks, plain bytes, usual characters;
+-- Laws by part of the crate: bytes of a class, plain bytes, usual characters;
 -- one answer.
-pub mod Mask
 pub mod Until
 pub mod Plain
 pub mod Owed

@@ -1,12 +1,12 @@
--- Plain bytes: the code's test of a byte is that of `isOther`; a byte that is not other is an ASCII Char, and an other one below 0x80 is
--- no Char. A run of Chars passes plain bytes.
+-- Plain bytes: the code's test of a byte is that of `isOther`; a byte that is not other is an ASCII Char. Last, a run of Chars passes plain
+-- bytes.
 use mathlib.Core.Path.{_≡_, refl, sym, _∙_}
 use mathlib.Core.Bool.{Bool, true, false, cond, not, _&&_, _||_}
 use mathlib.Core.List.{List, [], _∷_}
 use Prim.Native.Nat.{ℕ, _<_}
 use native.Mathlib.Omega.{arith}
 use borrow.Author.Needs.{needs}
-use borrow.Author.Tests.{ltb-true, ltb-false, lt-ltb, le-leb, lt-leb, ne-eqb, not-true, not-false}
+use borrow.Author.Tests.{ltb-true, ltb-false, lt-ltb, le-leb, lt-leb, ne-eqb, not-false}
 use lib.Dec.{eqb, leb, ltb}
 use Rattle.xml.specs.Character.{run}
 use Rattle.xml.specs.Productions.{isChar}
@@ -38,10 +38,6 @@ module _ (b : ℕ) where
   other-plain e =
       let h = not-false (ltb b 0x80 && isChar b) e in
       (ltb-true b 0x80 (and-left (ltb b 0x80) _ h), and-right (ltb b 0x80) _ h)
-
-  pub other-low : isOther b ≡ true → b < 0x80 → isChar b ≡ false
-  unfolding isOther
-  other-low e l = rw (lt-ltb b 0x80 l) at (not-true (ltb b 0x80 && isChar b) e)
 
 -- a run passes plain bytes
 pub plain-run : (s : List ℕ) → run isChar 0 (until isOther s) ≡ run isChar 0 s

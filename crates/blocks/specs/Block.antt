@@ -1,10 +1,9 @@
--- Bytes passed in blocks: what is left from the first byte of a class on; whether a class has one of n places, the mask of the places, and
--- the first of them; and what a plain byte is not.
+-- Bytes passed in blocks: what is left from the first byte of a class on; whether a class has one of n places, and the first of them; and
+-- what a plain byte is not.
 use mathlib.Core.Path.{_≡_}
 use mathlib.Core.Bool.{Bool, true, false, cond, not, _&&_, _||_}
 use mathlib.Core.List.{List, [], _∷_}
-use Prim.Native.Nat.{ℕ, zero, suc, _+_, _*_, _^_, _≤_, _<_}
-use mir.Val.{boolByte}
+use Prim.Native.Nat.{ℕ, zero, suc, _≤_, _<_}
 use lib.Dec.{ltb}
 use lib.ListN.{length, drop}
 use Rattle.xml.specs.Productions.{isChar}
@@ -24,11 +23,6 @@ pub record Skips (p : ℕ → Bool) (d : List ℕ) (from i : ℕ) : Type 0 where
 unfoldable pub someOf : (ℕ → Bool) → ℕ → Bool
 someOf p zero = false
 someOf p (suc n) = someOf p n || p n
-
--- bit k + 1 is set where the test holds at k, for k below n
-unfoldable pub maskOf : (ℕ → Bool) → ℕ → ℕ
-maskOf p zero = 0
-maskOf p (suc n) = maskOf p n + boolByte (p n) * 2 ^ suc n
 
 -- t is the first of n places at which the test holds, or n
 pub record First (p : ℕ → Bool) (n t : ℕ) : Type 0 where

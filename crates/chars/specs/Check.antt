@@ -1,10 +1,8 @@
 -- The whole document's characters: all of them are Char of [2], or the first sequence that is none begins at a place. specs/Meaning.antt
 -- says what each answer says.
 use mathlib.Core.Path.{_≡_}
-use mathlib.Core.Bool.{Bool, _&&_}
 use mathlib.Core.List.{List, [], _∷_}
 use Prim.Native.Nat.{ℕ, _-_, _≤_}
-use lib.Dec.{leb}
 use lib.ListN.{length, drop}
 use Rattle.xml.specs.Character.{run}
 use Rattle.xml.specs.Productions.{isChar}
@@ -24,7 +22,3 @@ pub record Passes (d : List ℕ) (from i : ℕ) : Type 0 where
   pub ahead : from ≤ i
   pub inside : i ≤ length d
   pub same : run isChar 0 (drop i d) ≡ run isChar 0 (drop from d)
-
--- the Chars that are not ASCII
-unfoldable pub isHigh : ℕ → Bool
-isHigh c = leb 0x80 c && isChar c

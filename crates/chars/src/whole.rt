@@ -1,13 +1,14 @@
-// The whole document's characters: blocks that are plain or usual are passed at once. In any other block, and at the end, plain bytes are
-// passed, and the characters that are not ASCII one by one, in turn, until the end or the first sequence that is no character.
+// The whole document's characters: blocks that are plain or usual are passed at once. Where a block is neither, and at the end, characters
+// are read one by one, up to 64 bytes of them, until the end or the first sequence that is no character.
 ghost use mathlib.Core.Path.{_≡_};
-ghost use Prim.Native.Nat.{_≤_};
+ghost use mathlib.Core.Bool.{false};
+ghost use Prim.Native.Nat.{_≤_, _<_};
 ghost use lib.ListN.{length, drop};
-ghost use Rattle.xml.specs.Character.{run};
-ghost use Rattle.utf8.specs.Place.{Stands};
-ghost use Rattle.chars.specs.Check.{checkOf, isHigh, Passes};
-use blocks::block::after_plain;
-use blocks::usual::after_block;
+ghost use Rattle.xml.specs.Character.{starts};
+ghost use Rattle.xml.specs.Productions.{isChar};
+ghost use Rattle.chars.specs.Check.{checkOf, Passes};
+use blocks::block::after_block;
+use blocks::block::is_other;
 use points::allowed::is_char;
 use utf8::Sequence;
 use utf8::sequence_at;
@@ -34,26 +35,31 @@ fn after_blocks(s: &[u8], from: usize) -> usize
     i
 }
 
-// Where the characters from at on end that are not ASCII: at itself where there is none.
-fn after_high(s: &[u8], at: usize) -> usize
+// Where the characters from at on end, read one by one: where no character begins, or at the first place from a bound on.
+fn after_chars(s: &[u8], at: usize, bound: usize) -> usize
     requires { ⌜ at ≤ length (now s) ⌝ }
-    ensures { λ r. ⌜ Stands (now (s .entry)) r (run isHigh 0 (drop at (now (s .entry)))) ⌝ }
+    ensures { λ r. ⌜ Passes (now (s .entry)) at r ⌝ }
+    ensures { λ r. ⌜ (r < bound → starts isChar (drop r (now (s .entry))) ≡ false) ⌝ }
 {
     let mut i = at;
-    while i < s.len() {
-        if s[i] < 0x80 {
+    while i < bound {
+        if s.len() <= i {
             return i;
         }
-        match sequence_at(s, i) {
-            Sequence::Point(c, e) => {
-                if !is_char(c) {
+        if is_other(s[i]) {
+            match sequence_at(s, i) {
+                Sequence::Point(c, e) => {
+                    if !is_char(c) {
+                        return i;
+                    }
+                    i = e;
+                }
+                Sequence::Bad => {
                     return i;
                 }
-                i = e;
             }
-            Sequence::Bad => {
-                return i;
-            }
+        } else {
+            i += 1;
         }
     }
     i
@@ -66,12 +72,12 @@ pub fn check(s: &[u8]) -> Checked
     let mut i: usize = 0;
     loop {
         let k = after_blocks(s, i);
-        let j = after_plain(s, k);
-        if s.len() <= j {
+        let bound = k + 64;
+        i = after_chars(s, k, bound);
+        if s.len() <= i {
             return Checked::All;
         }
-        i = after_high(s, j);
-        if i == j {
+        if i < bound {
             return Checked::BadAt(i);
         }
     }

@@ -3,7 +3,7 @@
 use Prim.Native.Nat.{_-_}
 use lib.ListN.{length}
 use Rattle.chars.specs.Check.{Passes}
-use Rattle.chars.proofs.Checks.{checking}
+use Rattle.chars.proofs.Checks.{checking, check-bad}
 use Rattle.chars.proofs.whole.check.Statement.{statement}
 use Rattle.chars.proofs.whole.check.Tie as tie
 
@@ -19,17 +19,21 @@ loop-holds c = search checking
 after-blocks-requires : tie.Need-after-blocks-requires Inv-loop μ-loop
 after-blocks-requires c κs = search checking
 
-after-plain-requires : tie.Need-after-plain-requires Inv-loop μ-loop
-after-plain-requires c κs = search checking
+add-bound : tie.Need-add-bound Inv-loop μ-loop
+add-bound c = search checking
+
+after-chars-requires : tie.Need-after-chars-requires Inv-loop μ-loop
+after-chars-requires c κs = search checking
 
 returns : tie.Need-returns Inv-loop μ-loop
 returns c = search checking
 
-after-high-requires : tie.Need-after-high-requires Inv-loop μ-loop
-after-high-requires c κs = search checking
-
 returns-2 : tie.Need-returns-2 Inv-loop μ-loop
-returns-2 c = search checking
+returns-2 c =
+    let read = c .before .before in
+    let found = read .after-chars .ensures in
+    check-bad (read .before .before .loop .inv) (read .before .after-blocks .ensures) (found .0) (c .before .if1 .left)
+    (found .1 (c .if2 .taken))
 
 loop-less : tie.Need-loop-less Inv-loop μ-loop
 loop-less c = search checking
@@ -45,9 +49,9 @@ check-spec =
     μ-loop
     loop-holds
     after-blocks-requires
-    after-plain-requires
+    add-bound
+    after-chars-requires
     returns
-    after-high-requires
     returns-2
     loop-less
     loop-again)

@@ -2,8 +2,8 @@
 -- proofs/Owed.antt has them.
 use borrow.Author.Needs.{needs}
 use Rattle.blocks.proofs.Owed.{block-plain, block-cut, block-odd, block-usual}
-use Rattle.blocks.proofs.usual.after_block.Statement.{statement}
-use Rattle.blocks.proofs.usual.after_block.Tie as tie
+use Rattle.blocks.proofs.block.after_block.Statement.{statement}
+use Rattle.blocks.proofs.block.after_block.Tie as tie
 
 some-other64-requires : tie.Need-some-other64-requires
 some-other64-requires c κs = search needs

@@ -1,8 +1,8 @@
 -- `is_later` meets its contract: the test is the definition.
 use mathlib.Core.Path.{refl}
 use Rattle.blocks.specs.Usual.{isLater}
-use Rattle.blocks.proofs.usual.is_later.Statement.{statement}
-use Rattle.blocks.proofs.usual.is_later.Tie as tie
+use Rattle.blocks.proofs.block.is_later.Statement.{statement}
+use Rattle.blocks.proofs.block.is_later.Tie as tie
 
 returns : tie.Need-returns
 unfolding isLater

@@ -1,8 +1,8 @@
 -- `is_cut` meets its contract: the test is the definition, with what is answered of the three bytes.
 use borrow.Author.Needs.{needs}
 use Rattle.blocks.specs.Usual.{isCut, differ}
-use Rattle.blocks.proofs.usual.is_cut.Statement.{statement}
-use Rattle.blocks.proofs.usual.is_cut.Tie as tie
+use Rattle.blocks.proofs.block.is_cut.Statement.{statement}
+use Rattle.blocks.proofs.block.is_cut.Tie as tie
 
 is-later-requires : tie.Need-is-later-requires
 is-later-requires c κs = search needs

@@ -8,8 +8,8 @@ use borrow.Author.Needs.{needs}
 use Rattle.blocks.specs.Block.{someOf}
 use Rattle.blocks.specs.Usual.{oddAt}
 use Rattle.blocks.proofs.Until.{some-turn}
-use Rattle.blocks.proofs.usual.some_odd64.Statement.{statement}
-use Rattle.blocks.proofs.usual.some_odd64.Tie as tie
+use Rattle.blocks.proofs.block.some_odd64.Statement.{statement}
+use Rattle.blocks.proofs.block.some_odd64.Tie as tie
 
 abbrev Inv-loop : tie.InvT-loop
 Inv-loop s i found₀ j₀ found j = (j ≤ 64) × (found ≡ someOf (λ (k : ℕ). oddAt s (i + k)) j)

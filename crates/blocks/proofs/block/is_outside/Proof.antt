@@ -1,8 +1,8 @@
 -- `is_outside` meets its contract: the test is the definition.
 use mathlib.Core.Path.{refl}
 use Rattle.blocks.specs.Usual.{isOutside}
-use Rattle.blocks.proofs.usual.is_outside.Statement.{statement}
-use Rattle.blocks.proofs.usual.is_outside.Tie as tie
+use Rattle.blocks.proofs.block.is_outside.Statement.{statement}
+use Rattle.blocks.proofs.block.is_outside.Tie as tie
 
 returns : tie.Need-returns
 unfolding isOutside

@@ -1,8 +1,8 @@
 -- `is_odd` meets its contract: the test is the definition, with the answers of the three tests that it asks.
 use borrow.Author.Needs.{needs}
 use Rattle.blocks.specs.Usual.{isOdd, differ}
-use Rattle.blocks.proofs.usual.is_odd.Statement.{statement}
-use Rattle.blocks.proofs.usual.is_odd.Tie as tie
+use Rattle.blocks.proofs.block.is_odd.Statement.{statement}
+use Rattle.blocks.proofs.block.is_odd.Tie as tie
 
 is-never-requires : tie.Need-is-never-requires
 is-never-requires c κs = search needs

@@ -2,8 +2,8 @@
 -- proofs/Owed.antt has them.
 use borrow.Author.Needs.{needs}
 use Rattle.blocks.proofs.Owed.{later-none, later-one, later-two, later-three}
-use Rattle.blocks.proofs.usual.after_later.Statement.{statement}
-use Rattle.blocks.proofs.usual.after_later.Tie as tie
+use Rattle.blocks.proofs.block.after_later.Statement.{statement}
+use Rattle.blocks.proofs.block.after_later.Tie as tie
 
 shared-slice-read-is-later : tie.Need-shared-slice-read-is-later
 shared-slice-read-is-later c = search needs
