@@ -21,7 +21,7 @@ use Rattle.xml.proofs.Borders.{char-control, char-basic, char-private, char-hig
 use Rattle.xml.proofs.Utf8.{scalar-low, scalar-high, encode-two, encode-three, encode-four}
 use Rattle.xml.proofs.Character.{character-is}
 use Rattle.xml.proofs.Run.{run-low, run-skip}
-use Rattle.blocks.specs.Block.{someOf, isOther}
+use Rattle.blocks.specs.Block.{someOf, isOther, Passes}
 use Rattle.blocks.specs.Usual.{isLater, isNever, isOutside, differ, isOdd, oddAt, isCut, cutAt, afterLater, afterBlock}
 use Rattle.blocks.proofs.Until.{seek-start, seek-past, some-none}
 use Rattle.blocks.proofs.Plain.{plain-run}
@@ -348,17 +348,20 @@ module _ (d : List ℕ) (i : ℕ) where
   owed-drop : (n : ℕ) → OwedOn (drop i d) n ≡ Owed (getD d i 0) (getD d (i + 1) 0) (getD d (i + 2) 0) n
   owed-drop n = rw (first-drop, byte-drop 1, byte-drop 2)
 
--- from i up to e there are characters alone
-abbrev pub Passed : List ℕ → ℕ → ℕ → Type 0
-Passed d i e = (i ≤ e) × (e ≤ length d) × (run isChar 0 (drop e d) ≡ run isChar 0 (drop i d))
-
 module _ (d : List ℕ) (i : ℕ) (h : i + 67 ≤ length d) where
-  plain-passed : someOf (λ k. isOther (getD d (i + k) 0)) 64 ≡ false → Passed d i (i + 64)
+  none-passed : Passes d i i
+  none-passed = record { ahead = omega arith; inside = omega arith; same = refl }
+
+  plain-passed : someOf (λ k. isOther (getD d (i + k) 0)) 64 ≡ false → Passes d i (i + 64)
   plain-passed n =
       let v = seek-past (seek-start {p = isOther} {d = d} {from = i} (omega arith)) 64 (omega arith) refl n in
-      (omega arith, omega arith, sym (plain-run (drop (i + 64) d)) ∙ ap (run isChar 0) (v .same) ∙ plain-run (drop i d))
+      record {
+        ahead = omega arith;
+        inside = omega arith;
+        same = sym (plain-run (drop (i + 64) d)) ∙ ap (run isChar 0) (v .same) ∙ plain-run (drop i d);
+      }
 
-  usual-passed : cutAt d i ≡ false → someOf (λ k. oddAt d (i + k)) 64 ≡ false → Passed d i (afterLater d (i + 64))
+  usual-passed : cutAt d i ≡ false → someOf (λ k. oddAt d (i + k)) 64 ≡ false → Passes d i (afterLater d (i + 64))
   unfolding cutAt
   usual-passed c n =
       let l : 64 + 3 ≤ length (drop i d) = omega (arith, length-drop i d) in
@@ -366,7 +369,7 @@ module _ (d : List ℕ) (i : ℕ) (h : i + 67 ≤ length d) where
       let f = some-none (λ k. oddAt d (i + k)) 64 n in
       let (m, p, e) = places-on 64 (drop i d) 0 l o (λ j k. rw (drop-drop j i d, odd-drop d (i + j)) (f j k)) in
       let (q, b) = owed-after d (i + 64) m (rw (drop-drop 64 i d, owed-drop d (i + 64) m) at p) in
-      rw q (omega arith, omega arith, rest m e)
+      rw q (record { ahead = omega arith; inside = omega arith; same = rest m e })
     where
       rest : (m : ℕ) → run isChar m (drop 64 (drop i d)) ≡ run isChar 0 (drop i d)
           → run isChar 0 (drop (i + 64 + m) d) ≡ run isChar 0 (drop i d)
@@ -374,14 +377,14 @@ module _ (d : List ℕ) (i : ℕ) (h : i + 67 ≤ length d) where
           ap (run isChar 0) (sym (ap (drop m) (drop-drop 64 i d) ∙ drop-drop m (i + 64) d))
           ∙ sym (run-skip isChar m (drop 64 (drop i d))) ∙ e
 
-  pub block-passed : Passed d i (afterBlock d i)
+  pub block-passed : Passes d i (afterBlock d i)
   unfolding afterBlock
   block-passed =
       go (someOf (λ k. isOther (getD d (i + k) 0)) 64) (cutAt d i) (someOf (λ k. oddAt d (i + k)) 64) refl refl refl
     where
       go : (x y z : Bool) → someOf (λ k. isOther (getD d (i + k) 0)) 64 ≡ x → cutAt d i ≡ y → someOf (λ k. oddAt d (i + k)) 64 ≡ z
-          → Passed d i (cond x (cond y i (cond z i (afterLater d (i + 64)))) (i + 64))
+          → Passes d i (cond x (cond y i (cond z i (afterLater d (i + 64)))) (i + 64))
       go false y z p q r = plain-passed p
-      go true true z p q r = (omega arith, omega arith, refl)
-      go true false true p q r = (omega arith, omega arith, refl)
+      go true true z p q r = none-passed
+      go true false true p q r = none-passed
       go true false false p q r = usual-passed q r

@@ -1,11 +1,12 @@
--- Bytes passed in blocks: what is left from the first byte of a class on; whether a class has one of n places, and the first of them; and
--- what a plain byte is not.
+-- Bytes passed in blocks: what is left from the first byte of a class on; that none of a class is skipped, and that Chars alone are passed;
+-- whether a class has one of n places, and the first of them; and what a plain byte is not.
 use mathlib.Core.Path.{_≡_}
 use mathlib.Core.Bool.{Bool, true, false, cond, not, _&&_, _||_}
 use mathlib.Core.List.{List, [], _∷_}
 use Prim.Native.Nat.{ℕ, zero, suc, _≤_, _<_}
 use lib.Dec.{ltb}
 use lib.ListN.{length, drop}
+use Rattle.xml.specs.Character.{run}
 use Rattle.xml.specs.Productions.{isChar}
 
 -- s from its first byte of the class p on
@@ -18,6 +19,12 @@ pub record Skips (p : ℕ → Bool) (d : List ℕ) (from i : ℕ) : Type 0 where
   pub ahead : from ≤ i
   pub inside : i ≤ length d
   pub same : until p (drop i d) ≡ until p (drop from d)
+
+-- from `from` up to i there are Chars alone
+pub record Passes (d : List ℕ) (from i : ℕ) : Type 0 where
+  pub ahead : from ≤ i
+  pub inside : i ≤ length d
+  pub same : run isChar 0 (drop i d) ≡ run isChar 0 (drop from d)
 
 -- the test holds at one of the places below n
 unfoldable pub someOf : (ℕ → Bool) → ℕ → Bool

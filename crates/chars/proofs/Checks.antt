@@ -11,9 +11,9 @@ use lib.ListN.{length, getD, drop, length-drop}
 use Rattle.xml.specs.Character.{starts, run}
 use Rattle.xml.specs.Productions.{isChar}
 use Rattle.xml.proofs.Run.{starts-nil, run-low, run-stop}
-use Rattle.blocks.specs.Block.{isOther}
+use Rattle.blocks.specs.Block.{isOther, Passes}
 use Rattle.blocks.specs.Usual.{afterBlock}
-use Rattle.chars.specs.Check.{checkOf, Passes}
+use Rattle.chars.specs.Check.{checkOf}
 use Rattle.utf8.specs.Sequence.{sequenceAt}
 use Rattle.utf8.specs.declared.Sequence.{Sequence}
 use Rattle.utf8.specs.declared.Sequence.the-variants.{Point, Bad}
@@ -37,9 +37,7 @@ module _ {d : List ℕ} {from i : ℕ} (v : Passes d from i) where
 
   module _ (h : 67 ≤ length d - i) {e : ℕ} (q : e ≡ afterBlock d i) where
     block-pass : Passes d i e
-    block-pass =
-        let (a, b, s) = block-passed d i (omega arith) in
-        rw q (record { ahead = a; inside = b; same = s })
+    block-pass = rw q (block-passed d i (omega arith))
 
     pub block-on : Passes d from e
     block-on = pass-on block-pass

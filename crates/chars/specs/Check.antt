@@ -1,9 +1,8 @@
 -- The whole document's characters: all of them are Char of [2], or the first sequence that is none begins at a place. specs/Meaning.antt
 -- says what each answer says.
-use mathlib.Core.Path.{_≡_}
 use mathlib.Core.List.{List, [], _∷_}
-use Prim.Native.Nat.{ℕ, _-_, _≤_}
-use lib.ListN.{length, drop}
+use Prim.Native.Nat.{ℕ, _-_}
+use lib.ListN.{length}
 use Rattle.xml.specs.Character.{run}
 use Rattle.xml.specs.Productions.{isChar}
 use Rattle.chars.specs.declared.whole.Checked.{Checked}
@@ -16,9 +15,3 @@ checkedBy n (a ∷ t) = BadAt (n - length (a ∷ t))
 
 unfoldable pub checkOf : List ℕ → Checked
 checkOf d = checkedBy (length d) (run isChar 0 d)
-
--- from `from` up to i there are Chars alone
-pub record Passes (d : List ℕ) (from i : ℕ) : Type 0 where
-  pub ahead : from ≤ i
-  pub inside : i ≤ length d
-  pub same : run isChar 0 (drop i d) ≡ run isChar 0 (drop from d)

@@ -3,7 +3,7 @@
 use Prim.Native.Nat.{_-_}
 use native.Mathlib.Omega.{arith}
 use lib.ListN.{length}
-use Rattle.chars.specs.Check.{Passes}
+use Rattle.blocks.specs.Block.{Passes}
 use Rattle.chars.proofs.Checks.{reading}
 use Rattle.chars.proofs.whole.after_chars.Statement.{statement}
 use Rattle.chars.proofs.whole.after_chars.Tie as tie

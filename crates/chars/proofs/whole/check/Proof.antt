@@ -2,7 +2,7 @@
 -- The measure is what is left of the slice.
 use Prim.Native.Nat.{_-_}
 use lib.ListN.{length}
-use Rattle.chars.specs.Check.{Passes}
+use Rattle.blocks.specs.Block.{Passes}
 use Rattle.chars.proofs.Checks.{checking, check-bad}
 use Rattle.chars.proofs.whole.check.Statement.{statement}
 use Rattle.chars.proofs.whole.check.Tie as tie
