@@ -1,6 +1,6 @@
 -- The whole document's characters, as the code goes through them: blocks at once, then characters one by one, in turn. In order:
 -- `after_blocks`; `after_chars`; `check`.
-use mathlib.Core.Path.{_≡_, refl, sym, ap, _∙_}
+use mathlib.Core.Path.{_≡_, refl, sym, _∙_}
 use mathlib.Core.Bool.{Bool, true, false, not}
 use mathlib.Core.List.{List, _∷_}
 use Prim.Native.Nat.{ℕ, _+_, _-_, _≤_, _<_}
@@ -21,7 +21,7 @@ use Rattle.chars.specs.declared.whole.Checked.the-variants.{All, BadAt}
 use Rattle.utf8.proofs.Place.{drop-step, drop-end}
 use Rattle.blocks.proofs.Plain.{other-plain}
 use Rattle.blocks.proofs.Owed.{block-passed}
-use Rattle.chars.proofs.Runs.{point-starts, bad-starts, point-wide, Running, run-start, run-less, run-on}
+use Rattle.chars.proofs.Runs.{point-starts, bad-starts, point-wide, run-start, run-less, run-on}
 
 -- ---- `after_blocks`
 
