@@ -24,6 +24,7 @@ use Rattle.chars.specs.declared.name.Reading.the-variants.{Ends}
 use Rattle.readers.specs.Plain.{textOf}
 use Rattle.tags.specs.Kept.{nameFrom}
 use Rattle.tags.specs.Tag.{tagAt}
+use Rattle.tags.specs.Usual.{ToldMark}
 use Rattle.tags.proofs.Item as item
 use Rattle.tags.specs.declared.Item.{Item}
 use Rattle.tags.specs.declared.Item.the-variants.{Start, Finish, Text, Nothing}
@@ -36,6 +37,7 @@ use Rattle.document.specs.Levels.{Names, openedOf, startBy}
 use Rattle.document.specs.declared.Open.{Open}
 use Rattle.document.specs.declared.Placement.the-variants.{Fine}
 use Rattle.document.proofs.Placing.{formed-yes, closes-same, start-formed, place-text, place-start, place-finish, text-any, not-among}
+use Rattle.plain.proofs.Texts.{texting-start, texting-markup}
 use Rattle.quick.specs.End.{closesHere, NamedAt}
 use Rattle.quick.proofs.Told.{answer-item, answer-name}
 use Rattle.passes.specs.Opens.{Opens, Usual, untold, told}
@@ -120,7 +122,14 @@ usual-text d starts lens o at z l n m g {e} q =
     (λ first. content-text first d at l n m g q)
     (place-text d starts lens o at refl (text-any (o .level .0) (blank d at e) (omega arith)))
 
-pub ruleset usuals = (nothing-told, before-end, usual-text, needs)
+-- text whose end words tell
+pub usual-words : (d starts lens : List ℕ) (o : Open) (at : ℕ) → (o .level .0 ≡ 0 → ⊥) → at < length d → (getD d at 0 ≡ 0x3C → ⊥)
+    → (getD d at 0 ≡ 0x26 → ⊥) → {e : ℕ} → ToldMark 0x5D d at e → e < length d → (getD d e 0 ≡ 0x5D → ⊥)
+    → Usual d at (openedOf d starts lens o) (Text e)
+usual-words d starts lens o at z l n m t h q =
+    usual-text d starts lens o at z l n m (texting-markup (texting-start d at (t .is h)) h q) refl
+
+pub ruleset usuals = (nothing-told, before-end, usual-text, usual-words, needs)
 
 -- ---- `next_item`
 

@@ -18,6 +18,7 @@ ghost use Rattle.attributes.specs.Held.{attributesIn};
 ghost use Rattle.items.specs.Item.{itemAt};
 ghost use Rattle.document.specs.Place.{placement};
 ghost use Rattle.document.specs.Levels.{Names, openedOf};
+ghost use Rattle.tags.specs.Usual.{ToldMark};
 ghost use Rattle.tests.specs.Passing.{somePlace};
 ghost use Rattle.passes.specs.Opens.{Opens, Usual};
 ghost use Rattle.passes.specs.Passed.{Passed};
@@ -43,6 +44,7 @@ use output::step::tag_step;
 use plain::text::text;
 use points::table::Classes;
 use quick::end::end_tag;
+use scans::mark::before16;
 use tags::Item;
 use tags::usual::next_tag;
 use tests::any;
@@ -111,6 +113,25 @@ fn usual_tag(
     Item::Nothing
 }
 
+// The first place from `at` on with `<`, `&` or `]`, where it is one of the next 64 and words reach so far; else the end, which says nothing.
+fn text_end(doc: &[u8], at: usize) -> usize
+    requires { ⌜ at ≤ length (now doc) ⌝ }
+    ensures { λ r. ⌜ ToldMark 0x5D (now (doc .entry)) at r ⌝ }
+{
+    let mut i = at;
+    while doc.len() - i >= 16 {
+        let n = before16(doc, i, b']');
+        if n < 16 {
+            return i + n;
+        }
+        i += 16;
+        if i - at == 64 {
+            return doc.len();
+        }
+    }
+    doc.len()
+}
+
 // Inside an element, the item at a place where it is a usual one: such a tag, or text. Else nothing is told: `Nothing`.
 fn usual(
     table: &Classes,
@@ -138,6 +159,12 @@ fn usual(
     }
     if b == b'&' {
         return Item::Nothing;
+    }
+    let end = text_end(doc, at);
+    if end < doc.len() {
+        if doc[end] != b']' {
+            return Item::Text(end);
+        }
     }
     match text(doc, at) {
         Reading::Ends(e) => Item::Text(e),

@@ -22,6 +22,15 @@ returns-3 c = search usuals
 returns-4 : tie.Need-returns-4
 returns-4 c = search usuals
 
+text-end-requires : tie.Need-text-end-requires
+text-end-requires c κs = search usuals
+
+shared-slice-read-if6 : tie.Need-shared-slice-read-if6
+shared-slice-read-if6 c = search usuals
+
+returns-5 : tie.Need-returns-5
+returns-5 c = search usuals
+
 text-requires : tie.Need-text-requires
 text-requires c κs = search usuals
 
@@ -31,11 +40,11 @@ enum-known-e c = search usuals
 enum-told : tie.Need-enum-told
 enum-told c = search usuals
 
-returns-5 : tie.Need-returns-5
-returns-5 c = search usuals
-
 returns-6 : tie.Need-returns-6
 returns-6 c = search usuals
+
+returns-7 : tie.Need-returns-7
+returns-7 c = search usuals
 
 pub usual-spec : {M : Type 1} → statement M
 usual-spec =
@@ -47,8 +56,11 @@ usual-spec =
     usual-tag-requires
     returns-3
     returns-4
+    text-end-requires
+    shared-slice-read-if6
+    returns-5
     text-requires
     enum-known-e
     enum-told
-    returns-5
-    returns-6)
+    returns-6
+    returns-7)
