@@ -113,7 +113,8 @@ fn usual_tag(
     Item::Nothing
 }
 
-// The first place from `at` on with `<`, `&` or `]`, where it is one of the next 64 and words reach so far; else the end, which says nothing.
+// The first place from `at` on with `<`, `&` or `]`, where it is one of the next 64 and words reach so far; else the end, which says
+// nothing.
 fn text_end(doc: &[u8], at: usize) -> usize
     requires { ⌜ at ≤ length (now doc) ⌝ }
     ensures { λ r. ⌜ ToldMark 0x5D (now (doc .entry)) at r ⌝ }

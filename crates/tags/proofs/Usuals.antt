@@ -158,8 +158,9 @@ module _ (d : List ℕ) (at : ℕ) {r : Reading} (a : Answers d at r (spaceOf (d
   pub name-ahead : i ≤ e
   name-ahead = piece-ahead d i name-is refl
 
-  module _ (l : 2 ≤ length d - e) (g : getD d e 0 ≡ 0x3D) (c : not (eqb (getD d (e + 1) 0) 0x22) && not (eqb (getD d (e + 1) 0) 0x27) ≡ false)
-      {z : ℕ} (f : ToldMark (getD d (e + 1) 0) d (e + 2) z) (h : z < length d) (k : getD d z 0 ≡ getD d (e + 1) 0) where
+  module _ (l : 2 ≤ length d - e) (g : getD d e 0 ≡ 0x3D)
+      (c : not (eqb (getD d (e + 1) 0) 0x22) && not (eqb (getD d (e + 1) 0) 0x27) ≡ false) {z : ℕ}
+      (f : ToldMark (getD d (e + 1) 0) d (e + 2) z) (h : z < length d) (k : getD d z 0 ≡ getD d (e + 1) 0) where
     either : eqb (getD d (e + 1) 0) 0x22 || eqb (getD d (e + 1) 0) 0x27 ≡ true
     either = quote-is (eqb (getD d (e + 1) 0) 0x22) (eqb (getD d (e + 1) 0) 0x27) c
 
@@ -223,8 +224,8 @@ module _ {d : List ℕ} {at e name i count : ℕ} {starts lens : List ℕ} (v : 
     pub walk-less : length d - end < length d - i
     walk-less = gather-less (v .gathered) (a .is place len end q) q
 
-    pub walk-more : len ≤ 255 → count < 32 → {starts′ lens′ : List ℕ} {again : Bool} → Noted d starts lens count place len starts′ lens′ again
-        → again ≡ false → Walking d at e name end (count + 1) starts′ lens′
+    pub walk-more : len ≤ 255 → count < 32 → {starts′ lens′ : List ℕ} {again : Bool}
+        → Noted d starts lens count place len starts′ lens′ again → again ≡ false → Walking d at e name end (count + 1) starts′ lens′
     walk-more l m n z =
         record {
           begun = v .begun;

@@ -44,7 +44,8 @@ loop-less : tie.Need-loop-less Inv-loop μ-loop
 loop-less c = search marked
 
 loop-again : tie.Need-loop-again Inv-loop μ-loop
-loop-again c = seek-block (c .before .before .before .before .loop .inv) (search needs) (c .before .before .before16 .ensures) (search needs)
+loop-again c =
+    seek-block (c .before .before .before .before .loop .inv) (search needs) (c .before .before .before16 .ensures) (search needs)
 
 returns-3 : tie.Need-returns-3 Inv-loop μ-loop
 returns-3 c = search marked

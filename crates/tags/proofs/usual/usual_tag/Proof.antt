@@ -9,7 +9,8 @@ use Rattle.tags.proofs.usual.usual_tag.Statement.{statement}
 use Rattle.tags.proofs.usual.usual_tag.Tie as tie
 
 abbrev Inv-loop : tie.InvT-loop
-Inv-loop classes doc at e name starts₀ lens₀ count₀ i₀ t14 t15 starts lens count i = (classes ≡ classTable) × Walking doc at e name i count starts lens
+Inv-loop classes doc at e name starts₀ lens₀ count₀ i₀ t14 t15 starts lens count i =
+    (classes ≡ classTable) × Walking doc at e name i count starts lens
 
 abbrev μ-loop : tie.MeasureT-loop
 μ-loop classes doc at e name starts₀ lens₀ count₀ i₀ t14 t15 starts lens count i = length doc - i
@@ -68,8 +69,8 @@ add-t28 c = search usually
 returns-5 : tie.Need-returns-5 Inv-loop μ-loop
 returns-5 c =
     let word = c .before .before .before .before in
-    walk-empty (word .before .before .loop .inv .1) (word .stands2 .ensures) (c .before .before .before .if4 .left) (c .before .stands3 .ensures)
-    (c .if5 .taken)
+    walk-empty (word .before .before .loop .inv .1) (word .stands2 .ensures) (c .before .before .before .if4 .left)
+    (c .before .stands3 .ensures) (c .if5 .taken)
 
 usual-attribute-requires : tie.Need-usual-attribute-requires Inv-loop μ-loop
 usual-attribute-requires c κs = search usually
