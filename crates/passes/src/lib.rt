@@ -280,12 +280,13 @@ pub fn pass(
                     let parent = states[level];
                     let a = at + 1;
                     let fit = fit_of(list, t, &doc[a..a + name]);
-                    if level + 1 < Open::LEVELS {
-                        states[level + 1] = parent.deeper(fit);
-                    }
+                    let below = parent.deeper(fit);
                     let tried = parent.tests_on(fit);
                     tests = tests + (tried as usize);
                     let verdict = judged(table, list, t, tested, doc, parent, fit, at, name, head);
+                    if level + 1 < Open::LEVELS {
+                        states[level + 1] = below;
+                    }
                     run = tag_step(
                         run,
                         InputLevel(level),

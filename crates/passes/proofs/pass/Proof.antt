@@ -154,26 +154,8 @@ fit-of-requires c κs =
     c .before .before .before .before .before .before .before .before .before .before .before .before .before .before .before
     .before .before .before .before .before .before .before .before .pre .2
 
-add-if1 : tie.Need-add-if1 Inv-loop μ-loop
-add-if1 c =
-    let below = tag-level (c .before .before .before .before .before .before .before .before .before .before .before .before
-    .before .before .loop .inv) (c .before .before .before .before .before .before .before .before .before .before .before
-    .next-item .ensures .0) (c .before .before .before .before .before .before .before .before .before .before .before
-    .next-item .ensures .1) (c .before .before .before .before .before .before .before .before .before .enum-told2 .given .1)
-    (c .before .before .before .before .next .given .1) in
-    search (needs, below)
-
 deeper-requires : tie.Need-deeper-requires Inv-loop μ-loop
 deeper-requires c κs = search needs
-
-add-states : tie.Need-add-states Inv-loop μ-loop
-add-states c = search needs
-
-mul-states : tie.Need-mul-states Inv-loop μ-loop
-mul-states c = search needs
-
-array-set-from-states : tie.Need-array-set-from-states Inv-loop μ-loop
-array-set-from-states c = search needs
 
 tests-on-requires : tie.Need-tests-on-requires Inv-loop μ-loop
 tests-on-requires c κs = search needs
@@ -213,24 +195,45 @@ judged-requires c κs =
       tag-head v e q h s,
     )
 
+add-if1 : tie.Need-add-if1 Inv-loop μ-loop
+add-if1 c =
+    let below = tag-level (c .before .before .before .before .before .before .before .before .before .before .before .before
+    .before .before .before .before .before .loop .inv) (c .before .before .before .before .before .before .before .before .before
+    .before .before .before .before .before
+    .next-item .ensures .0) (c .before .before .before .before .before .before .before .before .before .before .before .before
+    .before .before
+    .next-item .ensures .1) (c .before .before .before .before .before .before .before .before .before .before .before .before
+    .enum-told2 .given .1)
+    (c .before .before .before .before .before .before .before .next .given .1) in
+    search (needs, below)
+
+add-states : tie.Need-add-states Inv-loop μ-loop
+add-states c = search needs
+
+mul-states : tie.Need-mul-states Inv-loop μ-loop
+mul-states c = search needs
+
+array-set-from-states : tie.Need-array-set-from-states Inv-loop μ-loop
+array-set-from-states c = search needs
+
 tag-step-requires : tie.Need-tag-step-requires Inv-loop μ-loop
 tag-step-requires c κs =
     let v = c .before .before .before .before .before .before .before .before .before .before .before .before .before .before
-    .before .before .before .before .before .before .before .loop .inv in
+    .before .before .before .before .before .before .before .before .loop .inv in
     let e = c .before .before .before .before .before .before .before .before .before .before .before .before .before .before
-    .before .before .before .before .next-item .ensures .0 in
+    .before .before .before .before .before .next-item .ensures .0 in
     let q = c .before .before .before .before .before .before .before .before .before .before .before .before .before .before
-    .before .before .before .before .next-item .ensures .1 in
+    .before .before .before .before .before .next-item .ensures .1 in
     let h = c .before .before .before .before .before .before .before .before .before .before .before .before .before .before
-    .before .before .enum-told2 .given .1 in
-    let s = c .before .before .before .before .before .before .before .before .before .before .before .next .given .1 in
-    let k = c .before .before .before .before .before .before .before .before .before .before .before .before .before .keep
+    .before .before .before .enum-told2 .given .1 in
+    let s = c .before .before .before .before .before .before .before .before .before .before .before .before .next .given .1 in
+    let k = c .before .before .before .before .before .before .before .before .before .before .before .before .before .before .keep
     .ensures in (
       pass-ready v (c .before .before .before .before .before .before .before .before .before .before .before .before .before
           .before .before .before .before .before .before .before .before .before .before .before .before .before .before .before
-          .before .before .before .pre .1) (c .before .before .before .before .before .before .before .before .before .before
+          .before .before .before .before .pre .1) (c .before .before .before .before .before .before .before .before .before .before
           .before .before .before .before .before .before .before .before .before .before .before .before .before .before .before
-          .before .before .before .before .before .before .pre
+          .before .before .before .before .before .before .before .pre
           .3) (pass-within v e q h),
       v .order,
       tag-from v e q h s,
@@ -242,49 +245,51 @@ tag-step-requires c κs =
 after-requires : tie.Need-after-requires Inv-loop μ-loop
 after-requires c κs =
     pass-deep (c .before .before .before .before .before .before .before .before .before .before .before .before .before .before
-    .before .before .before .before .before .before .before .before .before .before .before .before .loop .inv)
+    .before .before .before .before .before .before .before .before .before .before .before .before .before .loop .inv)
     (c .before .before .before .before .before .before .before .before .before .before .before .before .before .before .before
     .before .before .before .before .before .before .before .before .before .before .before .before .before .before .before
-    .before .before .before .before .before .before .pre .1)
+    .before .before .before .before .before .before .before .pre .1)
 
 loop-less : tie.Need-loop-less Inv-loop μ-loop
 loop-less c =
     tag-less (c .before .before .before .before .before .before .before .before .before .before .before .before .before .before
-    .before .before .before .before .before .before .before .before .before .before .before .before .before .loop .inv)
+    .before .before .before .before .before .before .before .before .before .before .before .before .before .before .loop .inv)
     (c .before .before .before .before .before .before .before .before .before .before .before .before .before .before .before
-    .before .before .before .before .before .before .before .before .before .next-item .ensures .0)
+    .before .before .before .before .before .before .before .before .before .before .next-item .ensures .0)
     (c .before .before .before .before .before .before .before .before .before .before .before .before .before .before .before
-    .before .before .before .before .before .before .before .before .before .next-item .ensures .1)
+    .before .before .before .before .before .before .before .before .before .before .next-item .ensures .1)
     (c .before .before .before .before .before .before .before .before .before .before .before .before .before .before .before
-    .before .before .before .before .before .before .before .enum-told2 .given .1)
+    .before .before .before .before .before .before .before .before .enum-told2 .given .1)
     (c .before .before .before .before .before .before .before .before .before .before .before .before .before .before .before
-    .before .before .next .given .1)
+    .before .before .before .next .given .1)
 
 loop-again : tie.Need-loop-again Inv-loop μ-loop
 loop-again c =
     let v = c .before .before .before .before .before .before .before .before .before .before .before .before .before .before
-    .before .before .before .before .before .before .before .before .before .before .before .before .before .loop .inv in
+    .before .before .before .before .before .before .before .before .before .before .before .before .before .before .loop .inv in
     let e = c .before .before .before .before .before .before .before .before .before .before .before .before .before .before
-    .before .before .before .before .before .before .before .before .before .before .next-item .ensures .0 in
+    .before .before .before .before .before .before .before .before .before .before .before .next-item .ensures .0 in
     let q = c .before .before .before .before .before .before .before .before .before .before .before .before .before .before
-    .before .before .before .before .before .before .before .before .before .before .next-item .ensures .1 in
+    .before .before .before .before .before .before .before .before .before .before .before .next-item .ensures .1 in
     let h = c .before .before .before .before .before .before .before .before .before .before .before .before .before .before
-    .before .before .before .before .before .before .before .before .enum-told2 .given .1 in
+    .before .before .before .before .before .before .before .before .before .enum-told2 .given .1 in
     let s = c .before .before .before .before .before .before .before .before .before .before .before .before .before .before
-    .before .before .before .next
+    .before .before .before .before .next
     .given .1 in
     let k = c .before .before .before .before .before .before .before .before .before .before .before .before .before .before
-    .before .before .before .before .before .keep .ensures in
+    .before .before .before .before .before .before .keep .ensures in
     let sound = c .before .before .before .before .before .before .before .before .before .before .before .before .before .before
     .before .before .before .before .before .before .before .before .before .before .before .before .before .before .before
-    .before .before .before .before .before .before .before .before .pre .2 .sound in
-    let f = c .before .before .before .before .before .before .before .before .before .before .before .before .before .fit-of .ensures in
+    .before .before .before .before .before .before .before .before .before .pre .2 .sound in
+    let f = c .before .before .before .before .before .before .before .before .before .before .before .before .before .before
+    .fit-of .ensures in
     pass-tag v e q h s (k .0) (k .1) sound refl f
     (verdict-judged v e q h s (k .0) (k .1) sound refl f (c .before .before .before .before .before .before .before .before .before
-    .before .judged .ensures))
-    (⊎-elim (λ z. stored _ (z .0 .taken) (z .1 .ensures) (z .2)) (λ z. inr (z .0 .left, z .1))
-    (c .before .before .before .before .before .before .before .before .before .before .before .before .if1 .came))
-    (c .before .before .before .before .before .before .before .before .before .before .before .tests-on .ensures)
+    .before .before .judged .ensures))
+    (⊎-elim (λ z. stored _ (z .0 .taken) (c .before .before .before .before .before .before .before .before .before .before .before
+    .before .before .deeper .ensures) (z .1)) (λ z. inr (z .0 .left, z .1))
+    (c .before .before .before .before .before .before .before .before .before .before .if1 .came))
+    (c .before .before .before .before .before .before .before .before .before .before .before .before .tests-on .ensures)
     (c .before .before .before .before .before .tag-step
     .ensures) (c .after .ensures)
 
@@ -371,15 +376,15 @@ pass-spec =
     part-fit-of-start
     part-fit-of-end
     fit-of-requires
-    add-if1
     deeper-requires
-    add-states
-    mul-states
-    array-set-from-states
     tests-on-requires
     cast-tests
     add-tests
     judged-requires
+    add-if1
+    add-states
+    mul-states
+    array-set-from-states
     tag-step-requires
     after-requires
     loop-less
