@@ -17,7 +17,7 @@ use Rattle.paths.specs.declared.ListAnswer.the-variants.{Sound}
 use Rattle.lookup.specs.Index.{padded}
 use Rattle.compiled.specs.Bits.{column, staysOf, goesOf, farOf, lastsOf, marksOf, fitOf}
 use Rattle.matcher.specs.Says.{Says}
-use Rattle.matcher.specs.Picked.{pickedOf}
+use Rattle.matcher.specs.Picked.{passingOf, pickedBy}
 use Rattle.matcher.specs.Fit.{fitFor}
 use Rattle.matcher.specs.State.{flood, hitsOf, carried, hitsAt, carriedAt, freshState, deeperOf, stateOf, hitAt, selectingBy}
 use Rattle.matcher.specs.declared.Verdict.{Verdict}
@@ -174,7 +174,8 @@ rows =
 abbrev verdictIn : Row → Verdict
 verdictIn r =
     let ps = listPaths (r .list) in
-    pickedOf ps (selectingBy (stateOf ps (r .above)) (fitFor ps (r .own))) []
+    let f = fitFor ps (r .own) in
+    pickedBy f (passingOf ps (selectingBy (stateOf ps (r .above)) f) [])
 
 -- every list is sound
 pub sound : map (λ r. listAnswer (r .list)) rows ≡ map (λ r. Sound) rows
@@ -186,8 +187,8 @@ sound = refl
 pub computed : map verdictIn rows ≡ map (λ r. r .verdict) rows
 unfolding rows listPaths listAnswer judge lines soundAt within lineAt steps readAll endAt markAt attributeAt stepAt testAt kindAt
     printStep printLine
-    nameOf run starts character guess valueOf utf8 isScalar isNameStart isNameMore isName pickedOf selectingBy hitAt stateOf deeperOf
-    freshState carriedAt carried hitsAt hitsOf flood fitFor fitOf staysOf goesOf farOf lastsOf marksOf column padded
+    nameOf run starts character guess valueOf utf8 isScalar isNameStart isNameMore isName pickedBy passingOf selectingBy hitAt stateOf
+    deeperOf freshState carriedAt carried hitsAt hitsOf flood fitFor fitOf staysOf goesOf farOf lastsOf marksOf column padded
 computed = refl
 
 all-meant : (rs : List Row) → map (λ r. listAnswer (r .list)) rs ≡ map (λ r. Sound) rs → map verdictIn rs ≡ map (λ r. r .verdict) rs

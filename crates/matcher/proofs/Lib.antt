@@ -17,4 +17,5 @@ pub mod Serving
 pub mod Sums
 pub mod Carrying
 pub mod Selecting
+pub mod Picking
 pub mod OneAnswer

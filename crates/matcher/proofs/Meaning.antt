@@ -16,7 +16,7 @@ use Rattle.attributes.proofs.Has.{has-found, found-has}
 use Rattle.compiled.proofs.OverLines.{sound-sized}
 use Rattle.matcher.specs.Pick.{PassesTest, Picks, passesTest, picks}
 use Rattle.matcher.specs.Says.{Some, this, later, BySome, ByMarked, Says, some, decided, verdictOf}
-use Rattle.matcher.specs.Picked.{pickedOf, Untested}
+use Rattle.matcher.specs.Picked.{passingOf, pickedBy, Untested}
 use Rattle.matcher.specs.Fit.{fitFor}
 use Rattle.matcher.specs.State.{stateOf, verdictBy, selectingBy}
 use Rattle.matcher.specs.declared.Verdict.{Verdict}
@@ -114,14 +114,16 @@ module _ (d : List ℕ) (sound : listAnswer d ≡ Sound) (names : List (List ℕ
   abbrev plain : Verdict
   plain = verdictBy (stateOf (listPaths d) names) (fitFor (listPaths d) n)
 
-  -- the verdict by the paths whose steps select the element
+  -- the verdict by the paths whose steps select the element and whose test it passes
   abbrev picked : Verdict
-  picked = pickedOf (listPaths d) (selectingBy (stateOf (listPaths d) names) (fitFor (listPaths d) n)) xs
+  picked =
+      let f = fitFor (listPaths d) n in
+      pickedBy f (passingOf (listPaths d) (selectingBy (stateOf (listPaths d) names) f) xs)
 
   pub verdict-told : picked ≡ verdictOf (listPaths d) (names ++ n ∷ []) xs
   verdict-told =
       let s = sound-sized d sound in
-      picked-verdict (listPaths d) (names ++ n ∷ []) xs (selecting-are (listPaths d) (s .few) (s .short) names n)
+      picked-verdict (listPaths d) (names ++ n ∷ []) n xs (selecting-are (listPaths d) (s .few) (s .short) names n)
 
   pub told : Says (listPaths d) (names ++ n ∷ []) xs picked
   told = rw verdict-told (says (listPaths d) (names ++ n ∷ []) xs)

@@ -3,6 +3,7 @@
 use mathlib.Core.Path.{sym, _∙_}
 use Rattle.contracts.specs.One.{OneResult}
 use Rattle.matcher.proofs.fit.fit_of.Reads as fit-of
+use Rattle.matcher.proofs.fit.Fit.verdict_of.Reads as verdict-of
 use Rattle.matcher.proofs.state.MatchState.fresh.Reads as fresh
 use Rattle.matcher.proofs.state.MatchState.deeper.Reads as deeper
 use Rattle.matcher.proofs.state.MatchState.verdict_on.Reads as verdict-on
@@ -12,6 +13,10 @@ use Rattle.matcher.proofs.state.MatchState.tests_on.Reads as tests-on
 -- `fit::fit_of`
 pub fit-of-one : OneResult fit-of.Asked fit-of.Learnt
 fit-of-one κs a z z′ e e′ x p q = p ∙ sym q
+
+-- `fit::Fit::verdict_of`
+pub verdict-of-one : OneResult verdict-of.Asked verdict-of.Learnt
+verdict-of-one κs a z z′ e e′ x p q = p ∙ sym q
 
 -- `state::MatchState::fresh`
 pub fresh-one : OneResult fresh.Asked fresh.Learnt

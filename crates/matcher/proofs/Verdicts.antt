@@ -1,26 +1,28 @@
 -- The verdict: the state of an element's parent and the element's fit give it, `verdict-laid` for anything that steps may fit and
 -- `verdict-plain` for names. Some path is hit where some path can be laid; a path past the last can be laid nowhere. They give the paths
--- whose steps select the element, too, as bits, `selecting-are`; and these with its attributes give the verdict, `picked-verdict`. Then
--- where the verdict on names is that with attributes: where it is that no path selects, and where no path has a test.
+-- whose steps select the element, too, as bits, `selecting-are`; and those of them whose test it passes give the verdict, `picked-verdict`.
+-- Then where the verdict on names is that with attributes: where it is that no path selects, and where no path has a test.
 use mathlib.Core.Path.{_≡_, refl, sym, ap, ap₂, _∙_}
-use mathlib.Core.Bool.{Bool, true, false, _&&_, _||_, or-assoc, or-false, and-assoc, true≢false}
+use mathlib.Core.Bool.{Bool, true, false, cond, _&&_, _||_, or-assoc, or-false, true≢false}
 use mathlib.Core.List.{List, [], _∷_, _++_, map}
 use mathlib.Core.Logic.{_↔_}
 use mathlib.Core.Option.{Option}
-use Prim.Native.Nat.{ℕ, zero, suc, _+_, _*_, _≤_, _<_}
+use Prim.Native.Nat.{ℕ, zero, suc, _+_, _-_, _*_, _/_, _^_, _≤_, _<_}
+use native.Mathlib.Nat.{pow-zero, pow-le-pow-right}
 use native.Mathlib.Omega.{arith}
-use lib.ListN.{length}
+use lib.ListN.{length, replicate}
 use lib.Bits.{bitOr, or-zero-l, or-add-and, and-le-r}
 use Rattle.xml.proofs.Bools.{and-right}
 use Rattle.paths.specs.Path.{Step, AttributeTest, Path, All, more}
 use Rattle.attributes.specs.Attribute.{Attribute}
-use Rattle.compiled.specs.Bits.{bit, bitsOf, lastsOf, marksOf, fitOf}
+use Rattle.lookup.specs.Index.{padded}
+use Rattle.compiled.specs.Bits.{bit, bitsOf, column, lastBit, lastsOf, marksOf, fitOf}
 use Rattle.compiled.specs.Built.{listed}
 use Rattle.matcher.specs.Select.{PassesName}
 use Rattle.matcher.specs.Test.{lays, passesName, selects}
 use Rattle.matcher.specs.Pick.{passesTest, picks}
 use Rattle.matcher.specs.Says.{some, decided, verdictOf}
-use Rattle.matcher.specs.Picked.{someSet, pickedOf, Untested}
+use Rattle.matcher.specs.Picked.{someSet, passingOf, pickedBy, Untested}
 use Rattle.matcher.specs.Fit.{fitFor}
 use Rattle.matcher.specs.State.{freshState, down, stateOf, joined, nonzero, hitAt, anyHit, verdictBy, selectingBy}
 use Rattle.matcher.specs.declared.Verdict.{Verdict}
@@ -28,6 +30,7 @@ use Rattle.matcher.specs.declared.Verdict.the-variants.{Unselected}
 use Rattle.matcher.proofs.Places.{passes-decides}
 use Rattle.matcher.proofs.Hits.{lays-none}
 use Rattle.matcher.proofs.Digits.{bit-half, bit-odd}
+use Rattle.matcher.proofs.Carrying.{nonzero-not}
 use Rattle.matcher.proofs.AllPaths.{fitWith, noPath, pathAt, stepsAt, among-hit}
 
 -- ---- some hit
@@ -157,23 +160,67 @@ module _ (ps : List Path) (few : length ps ≤ 32) (short : All (λ p. length (p
 
 -- ---- with attributes
 
-some-set : (f g : Path → Bool) (ps : List Path) → someSet f ps (bitsOf (map g ps)) ≡ some (λ p. f p && g p) ps
-some-set f g [] = refl
-some-set f g (p ∷ ps) =
-    ap₂ (λ (b : Bool) (k : ℕ). (f p && b) || someSet f ps k) (bit-odd (g p) (bitsOf (map g ps))) (bit-half (g p) (bitsOf (map g ps)))
-    ∙ ap (λ (b : Bool). (f p && g p) || b) (some-set f g ps)
+-- the bits of those that pick
+passing-are : (ps : List Path) (names : List (List ℕ)) (xs : List Attribute)
+    → passingOf ps (bitsOf (map (λ p. selects (p .steps) names) ps)) xs ≡ bitsOf (map (λ p. picks p names xs) ps)
+unfolding passingOf
+passing-are [] names xs = refl
+passing-are (p ∷ ps) names xs =
+    let g : Path → Bool = λ p. selects (p .steps) names in
+    ap₂ (λ (b : Bool) (k : ℕ). bit (passesTest (p .test) xs && b) + 2 * passingOf ps k xs)
+    (bit-odd (g p) (bitsOf (map g ps))) (bit-half (g p) (bitsOf (map g ps)))
+    ∙ ap (λ (k : ℕ). bit (picks p names xs) + 2 * k) (passing-are ps names xs)
+
+bits-some : (f : Path → Bool) (ps : List Path) → nonzero (bitsOf (map f ps)) ≡ some f ps
+bits-some f [] = refl
+bits-some f (p ∷ ps) = go (f p) (bitsOf (map f ps)) ∙ ap (λ (b : Bool). f p || b) (bits-some f ps)
+  where
+    go : (b : Bool) (k : ℕ) → nonzero (bit b + 2 * k) ≡ (b || nonzero k)
+    go true k = nonzero-not (bit true + 2 * k) (λ e. omega arith)
+    go false zero = refl
+    go false (suc k) = nonzero-not (bit false + 2 * suc k) (λ e. omega arith)
+
+pub last-some : (q : Path) → 0 < lastBit q
+last-some q =
+    let i : 0 ≤ length (q .steps) - 1 = omega arith in
+    let z : 2 ^ 0 ≤ 2 ^ (length (q .steps) - 1) = pow-le-pow-right {n = 2} (omega arith) i in
+    let y = pow-zero 2 in
+    omega arith
+
+zeros-unset : (n bits : ℕ) → someSet (replicate n 0) bits ≡ false
+zeros-unset zero bits = refl
+zeros-unset (suc n) bits = zeros-unset n (bits / 2)
+
+-- the marked ones among those whose bit is set
+set-marked : (f : Path → Bool) (ps : List Path) → someSet (marksOf ps) (bitsOf (map f ps)) ≡ some (λ p. p .marked && f p) ps
+unfolding marksOf column padded
+set-marked f ps = go ps (32 - length (map mark ps))
+  where
+    mark : Path → ℕ
+    mark p = cond (p .marked) (lastBit p) 0
+
+    is : (p : Path) → nonzero (mark p) ≡ p .marked
+    is p = by (p .marked)
+      where
+        by : (b : Bool) → nonzero (cond b (lastBit p) 0) ≡ b
+        by true = nonzero-not (lastBit p) (λ e. let l = last-some p in omega arith)
+        by false = refl
+
+    go : (qs : List Path) (n : ℕ) → someSet (map mark qs ++ replicate n 0) (bitsOf (map f qs)) ≡ some (λ p. p .marked && f p) qs
+    go [] n = zeros-unset n 0
+    go (p ∷ qs) n =
+        ap₂ (λ (b : Bool) (k : ℕ). (nonzero (mark p) && b) || someSet (map mark qs ++ replicate n 0) k)
+        (bit-odd (f p) (bitsOf (map f qs))) (bit-half (f p) (bitsOf (map f qs)))
+        ∙ ap₂ (λ (b c : Bool). (b && f p) || c) (is p) (go qs n)
 
 -- by the paths whose steps select
-pub picked-verdict : (ps : List Path) (names : List (List ℕ)) (xs : List Attribute) {s : ℕ}
-    → s ≡ bitsOf (map (λ p. selects (p .steps) names) ps) → pickedOf ps s xs ≡ verdictOf ps names xs
-unfolding pickedOf verdictOf
-picked-verdict ps names xs e =
-    let g : Path → Bool = λ p. selects (p .steps) names in
-    ap (λ (k : ℕ). pickedOf ps k xs) e
-    ∙ ap₂ decided
-    (some-set (λ p. p .marked && passesTest (p .test) xs) g ps
-    ∙ some-same (λ p. and-assoc (p .marked) (passesTest (p .test) xs) (g p)) ps)
-    (some-set (λ p. passesTest (p .test) xs) g ps)
+pub picked-verdict : (ps : List Path) (names : List (List ℕ)) (n : List ℕ) (xs : List Attribute) {s : ℕ}
+    → s ≡ bitsOf (map (λ p. selects (p .steps) names) ps) → pickedBy (fitFor ps n) (passingOf ps s xs) ≡ verdictOf ps names xs
+unfolding pickedBy verdictOf fitFor
+picked-verdict ps names n xs e =
+    let f : Path → Bool = λ p. picks p names xs in
+    ap (λ (k : ℕ). pickedBy (fitFor ps n) k) (ap (λ (k : ℕ). passingOf ps k xs) e ∙ passing-are ps names xs)
+    ∙ ap₂ decided (set-marked f ps) (bits-some f ps)
 
 -- ---- where attributes need no look
 

@@ -5,6 +5,8 @@ ghost use Rattle.paths.specs.Judge.{listPaths};
 ghost use Prim.Native.Nat.{_+_, _≤_};
 ghost use lib.ListN.{length, take, drop};
 ghost use Rattle.matcher.specs.Fit.{fitFor, Serves};
+ghost use Rattle.matcher.specs.Picked.{pickedBy};
+use crate::Verdict;
 use crate::state::MatchState;
 use compiled::Compiled;
 use compiled::layout;
@@ -62,5 +64,33 @@ pub fn fit_of(list: &[u8], t: &Compiled, name: &[u8]) -> Fit
         far,
         lasts,
         marks,
+    }
+}
+
+impl Fit {
+    // What the list says of an element by the paths that pick it, those that select it and whose test it passes: bit p is path p's. Which
+    // tests are passed is all that comes here of its attributes.
+    pub fn verdict_of(self, passing: u32) -> Verdict
+        ensures { λ r. ⌜ r ≡ pickedBy self passing ⌝ }
+    {
+        if passing == 0 {
+            return Verdict::Unselected;
+        }
+        let marks = self.marks;
+        let mut left = passing;
+        let mut p: usize = 0;
+        while left != 0 {
+            let set = left % 2;
+            let mark = marks[p];
+            left = left / 2;
+            p += 1;
+            if set == 0 {
+                continue;
+            }
+            if mark != 0 {
+                return Verdict::Marked;
+            }
+        }
+        Verdict::Selected
     }
 }

@@ -1,5 +1,5 @@
--- The verdict on an element by `judged`: where the steps of no path select it; where no path has a test; by the tests of the paths whose
--- steps select it, its attributes being those of the bytes behind its name.
+-- The verdict on an element by `judged`: where the steps of no path select it; where no path has a test; by those of the paths
+-- whose steps select it whose tests it passes, its attributes being those of the bytes behind its name.
 use mathlib.Core.Path.{_≡_, sym, _∙_}
 use mathlib.Core.Bool.{Bool, false}
 use mathlib.Core.List.{List}
@@ -8,7 +8,7 @@ use borrow.Author.Needs.{needs}
 use lib.ListN.{take, drop}
 use Rattle.paths.specs.Judge.{listPaths}
 use Rattle.attributes.specs.Held.{attributesIn}
-use Rattle.matcher.specs.Picked.{pickedOf}
+use Rattle.matcher.specs.Picked.{passingOf, pickedBy}
 use Rattle.matcher.specs.Fit.{Serves}
 use Rattle.matcher.specs.State.{verdictBy, selectingBy}
 use Rattle.matcher.specs.declared.Verdict.{Verdict}
@@ -31,8 +31,9 @@ module _ (list d : List ℕ) (at n h : ℕ) (m : MatchState) (f : Fit) where
       → b ≡ somePlace (take 32 (drop 18368 t)) → b ≡ false → Judges w
   judged-untested s e g y = untested e (any-untested s (sym y ∙ g))
 
-  pub judged-tested : {k : ℕ} → k ≡ selectingBy m f → {w : Verdict}
-      → w ≡ pickedOf (listPaths list) k (attributesIn 0 (take (h - (at + 1 + n)) (drop (at + 1 + n) d))) → Judges w
-  judged-tested ek ew = tested (rw ek at ew)
+  pub judged-tested : {k : ℕ} → k ≡ selectingBy m f → {j : ℕ}
+      → j ≡ passingOf (listPaths list) k (attributesIn 0 (take (h - (at + 1 + n)) (drop (at + 1 + n) d))) → {w : Verdict} → w ≡ pickedBy f j
+      → Judges w
+  judged-tested ek ej ew = tested (rw (rw ek at ej) at ew)
 
 pub ruleset judging = (judged-unselected, judged-untested, judged-tested, needs)

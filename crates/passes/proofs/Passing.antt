@@ -33,10 +33,11 @@ use Rattle.document.specs.declared.judge.Judged.the-variants.{Sound}
 use Rattle.document.proofs.After.{start-room}
 use Rattle.document.proofs.Placing.{not-among}
 use Rattle.document.proofs.Judging.{Judging, judge-start, judge-fault, judge-over, fine-ahead, scan-inside, scan-less, scan-on}
+use Rattle.attributes.specs.Attribute.{Attribute}
 use Rattle.attributes.specs.Held.{attributesIn, attributesOf}
 use Rattle.attributes.proofs.Placed.{attributes-behind}
 use Rattle.matcher.specs.Says.{verdictOf}
-use Rattle.matcher.specs.Picked.{pickedOf, Untested}
+use Rattle.matcher.specs.Picked.{passingOf, pickedBy, Untested}
 use Rattle.matcher.specs.Fit.{fitFor}
 use Rattle.matcher.specs.State.{freshState, deeperOf, verdictBy, selectingBy, stateOf, testsBy}
 use Rattle.matcher.specs.declared.Verdict.{Verdict}
@@ -402,12 +403,13 @@ module _ {list d o₀ g₀ : List ℕ} {states : List MatchState} {starts lens :
             verdict-is (plain-is ew
             ∙ untested-told list sound (above d starts lens (opened .level .0)) (nameFrom d (at + 1) n) (attributesOf tag) u)
 
-        pub verdict-tested : {w : Verdict} → w ≡ pickedOf (listPaths list) (selectingBy parent fit) (attributesOf tag) → TagVerdict w
+        pub verdict-tested : {w : Verdict} → w ≡ pickedBy fit (passingOf (listPaths list) (selectingBy parent fit) (attributesOf tag))
+            → TagVerdict w
         verdict-tested ew =
             let m = stateOf (listPaths list) (above d starts lens (opened .level .0)) in
             verdict-is (ew
-            ∙ ap (λ (y : MatchState). pickedOf (listPaths list) (selectingBy y fit) (attributesOf tag)) parent-state
-            ∙ ap (λ (y : Fit). pickedOf (listPaths list) (selectingBy m y) (attributesOf tag)) fit-is
+            ∙ ap (λ (y : MatchState). pickedBy fit (passingOf (listPaths list) (selectingBy y fit) (attributesOf tag))) parent-state
+            ∙ ap (λ (y : Fit). pickedBy y (passingOf (listPaths list) (selectingBy m y) (attributesOf tag))) fit-is
             ∙ verdict-told list sound (above d starts lens (opened .level .0)) (nameFrom d (at + 1) n) (attributesOf tag))
 
         -- the attributes are those that stand behind the name
@@ -418,7 +420,9 @@ module _ {list d o₀ g₀ : List ℕ} {states : List MatchState} {starts lens :
             parent fit w → TagVerdict w
         verdict-judged (unselected ew eu) = verdict-unselected ew eu
         verdict-judged (untested ew u) = verdict-untested ew u
-        verdict-judged (tested ew) = verdict-tested (ew ∙ ap (pickedOf (listPaths list) (selectingBy parent fit)) (sym tag-attributes))
+        verdict-judged (tested ew) =
+            verdict-tested (ew
+            ∙ ap (λ (xs : List Attribute). pickedBy fit (passingOf (listPaths list) (selectingBy parent fit) xs)) (sym tag-attributes))
 
         -- the state below the element
         abbrev pub TagStored : List MatchState → Type 0

@@ -48,7 +48,7 @@ use scans::mark::before16;
 use tags::Item;
 use tags::usual::next_tag;
 use tests::any;
-use tests::picked;
+use tests::passing;
 
 // What a pass comes to: the length of the cut, the number of elements selected, that of the name tests tried and that of the notes; or the
 // item at fault.
@@ -229,7 +229,8 @@ fn judged(
     if tested {
         let from = at + 1 + name;
         let selecting = parent.selecting(fit);
-        return picked(table, list, t, selecting, &doc[from..head]);
+        let passed = passing(table, list, t, selecting, &doc[from..head]);
+        return fit.verdict_of(passed);
     }
     plain
 }

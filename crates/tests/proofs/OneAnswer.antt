@@ -3,12 +3,12 @@
 use mathlib.Core.Path.{sym, _∙_}
 use Rattle.contracts.specs.One.{OneResult}
 use Rattle.tests.proofs.any.Reads as any
-use Rattle.tests.proofs.picked.Reads as picked
+use Rattle.tests.proofs.passing.Reads as passing
 
 -- `any`
 pub any-one : OneResult any.Asked any.Learnt
 any-one κs a z z′ e e′ x p q = p ∙ sym q
 
--- `picked`
-pub picked-one : OneResult picked.Asked picked.Learnt
-picked-one κs a z z′ e e′ x p q = p ∙ sym q
+-- `passing`
+pub passing-one : OneResult passing.Asked passing.Learnt
+passing-one κs a z z′ e e′ x p q = p ∙ sym q

@@ -5,7 +5,6 @@ use mathlib.Core.Bool.{Bool, true, false}
 use mathlib.Core.List.{List, [], _∷_, _++_, map}
 use mathlib.Core.Option.{Option, none, some}
 use Prim.Native.Nat.{ℕ, zero, suc, _+_, _-_, _^_, _≤_, _<_}
-use native.Mathlib.Nat.{pow-zero, pow-le-pow-right}
 use native.Mathlib.Omega.{arith}
 use borrow.Author.Needs.{needs}
 use borrow.Author.Tests.{ltb-true, ltb-false}
@@ -30,6 +29,7 @@ use Rattle.attributes.specs.Attribute.{Attribute}
 use Rattle.attributes.specs.Held.{hasAttribute}
 use Rattle.matcher.specs.Fit.{Serves}
 use Rattle.matcher.specs.Pick.{passesTest}
+use Rattle.matcher.proofs.Verdicts.{last-some}
 use Rattle.tests.specs.Passing.{results, passesAt}
 
 -- ---- a path by its number
@@ -59,13 +59,6 @@ get-at : {A : Type 0} (f : Path → A) (x : A) (done : List Path) (q : Path) (re
 get-at f x [] q rest = refl
 get-at f x (p ∷ done) q rest = get-at f x done q rest
 
-pub last-some : (q : Path) → 0 < lastBit q
-last-some q =
-    let i : 0 ≤ length (q .steps) - 1 = omega arith in
-    let z : 2 ^ 0 ≤ 2 ^ (length (q .steps) - 1) = pow-le-pow-right {n = 2} (omega arith) i in
-    let y = pow-zero 2 in
-    omega arith
-
 module _ {d : List ℕ} {p : ℕ} (v : AtPath d p) where
   got : {A : Type 0} (f : Path → A) (x : A) → getD (map f (listPaths d)) p x ≡ f (v .path)
   got f x =
@@ -85,7 +78,7 @@ module _ {d t : List ℕ} (s : Serves d t) {p : ℕ} (l : p < 32) where
   abbrev ps : List Path
   ps = listPaths d
 
-  pub column : (i : ℕ) (r : List ℕ) → take 32 (drop i (tablesOf ps)) ≡ r → getD t (i + p) 0 ≡ getD r p 0
+  column : (i : ℕ) (r : List ℕ) → take 32 (drop i (tablesOf ps)) ≡ r → getD t (i + p) 0 ≡ getD r p 0
   column i r e =
       ap (λ (u : List ℕ). getD u (i + p) 0) (s .tables)
       ∙ sym (getD-drop i (tablesOf ps) p 0)

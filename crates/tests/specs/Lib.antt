@@ -1,3 +1,3 @@
--- What the functions answer: whether there is a test, what each path passes,
--- and the verdict with one path more.
+-- What the functions answer by: whether there is a test,
+-- and what each path passes.
 pub mod Passing

@@ -1,5 +1,5 @@
--- Whether a list has a test, by its paths and by their places in the tables; what each path passes, where a path without a test is passed,
--- and one that is not there is not; and the verdict with one path more.
+-- Whether a list has a test, by its paths and by their places in the tables; and what each path passes, where a path without a test is
+-- passed, and one that is not there is not.
 use mathlib.Core.Bool.{Bool, true, false, not, _||_}
 use mathlib.Core.List.{List, [], _∷_, map}
 use mathlib.Core.Option.{Option, none, some}
@@ -9,8 +9,6 @@ use lib.ListN.{getD}
 use Rattle.paths.specs.Path.{AttributeTest, Path}
 use Rattle.attributes.specs.Attribute.{Attribute}
 use Rattle.matcher.specs.Pick.{passesTest}
-use Rattle.matcher.specs.declared.Verdict.{Verdict}
-use Rattle.matcher.specs.declared.Verdict.the-variants.{Unselected, Selected, Marked}
 
 abbrev pub isTest : Option AttributeTest → Bool
 isTest none = false
@@ -31,11 +29,3 @@ results ps xs = map (λ p. passesTest (p .test) xs) ps
 
 unfoldable pub passesAt : List Path → List Attribute → ℕ → Bool
 passesAt ps xs p = getD (results ps xs) p false
-
--- a path whose steps select: whether its test is passed, whether it is marked, and the verdict of the others
-unfoldable pub withPath : Bool → Bool → Verdict → Verdict
-withPath false m w = w
-withPath true true w = Marked
-withPath true false Marked = Marked
-withPath true false Selected = Selected
-withPath true false Unselected = Selected

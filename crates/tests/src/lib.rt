@@ -1,5 +1,5 @@
-// The attribute tests of a compiled list: whether a path has one, and what the list says of an element by those that its tag passes. A test
-// is read where it stands in the list; the attributes are those of a tag's head, behind `<` and the name.
+// The attribute tests of a compiled list: whether a path has one, and which of them a tag passes. A test is read where it stands in the
+// list; the attributes are those of a tag's head, behind `<` and the name.
 ghost use mathlib.Core.Path.{_≡_};
 ghost use Prim.Native.Nat.{_-_, _^_, _<_};
 ghost use lib.ListN.{length, take, drop};
@@ -7,13 +7,11 @@ ghost use Rattle.points.specs.Class.{classTable};
 ghost use Rattle.paths.specs.Judge.{listPaths};
 ghost use Rattle.attributes.specs.Held.{attributesIn};
 ghost use Rattle.matcher.specs.Fit.{Serves};
-ghost use Rattle.matcher.specs.Picked.{pickedOf};
-ghost use Rattle.matcher.specs.State.{nonzero};
-ghost use Rattle.tests.specs.Passing.{somePlace, passesAt, withPath};
+ghost use Rattle.matcher.specs.Picked.{passingOf};
+ghost use Rattle.tests.specs.Passing.{somePlace, passesAt};
 use attribute::has::has;
 use compiled::Compiled;
 use compiled::layout;
-use matcher::Verdict;
 use paths::LineEnd;
 use paths::end_at;
 use points::table::Classes;
@@ -69,53 +67,38 @@ fn passes(classes: &Classes, list: &[u8], t: &[u16], tag: &[u8], p: usize) -> bo
     }
 }
 
-// The verdict with one path more, whose steps select the element: marked if the tag passes its test and its mark is not 0.
-fn with_path(rest: Verdict, passed: bool, mark: u16) -> Verdict
-    ensures { λ r. ⌜ r ≡ withPath passed (nonzero mark) rest ⌝ }
-{
-    if !passed {
-        return rest;
-    }
-    if mark != 0 {
-        return Verdict::Marked;
-    }
-    match rest {
-        Verdict::Marked => Verdict::Marked,
-        Verdict::Selected => Verdict::Selected,
-        Verdict::Unselected => Verdict::Selected,
-    }
-}
-
-// The verdict by path p and those after it, where bit 0 of `selecting` is path p's. It calls itself, and is no loop, so that it stays out
-// of the loop over the items, which is faster for it.
-fn picked_from(
+// Of path p and those after it, where bit 0 of `selecting` is path p's. It calls itself, and is no loop, so that it stays out of the loop
+// over the items, which is faster for it.
+fn passing_from(
     classes: &Classes,
     list: &[u8],
     t: &[u16],
     selecting: u32,
     tag: &[u8],
     p: usize,
-) -> Verdict
+) -> u32
     requires { ⌜ (now classes ≡ classTable) × Serves (now list) (now t) × (length (now t) ≡ 18400) × (selecting < 2 ^ (32 - p)) ⌝ }
-    ensures { λ r. ⌜ r ≡ pickedOf (drop p (listPaths (now (list .entry)))) selecting (attributesIn 0 (now (tag .entry))) ⌝ }
+    ensures { λ r. ⌜ r ≡ passingOf (drop p (listPaths (now (list .entry)))) selecting (attributesIn 0 (now (tag .entry))) ⌝ }
 {
     if selecting == 0 {
-        return Verdict::Unselected;
+        return 0;
     }
-    let rest = picked_from(classes, list, t, selecting / 2, tag, p + 1);
+    let rest = passing_from(classes, list, t, selecting / 2, tag, p + 1) * 2;
     if selecting % 2 == 0 {
         return rest;
     }
-    let passed = passes(classes, list, t, tag, p);
-    with_path(rest, passed, t[layout::MARKS + p])
+    if passes(classes, list, t, tag, p) {
+        return rest + 1;
+    }
+    rest
 }
 
-// The verdict on an element by the paths whose steps select it: bit p is path p's, and bits past the last path say nothing. The tests of
-// these paths alone are tried.
-pub fn picked(classes: &Classes, list: &[u8], t: &Compiled, selecting: u32, tag: &[u8]) -> Verdict
+// Of the paths whose bit is set in `selecting`, those whose test the tag passes, or that have none: bit p is path p's. The tests of these
+// paths alone are tried, and bits past the last path say nothing.
+pub fn passing(classes: &Classes, list: &[u8], t: &Compiled, selecting: u32, tag: &[u8]) -> u32
     requires { ⌜ (now classes ≡ classTable) × Serves (now list) (now t) ⌝ }
-    ensures { λ r. ⌜ r ≡ pickedOf (listPaths (now (list .entry))) selecting (attributesIn 0 (now (tag .entry))) ⌝ }
+    ensures { λ r. ⌜ r ≡ passingOf (listPaths (now (list .entry))) selecting (attributesIn 0 (now (tag .entry))) ⌝ }
 {
     let s = &t[..];
-    picked_from(classes, list, s, selecting, tag, 0)
+    passing_from(classes, list, s, selecting, tag, 0)
 }

@@ -21,17 +21,20 @@ add-from-2 c = search judging
 selecting-requires : tie.Need-selecting-requires
 selecting-requires c κs = search judging
 
-sub-picked : tie.Need-sub-picked
-sub-picked c = search judging
+sub-passing : tie.Need-sub-passing
+sub-passing c = search judging
 
-part-picked-start : tie.Need-part-picked-start
-part-picked-start c = search judging
+part-passing-start : tie.Need-part-passing-start
+part-passing-start c = search judging
 
-part-picked-end : tie.Need-part-picked-end
-part-picked-end c = search judging
+part-passing-end : tie.Need-part-passing-end
+part-passing-end c = search judging
 
-picked-requires : tie.Need-picked-requires
-picked-requires c κs = search judging
+passing-requires : tie.Need-passing-requires
+passing-requires c κs = search judging
+
+verdict-of-requires : tie.Need-verdict-of-requires
+verdict-of-requires c κs = search judging
 
 returns-2 : tie.Need-returns-2
 returns-2 c = search judging
@@ -49,9 +52,10 @@ judged-spec =
     add-from
     add-from-2
     selecting-requires
-    sub-picked
-    part-picked-start
-    part-picked-end
-    picked-requires
+    sub-passing
+    part-passing-start
+    part-passing-end
+    passing-requires
+    verdict-of-requires
     returns-2
     returns-3)
