@@ -1,5 +1,5 @@
--- The ways through `verdict_of`: the bits are taken off one by one from the lowest, with the column of the marks. In order: bits of which so
--- many are taken off; the marks.
+-- The ways through `verdict_of`: the bits are taken off one by one from the lowest, with the column of the marks.
+-- In order: bits of which some are taken off; the marks.
 use mathlib.Core.Path.{_≡_, refl, sym, ap, ap₂, _∙_}
 use mathlib.Core.Bool.{Bool, true, false, _&&_, _||_, and-false}
 use mathlib.Core.List.{List, [], _∷_}

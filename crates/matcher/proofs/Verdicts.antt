@@ -93,10 +93,6 @@ bits-listed f e (p ∷ ps) (suc n) l =
 
 -- ---- tests on all paths
 
-some-same : {f g : Path → Bool} → ((p : Path) → f p ≡ g p) → (ps : List Path) → some f ps ≡ some g ps
-some-same h [] = refl
-some-same h (p ∷ ps) = ap₂ (λ (a b : Bool). a || b) (h p) (some-same h ps)
-
 some-fewer : (f g : Path → Bool) → ((p : Path) → f p ≡ true → g p ≡ true) → (ps : List Path) → some g ps ≡ false → some f ps ≡ false
 some-fewer f g h [] e = refl
 some-fewer f g h (p ∷ ps) e = go (f p) (g p) (h p) e (some-fewer f g h ps)
@@ -161,7 +157,7 @@ module _ (ps : List Path) (few : length ps ≤ 32) (short : All (λ p. length (p
 -- ---- with attributes
 
 -- the bits of those that pick
-passing-are : (ps : List Path) (names : List (List ℕ)) (xs : List Attribute)
+pub passing-are : (ps : List Path) (names : List (List ℕ)) (xs : List Attribute)
     → passingOf ps (bitsOf (map (λ p. selects (p .steps) names) ps)) xs ≡ bitsOf (map (λ p. picks p names xs) ps)
 unfolding passingOf
 passing-are [] names xs = refl

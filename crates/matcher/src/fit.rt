@@ -1,5 +1,5 @@
 // What an element's name passes, for each path, with what the list says of the path's steps: all that matching needs of an element.
-// A name is looked up among the distinct names of the list, by its bytes.
+// A name is looked up among the distinct names of the list, by its bytes. Then the verdict by the paths whose attribute tests pass.
 ghost use mathlib.Core.Path.{_≡_};
 ghost use Rattle.paths.specs.Judge.{listPaths};
 ghost use Prim.Native.Nat.{_+_, _≤_};
@@ -68,8 +68,8 @@ pub fn fit_of(list: &[u8], t: &Compiled, name: &[u8]) -> Fit
 }
 
 impl Fit {
-    // What the list says of an element by the paths that pick it, those that select it and whose test it passes: bit p is path p's. Which
-    // tests are passed is all that comes here of its attributes.
+    // What the list says of an element, by those of the paths whose steps select it whose tests pass: bit p is path p's. Nothing else of
+    // its attributes comes here.
     pub fn verdict_of(self, passing: u32) -> Verdict
         ensures { λ r. ⌜ r ≡ pickedBy self passing ⌝ }
     {

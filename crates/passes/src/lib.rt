@@ -203,8 +203,8 @@ fn next_item(
 }
 
 // What the list says of an element. Where the steps of no path select it, or no path has a test (`tested`), its attributes are not looked
-// at; else the tests of the paths that select it are tried. Attributes stand in the tag, from behind the name, which has so many bytes, to
-// the end of the head.
+// at; else the tests of the paths that select it are tried, and the matcher is handed which of them pass. Attributes stand in the tag, from
+// behind the name, which has so many bytes, to the end of the head.
 fn judged(
     table: &Classes,
     list: &[u8],

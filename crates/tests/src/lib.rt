@@ -67,8 +67,8 @@ fn passes(classes: &Classes, list: &[u8], t: &[u16], tag: &[u8], p: usize) -> bo
     }
 }
 
-// Of path p and those after it, where bit 0 of `selecting` is path p's. It calls itself, and is no loop, so that it stays out of the loop
-// over the items, which is faster for it.
+// Those that pass of path p and the paths after it, where bit 0 is path p's. It calls itself, and is no loop, so that it stays out of the
+// loop over the items, which is faster for it.
 fn passing_from(
     classes: &Classes,
     list: &[u8],
@@ -93,8 +93,8 @@ fn passing_from(
     rest
 }
 
-// Of the paths whose bit is set in `selecting`, those whose test the tag passes, or that have none: bit p is path p's. The tests of these
-// paths alone are tried, and bits past the last path say nothing.
+// Of the paths whose steps select an element, those whose test its tag passes or that have none: bit p is path p's. The tests of the paths
+// that select alone are tried; bits past the last path say nothing, and are 0 in the answer.
 pub fn passing(classes: &Classes, list: &[u8], t: &Compiled, selecting: u32, tag: &[u8]) -> u32
     requires { ⌜ (now classes ≡ classTable) × Serves (now list) (now t) ⌝ }
     ensures { λ r. ⌜ r ≡ passingOf (listPaths (now (list .entry))) selecting (attributesIn 0 (now (tag .entry))) ⌝ }
