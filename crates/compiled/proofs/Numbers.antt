@@ -19,7 +19,7 @@ use Rattle.compiled.proofs.Alls.{all-map}
 use Rattle.lookup.proofs.Places.{place-least}
 use Rattle.compiled.proofs.Firsts.{HasTest, firsts-append, firsts-kept, names-have, firsts-few, lists-few, steps-few}
 use Rattle.compiled.proofs.Bits.{bits-below, bits-snoc, map-snoc, column-long, column-get, column-snoc, column-alike}
-use Rattle.compiled.proofs.Listed.{listed-entry, listed-set}
+use Rattle.compiled.proofs.Listed.{listed-long, listed-entry, listed-set}
 
 -- ---- names
 
@@ -55,6 +55,18 @@ names-room done q l a h =
     let u = ap length e in
     omega arith
 
+-- ---- how long the rows are
+
+pub row-long : (ns : List Named) (ps : List Path) → length ps ≤ 32 → (k : ℕ) → length (numberRow ns ps k) ≡ 32
+unfolding numberRow
+row-long ns ps l k = column-long _ ps l
+
+pub numbers-long : (ps : List Path) → length ps ≤ 32 → length (numberRows ps) ≡ 16416
+unfolding numberRows
+numbers-long ps l = listed-long (numberRow (namesOf ps) ps) (row-long (namesOf ps) ps l) 513
+
+-- ---- the names with one more step
+
 module _ (done : List Path) (q : Path) (s : Step) where
   abbrev stepPlace : ℕ
   stepPlace = length (printList done) + length (printAll printStep (q .steps)) + length (printKind (s .kind))
@@ -71,7 +83,7 @@ module _ (done : List Path) (q : Path) (s : Step) where
       let f : listNames 0 (done ++ q ∷ []) ≡ a ++ b = lists-snoc 0 done q ∙ rw (zero-add (length (printList done))) in
       rw (e, f, ← append-assoc a b t) (firsts-append (a ++ b) t [])
 
-  -- ---- rows
+  -- ---- rows with one more step
 
   abbrev before : List Named
   before = namesOf (done ++ q ∷ [])
@@ -131,9 +143,8 @@ module _ (done : List Path) (q : Path) (s : Step) where
         go any = omega arith
         go (named m) = let z = place-least after m in omega arith
 
-    row-long : (k : ℕ) → length (numberRow before (done ++ q ∷ []) k) ≡ 32
-    unfolding numberRow
-    row-long k = column-long _ (done ++ q ∷ []) (rw (length-append done (q ∷ [])) (omega arith))
+    each-long : (k : ℕ) → length (numberRow before (done ++ q ∷ []) k) ≡ 32
+    each-long = row-long before (done ++ q ∷ []) (rw (length-append done (q ∷ [])) (omega arith))
 
     abbrev cell : ℕ
     cell = 32 * numberOf after (s .test) + length done
@@ -142,7 +153,7 @@ module _ (done : List Path) (q : Path) (s : Step) where
         ≡ getD (numberRow before (done ++ q ∷ []) (numberOf after (s .test))) (length done) 0
     unfolding numberRows
     cell-is =
-        listed-entry (numberRow before (done ++ q ∷ [])) row-long 513 (numberOf after (s .test)) (length done) number-in l
+        listed-entry (numberRow before (done ++ q ∷ [])) each-long 513 (numberOf after (s .test)) (length done) number-in l
 
     pub last-cell : getD (numberRows (done ++ q ∷ [])) cell 0 < 2 ^ length (q .steps)
     unfolding numberRow
@@ -156,7 +167,7 @@ module _ (done : List Path) (q : Path) (s : Step) where
     unfolding numberRows
     rows-longer =
         rw cell-is
-        (listed-set (numberRow before (done ++ q ∷ [])) (numberRow after (done ++ longer q s ∷ [])) row-long
+        (listed-set (numberRow before (done ++ q ∷ [])) (numberRow after (done ++ longer q s ∷ [])) each-long
         (numberOf after (s .test)) (length done)
         (getD (numberRow before (done ++ q ∷ []) (numberOf after (s .test))) (length done) 0 + 2 ^ length (q .steps))
         l others this 513 number-in)

@@ -6,7 +6,8 @@ use mathlib.Core.List.{List, [], _∷_, _++_, append-assoc, append-nil, append-c
 use Prim.Native.Nat.{ℕ, _+_, _-_, _≤_, _<_}
 use native.Mathlib.Omega.{arith}
 use borrow.Author.Needs.{needs}
-use lib.ListN.{length, set, replicate, length-append}
+use lib.ListN.{length, take, set, replicate, length-append, length-replicate, replicate-append-replicate}
+use lib.Seq.{take-at, drop-at, sets}
 use Rattle.paths.specs.Path.{Path, printStep, printAll, printLine, printList}
 use Rattle.paths.specs.Path.{none as nil}
 use Rattle.paths.specs.Reader.{endingOf, printEnd}
@@ -32,8 +33,9 @@ use Rattle.compiled.proofs.Alls.{all-map}
 use Rattle.compiled.proofs.Bits.{column-long, column-snoc}
 use Rattle.compiled.proofs.NameRows.{joined-zeros}
 use Rattle.compiled.proofs.Listed.{listed-constant}
+use Rattle.compiled.proofs.Numbers.{numbers-long}
 use Rattle.compiled.proofs.Spreading.{numbers-spreadable, numbers-spread}
-use Rattle.compiled.proofs.Laid.{Longs}
+use Rattle.compiled.proofs.Laid.{rowsIn, withRows, rows-stand, with-rows-long, Longs, laid-tables}
 use Rattle.compiled.proofs.InLine.{print-append, path-few, sound-bytes}
 use Rattle.compiled.proofs.Tests.{tests-long, tests-stored}
 use Rattle.compiled.proofs.Tested.{namePlace, place-tested, tail-stands, end-below}
@@ -57,25 +59,37 @@ unfolding numberRows numberRow column padded
 numbers-none =
     sym (ap joined (listed-constant (numberRow (namesOf []) []) (replicate 32 0) (λ k. refl) 0 513) ∙ joined-zeros 513)
 
-built-none : (d : List ℕ) → Built d (replicate 512 0) (replicate 512 0) (replicate 256 0) (replicate 512 0) (replicate 16416 0) 0 []
+-- zeros where the rows are
+zeros-in : rowsIn (replicate 18400 0) ≡ replicate 16416 0
+zeros-in =
+    let z : ℕ → List ℕ = λ n. replicate n 0 in
+    let a : z 18400 ≡ z 1792 ++ z 16608 = sym (replicate-append-replicate 1792 16608 0) in
+    let b : z 16608 ≡ z 16416 ++ z 192 = sym (replicate-append-replicate 16416 192 0) in
+    ap rowsIn a
+    ∙ ap (take 16416) (drop-at (z 1792) (z 16608) 1792 (length-replicate {A = ℕ} 1792 0) ∙ b)
+    ∙ take-at (z 16416) (z 192) 16416 (length-replicate {A = ℕ} 16416 0)
+
+built-none : (d : List ℕ) → Built d (replicate 512 0) (replicate 512 0) (replicate 256 0) (replicate 512 0) (rowsIn (replicate 18400 0)) 0 []
 unfolding namesOf chainsOf padded
 built-none d =
     record {
       indexed = record { few = omega arith; once = first; stand = nil; at-is = refl; len-is = refl; head-is = refl; next-is = refl };
       count = refl;
-      rows-are = numbers-none;
+      rows-are = zeros-in ∙ numbers-none;
     }
 
 -- ---- the lines
 
-pub record Lining (d at len head next rows stays goes far lasts marks tests : List ℕ) (names p place : ℕ) : Type 0 where
+-- t has the rows of the paths done
+pub record Lining (d at len head next t stays goes far lasts marks tests : List ℕ) (names p place : ℕ) : Type 0 where
   pub sound : listAnswer d ≡ Sound
   pub done : List Path
   pub left : List Path
   pub all : listPaths d ≡ done ++ left
   pub p-is : p ≡ length done
   pub place-is : place ≡ length (printList done)
-  pub built : Built d at len head next rows names done
+  pub long : length t ≡ 18400
+  pub built : Built d at len head next (rowsIn t) names done
   pub stays-are : stays ≡ staysOf done
   pub goes-are : goes ≡ goesOf done
   pub far-are : far ≡ farOf done
@@ -83,11 +97,11 @@ pub record Lining (d at len head next rows stays goes far lasts marks tests : Li
   pub marks-are : marks ≡ marksOf done
   pub tests-are : tests ≡ testsOf done
 
-pub lines-start : {d : List ℕ} → listAnswer d ≡ Sound
-    → Lining d (replicate 512 0) (replicate 512 0) (replicate 256 0) (replicate 512 0) (replicate 16416 0)
+pub lines-start : {d t : List ℕ} → listAnswer d ≡ Sound → t ≡ replicate 18400 0
+    → Lining d (replicate 512 0) (replicate 512 0) (replicate 256 0) (replicate 512 0) t
     (replicate 32 0) (replicate 32 0) (replicate 32 0) (replicate 32 0) (replicate 32 0) (replicate 32 0) 0 0 0
 unfolding staysOf goesOf farOf lastsOf marksOf testsOf column padded printList
-lines-start {d} s =
+lines-start {d} s z =
     record {
       sound = s;
       done = [];
@@ -95,7 +109,8 @@ lines-start {d} s =
       all = refl;
       p-is = refl;
       place-is = refl;
-      built = built-none d;
+      long = rw z (length-replicate {A = ℕ} 18400 0);
+      built = rw z (built-none d);
       stays-are = refl;
       goes-are = refl;
       far-are = refl;
@@ -123,8 +138,8 @@ sound-sized d e =
     let (p, g, f) = paths-print d e in
     record { few = f; short = all-map (λ q h. h .within .steps) g; bytes = rw p (sound-bytes d e) }
 
-module _ {d at len head next rows stays goes far lasts marks tests : List ℕ} {names p place : ℕ}
-    (v : Lining d at len head next rows stays goes far lasts marks tests names p place) where
+module _ {d at len head next t stays goes far lasts marks tests : List ℕ} {names p place : ℕ}
+    (v : Lining d at len head next t stays goes far lasts marks tests names p place) where
   prints : printList (v .done ++ v .left) ≡ d
   prints = rw (v .all) at (paths-print d (v .sound) .0)
 
@@ -137,11 +152,11 @@ module _ {d at len head next rows stays goes far lasts marks tests : List ℕ} {
       ∙ ap (λ (n : ℕ). n + length (printList (v .left))) (sym (v .place-is))
 
   -- a line is left
-  pub lines-line : place < length d → AtLine d at len head next rows names p place
+  pub lines-line : place < length d → AtLine d at len head next (rowsIn t) names p place
   unfolding printList
   lines-line l = go (v .left) refl
     where
-      go : (qs : List Path) → v .left ≡ qs → AtLine d at len head next rows names p place
+      go : (qs : List Path) → v .left ≡ qs → AtLine d at len head next (rowsIn t) names p place
       go [] e = absurd (let a = place-in in let b : length (printList (v .left)) ≡ 0 = rw e in omega arith)
       go (q ∷ rest) e =
           record {
@@ -171,15 +186,22 @@ module _ {d at len head next rows stays goes far lasts marks tests : List ℕ} {
     abbrev path : Path
     path = w .here .path
 
+    rows-size : length rows′ ≡ 16416
+    rows-size =
+        let l = length-append (w .here .done) (path ∷ []) in
+        let f = lines-few in
+        let e = w .here .p-is in
+        rw (w .built .rows-are) (numbers-long (w .here .done ++ path ∷ []) (omega arith))
+
     pub lines-place : r .end < 65536
     lines-place = rw (w .end-is) (end-below (w .here))
 
-    module _ {t : Tail} (g : t ≡ tailOf (lineEndAt d (r .end)) (r .end)) where
-      tailed : t
+    module _ {tail : Tail} (g : tail ≡ tailOf (lineEndAt d (r .end)) (r .end)) where
+      tailed : tail
           ≡ record { test = namePlace (path .test) (r .end); marked = path .marked; next = r .end + length (printEnd (endingOf path)) }
       tailed = g ∙ tail-stands (w .here) (r .end) (w .end-is)
 
-      next-is : t .next ≡ length (printList (v .done ++ path ∷ []))
+      next-is : tail .next ≡ length (printList (v .done ++ path ∷ []))
       unfolding printList
       next-is =
           let a = ap (λ (x : Tail). x .next) tailed in
@@ -194,7 +216,7 @@ module _ {d at len head next rows stays goes far lasts marks tests : List ℕ} {
           let i = ap length (append-nil (printEnd (endingOf path))) in
           rw (← same-done) (omega arith)
 
-      pub lines-less : length d - t .next < length d - place
+      pub lines-less : length d - tail .next < length d - place
       unfolding printList
       lines-less =
           let a = next-is in
@@ -213,9 +235,9 @@ module _ {d at len head next rows stays goes far lasts marks tests : List ℕ} {
               append-cancel-left (v .done) (v .left) (path ∷ w .here .rest)
               (sym (v .all) ∙ w .here .all ∙ ap (λ (l : List Path). l ++ path ∷ w .here .rest) same-done)
 
-      pub lines-more : {x y : ℕ} → x ≡ cond (t .marked) (r .last) 0 → y ≡ ifTested (t .test) (r .end)
-          → Lining d at′ len′ head′ next′ rows′ (set stays p (r .stays)) (set goes p (r .goes)) (set far p (r .far)) (set lasts p (r .last))
-          (set marks p x) (set tests p y) (r .names) (p + 1) (t .next)
+      pub lines-more : {x y : ℕ} → x ≡ cond (tail .marked) (r .last) 0 → y ≡ ifTested (tail .test) (r .end)
+          → Lining d at′ len′ head′ next′ (withRows t rows′) (set stays p (r .stays)) (set goes p (r .goes)) (set far p (r .far))
+          (set lasts p (r .last)) (set marks p x) (set tests p y) (r .names) (p + 1) (tail .next)
       unfolding staysOf goesOf farOf lastsOf marksOf
       lines-more {x} {y} e h =
           let l : length (v .done) < 32 = rw (← v .p-is) lines-few in
@@ -238,7 +260,8 @@ module _ {d at len head next rows stays goes far lasts marks tests : List ℕ} {
                 ∙ sym (append-assoc (v .done) (path ∷ []) (w .here .rest));
             p-is = rw (length-append (v .done) (path ∷ [])) (ap (λ (n : ℕ). n + 1) (v .p-is));
             place-is = next-is;
-            built = rw same-done at (w .built);
+            long = with-rows-long t rows′ (v .long) rows-size;
+            built = rw (rows-stand t rows′ (v .long) rows-size) (rw same-done at (w .built));
             stays-are = column-stored _ (v .done) path l (v .stays-are) (v .p-is) (w .stays-is);
             goes-are = column-stored _ (v .done) path l (v .goes-are) (v .p-is) (w .goes-is);
             far-are = column-stored _ (v .done) path l (v .far-are) (v .p-is) (w .far-is);
@@ -306,15 +329,18 @@ module _ {d at len head next rows stays goes far lasts marks tests : List ℕ} {
     sized : Sized (listPaths d)
     sized = sound-sized d (v .sound)
 
-    rows-are : rows ≡ numberRows (listPaths d)
+    rows-are : rowsIn t ≡ numberRows (listPaths d)
     rows-are = v .built .rows-are ∙ ap numberRows all-done
 
-    pub lines-spreadable : Spreadable rows
+    pub lines-spreadable : Spreadable (rowsIn t)
     lines-spreadable = rw rows-are (numbers-spreadable (listPaths d) sized)
 
-    module _ {rows′ : List ℕ} (s : Spread rows rows′) where
-      pub lines-long : Longs at len head next rows′ stays goes far lasts marks tests
-      lines-long =
+    module _ {rows′ : List ℕ} (s : Spread (rowsIn t) rows′) where
+      pub lines-long : length (withRows t rows′) ≡ 18400
+      lines-long = with-rows-long t rows′ (v .long) (s .long)
+
+      sizes : Longs at len head next rows′ stays goes far lasts marks tests
+      sizes =
           record {
             at-long = at-size;
             len-long = len-size;
@@ -330,10 +356,9 @@ module _ {d at len head next rows stays goes far lasts marks tests : List ℕ} {
           }
 
       -- each is that of the list's paths
-      pub lines-end : joined (at ∷ len ∷ head ∷ next ∷ rows′ ∷ stays ∷ goes ∷ far ∷ lasts ∷ marks ∷ tests ∷ [])
-          ≡ tablesOf (listPaths d)
+      all-are : joined (at ∷ len ∷ head ∷ next ∷ rows′ ∷ stays ∷ goes ∷ far ∷ lasts ∷ marks ∷ tests ∷ []) ≡ tablesOf (listPaths d)
       unfolding tablesOf
-      lines-end =
+      all-are =
           let i : Indexed d at len head next (namesOf (listPaths d)) = rw all-done at (v .built .indexed) in
           let u : stays ≡ staysOf (listPaths d) = rw all-done at (v .stays-are) in
           let w : goes ≡ goesOf (listPaths d) = rw all-done at (v .goes-are) in
@@ -343,5 +368,11 @@ module _ {d at len head next rows stays goes far lasts marks tests : List ℕ} {
           let o : tests ≡ testsOf (listPaths d) = rw all-done at (v .tests-are) in
           let r = numbers-spread (listPaths d) sized (rw rows-are at s) in
           cc (i .at-is, i .len-is, i .head-is, i .next-is)
+
+      -- the others are laid around the rows
+      pub lines-end : {t₁ t₂ : List ℕ} → t₁ ≡ sets (sets (sets (sets (withRows t rows′) 0 at) 512 len) 1024 head) 1280 next
+          → t₂ ≡ sets (sets (sets (sets (sets (sets t₁ 18208 stays) 18240 goes) 18272 far) 18304 lasts) 18336 marks) 18368 tests
+          → t₂ ≡ tablesOf (listPaths d)
+      lines-end e f = laid-tables sizes (withRows t rows′) lines-long (rows-stand t rows′ (v .long) (s .long)) e f ∙ all-are
 
 pub ruleset over-lines = (lines-start, lines-line, lines-few, lines-less, lines-place, lines-more, lines-spreadable, needs)

@@ -22,10 +22,11 @@ use Rattle.xml.proofs.Same.{same-equal, same-refl}
 use Rattle.compiled.proofs.Alls.{all-map}
 use Rattle.lookup.proofs.Places.{nameAt, place-least, place-says, place-once}
 use Rattle.compiled.proofs.Firsts.{HasTest, names-have, names-once, names-few}
-use Rattle.compiled.proofs.Bits.{bits-both, column-long, column-get, column-alike}
+use Rattle.compiled.proofs.Bits.{bits-both, column-get, column-alike}
 use Rattle.compiled.proofs.NameRows.{rowList, rows-long, rows-get, name-row, past-row}
 use Rattle.compiled.proofs.Sizes.{rows-below}
-use Rattle.compiled.proofs.Listed.{listed-entry, listed-long}
+use Rattle.compiled.proofs.Listed.{listed-entry}
+use Rattle.compiled.proofs.Numbers.{row-long, numbers-long}
 
 -- ---- `spread`
 
@@ -174,17 +175,9 @@ module _ (ps : List Path) (s : Sized ps) where
       go (p ∷ ps′) zero = let z = sum-bits k p in omega arith
       go (p ∷ ps′) (suc i) = go ps′ i
 
-  row-long : (k : ℕ) → length (numberRow ns ps k) ≡ 32
-  unfolding numberRow
-  row-long k = column-long _ ps (s .few)
-
-  pub numbers-long : length (numberRows ps) ≡ 16416
-  unfolding numberRows
-  numbers-long = listed-long (numberRow ns ps) row-long 513
-
   numbers-entry : (k p : ℕ) → k < 513 → p < 32 → getD (numberRows ps) (32 * k + p) 0 ≡ getD (numberRow ns ps k) p 0
   unfolding numberRows
-  numbers-entry k p l h = listed-entry (numberRow ns ps) row-long 513 k p l h
+  numbers-entry k p l h = listed-entry (numberRow ns ps) (row-long ns ps (s .few)) 513 k p l h
 
   rows-entry : (k p : ℕ) → k < 513 → p < 32 → getD (rowsOf ps) (32 * k + p) 0 ≡ getD (getD (rowList ps) k []) p 0
   rows-entry k p l h =
@@ -219,7 +212,7 @@ module _ (ps : List Path) (s : Sized ps) where
 
   pub numbers-spreadable : Spreadable (numberRows ps)
   numbers-spreadable =
-      record { long = numbers-long; fits = λ i l h. rw (← other-at i l h) (rows-below ps s i) }
+      record { long = numbers-long ps (s .few); fits = λ i l h. rw (← other-at i l h) (rows-below ps s i) }
 
   pub numbers-spread : {l : List ℕ} → Spread (numberRows ps) l → l ≡ rowsOf ps
   numbers-spread {l} v =

@@ -2,7 +2,7 @@
 // path.
 ghost use mathlib.Core.Path.{_≡_};
 ghost use Prim.Native.Nat.{_+_, _≤_};
-ghost use lib.ListN.{length};
+ghost use lib.ListN.{length, replicate};
 ghost use lib.Seq.{sets};
 ghost use Rattle.paths.specs.Judge.{listAnswer, listPaths};
 ghost use Rattle.paths.specs.declared.ListAnswer.the-variants.{Sound};
@@ -18,8 +18,8 @@ use paths::ListAnswer;
 use paths::answer;
 
 // One table is laid into all of them, from a place on.
-fn lay(t: &mut Compiled, from: usize, part: &[u16])
-    requires { ⌜ from + length (now part) ≤ 18400 ⌝ }
+fn lay(t: &mut [u16], from: usize, part: &[u16])
+    requires { ⌜ from + length (now part) ≤ length (now t) ⌝ }
     ensures { λ r. ⌜ now (t .exit) ≡ sets (now (t .entry)) from (now (part .entry)) ⌝ }
 {
     let mut i: usize = 0;
@@ -29,31 +29,29 @@ fn lay(t: &mut Compiled, from: usize, part: &[u16])
     }
 }
 
-// The tables of names are laid, and the rows.
+// The tables of names are laid.
 fn lay_names(
-    t: &mut Compiled,
+    t: &mut [u16],
     at: &[u16; layout::NAMES],
     len: &[u16; layout::NAMES],
     head: &[u16; layout::HEADS],
     next: &[u16; layout::NAMES],
-    rows: &[u16; layout::ENTRIES],
 )
     requires { ⌜ (length (now at) ≡ 512) × (length (now len) ≡ 512) × (length (now head) ≡ 256) × (length (now next) ≡ 512)
-        × (length (now rows) ≡ 16416) ⌝ }
+        × (length (now t) ≡ 18400) ⌝ }
     ensures { λ r.
-        ⌜ now (t .exit) ≡ sets (sets (sets (sets (sets (now (t .entry)) 0 (now (at .entry))) 512 (now (len .entry))) 1024
-        (now (head .entry))) 1280 (now (next .entry))) 1792 (now (rows .entry)) ⌝ }
+        ⌜ now (t .exit) ≡ sets (sets (sets (sets (now (t .entry)) 0 (now (at .entry))) 512 (now (len .entry))) 1024 (now (head .entry))) 1280
+        (now (next .entry)) ⌝ }
 {
     lay(t, layout::AT, at);
     lay(t, layout::LEN, len);
     lay(t, layout::HEAD, head);
     lay(t, layout::NEXT, next);
-    lay(t, layout::ROWS, rows);
 }
 
-// The columns are laid, behind them.
+// The columns are laid, behind the rows.
 fn lay_columns(
-    t: &mut Compiled,
+    t: &mut [u16],
     stays: &[u16; layout::PATHS],
     goes: &[u16; layout::PATHS],
     far: &[u16; layout::PATHS],
@@ -62,7 +60,7 @@ fn lay_columns(
     tests: &[u16; layout::PATHS],
 )
     requires { ⌜ (length (now stays) ≡ 32) × (length (now goes) ≡ 32) × (length (now far) ≡ 32) × (length (now lasts) ≡ 32)
-        × (length (now marks) ≡ 32) × (length (now tests) ≡ 32) ⌝ }
+        × (length (now marks) ≡ 32) × (length (now tests) ≡ 32) × (length (now t) ≡ 18400) ⌝ }
     ensures { λ r.
         ⌜ now (t .exit) ≡ sets (sets (sets (sets (sets (sets (now (t .entry)) 18208 (now (stays .entry))) 18240 (now (goes .entry))) 18272
         (now (far .entry))) 18304 (now (lasts .entry))) 18336 (now (marks .entry))) 18368 (now (tests .entry)) ⌝ }
@@ -75,9 +73,9 @@ fn lay_columns(
     lay(t, layout::TESTS, tests);
 }
 
-// The tables of the paths of a sound list.
-fn compile(list: &[u8], t: &mut Compiled)
-    requires { ⌜ (listAnswer (now list) ≡ Sound) × (length (now t) ≡ 18400) ⌝ }
+// The tables of the paths of a sound list. The rows are most of them, and are made in their place, where there are zeros before.
+fn compile(list: &[u8], t: &mut [u16])
+    requires { ⌜ (listAnswer (now list) ≡ Sound) × (now t ≡ replicate 18400 0) ⌝ }
     ensures { λ r. ⌜ now (t .exit) ≡ tablesOf (listPaths (now (list .entry))) ⌝ }
 {
     let mut stays = [0u16; layout::PATHS];
@@ -90,7 +88,8 @@ fn compile(list: &[u8], t: &mut Compiled)
     let mut len = [0u16; layout::NAMES];
     let mut head = [0u16; layout::HEADS];
     let mut next = [0u16; layout::NAMES];
-    let mut rows = [0u16; layout::ENTRIES];
+    let from = layout::ROWS;
+    let to = layout::STAYS;
     let mut names: usize = 0;
     let mut p: usize = 0;
     let mut place: usize = 0;
@@ -101,7 +100,7 @@ fn compile(list: &[u8], t: &mut Compiled)
             &mut len,
             &mut head,
             &mut next,
-            &mut rows,
+            &mut t[from..to],
             names,
             p,
             place,
@@ -117,8 +116,8 @@ fn compile(list: &[u8], t: &mut Compiled)
         place = tail.next;
         p += 1;
     }
-    spread(&mut rows);
-    lay_names(t, &at, &len, &head, &next, &rows);
+    spread(&mut t[from..to]);
+    lay_names(t, &at, &len, &head, &next);
     lay_columns(t, &stays, &goes, &far, &lasts, &marks, &tests);
 }
 

@@ -3,8 +3,9 @@
 -- proofs/InLine.antt has the laws.
 use Prim.Native.Nat.{_-_}
 use native.Mathlib.Omega.{arith}
+use mathlib.Core.Path.{sym, _∙_}
 use lib.ListN.{length}
-use Rattle.compiled.proofs.InLine.{line-bit, line-stays, line-goes, line-far, lining, InLine}
+use Rattle.compiled.proofs.InLine.{line-start, line-rows, line-bit, line-stays, line-goes, line-far, lining, InLine}
 use Rattle.compiled.proofs.build.enter_line.Statement.{statement}
 use Rattle.compiled.proofs.build.enter_line.Tie as tie
 
@@ -35,7 +36,7 @@ stay-bit-requires c κs = search lining
 
 add-stays : tie.Need-add-stays Inv-steps μ-steps
 add-stays c =
-    let v = c .before .before .before .before .before .before .before .before .before .before .before .steps .inv in
+    let v = c .before .before .before .before .before .before .before .before .before .before .before .before .before .steps .inv in
     omega (arith, line-bit v, line-stays v)
 
 go-bit-requires : tie.Need-go-bit-requires Inv-steps μ-steps
@@ -43,7 +44,7 @@ go-bit-requires c κs = search lining
 
 add-goes : tie.Need-add-goes Inv-steps μ-steps
 add-goes c =
-    let v = c .before .before .before .before .before .before .before .before .before .before .before .before .steps .inv in
+    let v = c .before .before .before .before .before .before .before .before .before .before .before .before .before .before .steps .inv in
     omega (arith, line-bit v, line-goes v)
 
 far-bit-requires : tie.Need-far-bit-requires Inv-steps μ-steps
@@ -51,12 +52,12 @@ far-bit-requires c κs = search lining
 
 add-far : tie.Need-add-far Inv-steps μ-steps
 add-far c =
-    let v = c .before .before .before .before .before .before .before .before .before .before .before .before .before .steps .inv in
+    let v = c .before .before .before .before .before .before .before .before .before .before .before .before .before .before .before .steps .inv in
     omega (arith, line-bit v, line-far v)
 
 mul-bit : tie.Need-mul-bit Inv-steps μ-steps
 mul-bit c =
-    let v = c .before .before .before .before .before .before .before .before .before .before .before .before .before .steps .inv in
+    let v = c .before .before .before .before .before .before .before .before .before .before .before .before .before .before .before .steps .inv in
     omega (arith, line-bit v)
 
 steps-less : tie.Need-steps-less Inv-steps μ-steps
@@ -68,18 +69,22 @@ steps-again c = search lining
 enum-told : tie.Need-enum-told Inv-steps μ-steps
 enum-told c = search lining
 
-cast-t28 : tie.Need-cast-t28 Inv-steps μ-steps
-cast-t28 c =
-    omega (arith, line-bit (c .before .before .before .steps .inv))
-
 cast-t29 : tie.Need-cast-t29 Inv-steps μ-steps
-cast-t29 c = search lining
+cast-t29 c =
+    omega (arith, line-bit (c .before .before .before .steps .inv))
 
 cast-t30 : tie.Need-cast-t30 Inv-steps μ-steps
 cast-t30 c = search lining
 
 cast-t31 : tie.Need-cast-t31 Inv-steps μ-steps
 cast-t31 c = search lining
+
+cast-t32 : tie.Need-cast-t32 Inv-steps μ-steps
+cast-t32 c = search lining
+
+same-length : tie.Need-same-length Inv-steps μ-steps
+same-length c =
+    line-rows (c .before .before .before .steps .inv) ∙ sym (line-rows (line-start (c .before .before .before .before .before .before .pre)))
 
 returns : tie.Need-returns Inv-steps μ-steps
 returns c = search lining
@@ -104,8 +109,9 @@ enter-line-spec =
     steps-less
     steps-again
     enum-told
-    cast-t28
     cast-t29
     cast-t30
     cast-t31
+    cast-t32
+    same-length
     returns)

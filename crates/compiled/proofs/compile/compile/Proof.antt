@@ -1,11 +1,11 @@
--- `compile` meets its contract. The invariant: the tables are those of the paths whose lines are read. The measure is what is left of the
--- list. proofs/OverLines.antt has the laws, and proofs/Laid.antt those of the tables laid one behind the other.
-use Prim.Native.Nat.{_-_}
+-- `compile` meets its contract. The invariant: the tables are those of the paths whose lines are read, and the rows stand in their place
+-- in `t`. The measure is what is left of the list. proofs/OverLines.antt has the laws, and proofs/Laid.antt those of the tables laid one
+-- behind the other.
+use Prim.Native.Nat.{ℕ, _-_}
 use native.Mathlib.Omega.{arith}
-use mathlib.Core.Path.{_∙_}
-use lib.ListN.{length}
+use mathlib.Core.Path.{sym, ap, _∙_}
+use lib.ListN.{length, length-replicate}
 use Rattle.compiled.proofs.InLine.{path-few}
-use Rattle.compiled.proofs.Laid.{laid-tables}
 use Rattle.compiled.proofs.OverLines.{over-lines, Lining, lines-long, lines-end}
 use Rattle.compiled.proofs.OverLines.{at-size, len-size, head-size, next-size}
 use Rattle.compiled.proofs.OverLines.{stays-size, goes-size, far-size, lasts-size, marks-size, tests-size}
@@ -13,17 +13,29 @@ use Rattle.compiled.proofs.compile.compile.Statement.{statement}
 use Rattle.compiled.proofs.compile.compile.Tie as tie
 
 abbrev Inv-loop : tie.InvT-loop
-Inv-loop list t stays₀ goes₀ far₀ lasts₀ marks₀ tests₀ at₀ len₀ head₀ next₀ rows₀ names₀ p₀ place₀ stays goes far lasts marks tests at len
-    head next rows names p place =
-    Lining list at len head next rows stays goes far lasts marks tests names p place
+Inv-loop list t₀ stays₀ goes₀ far₀ lasts₀ marks₀ tests₀ at₀ len₀ head₀ next₀ from to names₀ p₀ place₀ t stays goes far lasts marks tests at
+    len head next names p place =
+    Lining list at len head next t stays goes far lasts marks tests names p place
 
 abbrev μ-loop : tie.MeasureT-loop
-μ-loop list t stays₀ goes₀ far₀ lasts₀ marks₀ tests₀ at₀ len₀ head₀ next₀ rows₀ names₀ p₀ place₀ stays goes far lasts marks tests at len
-    head next rows names p place =
+μ-loop list t₀ stays₀ goes₀ far₀ lasts₀ marks₀ tests₀ at₀ len₀ head₀ next₀ from to names₀ p₀ place₀ t stays goes far lasts marks tests at
+    len head next names p place =
     length list - place
 
 loop-holds : tie.Need-loop-holds Inv-loop μ-loop
 loop-holds c = search over-lines
+
+mul-enter-line : tie.Need-mul-enter-line Inv-loop μ-loop
+mul-enter-line c = search over-lines
+
+sub-enter-line : tie.Need-sub-enter-line Inv-loop μ-loop
+sub-enter-line c = search over-lines
+
+part-enter-line-start : tie.Need-part-enter-line-start Inv-loop μ-loop
+part-enter-line-start c = search over-lines
+
+part-enter-line-end : tie.Need-part-enter-line-end Inv-loop μ-loop
+part-enter-line-end c = search over-lines
 
 enter-line-requires : tie.Need-enter-line-requires Inv-loop μ-loop
 enter-line-requires c κs = search over-lines
@@ -32,49 +44,49 @@ tail-at-requires : tie.Need-tail-at-requires Inv-loop μ-loop
 tail-at-requires c κs = search over-lines
 
 mul-stays : tie.Need-mul-stays Inv-loop μ-loop
-mul-stays c = omega (arith, path-few (c .before .enter-line .ensures .here))
+mul-stays c = omega (arith, path-few (c .before .before .before .enter-line .ensures .here))
 
 array-write-stays : tie.Need-array-write-stays Inv-loop μ-loop
-array-write-stays c = search over-lines
+array-write-stays c = path-few (c .before .before .before .enter-line .ensures .here)
 
 mul-goes : tie.Need-mul-goes Inv-loop μ-loop
-mul-goes c = omega (arith, path-few (c .before .enter-line .ensures .here))
+mul-goes c = omega (arith, path-few (c .before .before .before .enter-line .ensures .here))
 
 array-write-goes : tie.Need-array-write-goes Inv-loop μ-loop
-array-write-goes c = search over-lines
+array-write-goes c = path-few (c .before .before .before .enter-line .ensures .here)
 
 mul-far : tie.Need-mul-far Inv-loop μ-loop
-mul-far c = omega (arith, path-few (c .before .enter-line .ensures .here))
+mul-far c = omega (arith, path-few (c .before .before .before .enter-line .ensures .here))
 
 array-write-far : tie.Need-array-write-far Inv-loop μ-loop
-array-write-far c = search over-lines
+array-write-far c = path-few (c .before .before .before .enter-line .ensures .here)
 
 mul-lasts : tie.Need-mul-lasts Inv-loop μ-loop
-mul-lasts c = omega (arith, path-few (c .before .enter-line .ensures .here))
+mul-lasts c = omega (arith, path-few (c .before .before .before .enter-line .ensures .here))
 
 array-write-lasts : tie.Need-array-write-lasts Inv-loop μ-loop
-array-write-lasts c = search over-lines
+array-write-lasts c = path-few (c .before .before .before .enter-line .ensures .here)
 
 if-marked-requires : tie.Need-if-marked-requires Inv-loop μ-loop
 if-marked-requires c κs = search over-lines
 
 mul-marks : tie.Need-mul-marks Inv-loop μ-loop
-mul-marks c = omega (arith, path-few (c .before .before .enter-line .ensures .here))
+mul-marks c = omega (arith, path-few (c .before .before .before .before .enter-line .ensures .here))
 
 array-write-marks : tie.Need-array-write-marks Inv-loop μ-loop
-array-write-marks c = search over-lines
+array-write-marks c = path-few (c .before .before .before .before .enter-line .ensures .here)
 
 if-tested-requires : tie.Need-if-tested-requires Inv-loop μ-loop
 if-tested-requires c κs = search over-lines
 
 mul-tests : tie.Need-mul-tests Inv-loop μ-loop
-mul-tests c = omega (arith, path-few (c .before .before .before .enter-line .ensures .here))
+mul-tests c = omega (arith, path-few (c .before .before .before .before .before .enter-line .ensures .here))
 
 array-write-tests : tie.Need-array-write-tests Inv-loop μ-loop
-array-write-tests c = search over-lines
+array-write-tests c = path-few (c .before .before .before .before .before .enter-line .ensures .here)
 
 add-p : tie.Need-add-p Inv-loop μ-loop
-add-p c = omega (arith, path-few (c .before .before .before .enter-line .ensures .here))
+add-p c = omega (arith, path-few (c .before .before .before .before .before .enter-line .ensures .here))
 
 loop-less : tie.Need-loop-less Inv-loop μ-loop
 loop-less c = search over-lines
@@ -82,30 +94,50 @@ loop-less c = search over-lines
 loop-again : tie.Need-loop-again Inv-loop μ-loop
 loop-again c = search over-lines
 
+mul-spread : tie.Need-mul-spread Inv-loop μ-loop
+mul-spread c = search over-lines
+
+sub-spread : tie.Need-sub-spread Inv-loop μ-loop
+sub-spread c = search over-lines
+
+part-spread-start : tie.Need-part-spread-start Inv-loop μ-loop
+part-spread-start c = search over-lines
+
+part-spread-end : tie.Need-part-spread-end Inv-loop μ-loop
+part-spread-end c = search over-lines
+
 spread-requires : tie.Need-spread-requires Inv-loop μ-loop
 spread-requires c κs = search over-lines
 
 lay-names-requires : tie.Need-lay-names-requires Inv-loop μ-loop
 lay-names-requires c κs =
-    let s = c .before .before .before .before .before .before in
+    let s = c .before .before .before .before .before .before .before in
     let v = s .before .before .before .loop .inv in
-    (at-size v, len-size v, head-size v, next-size v, s .spread .ensures .long)
+    let l = s .before .before .loop-test .left in
+    (at-size v, len-size v, head-size v, next-size v, lines-long v l (s .spread .ensures))
 
 lay-columns-requires : tie.Need-lay-columns-requires Inv-loop μ-loop
 lay-columns-requires c κs =
-    let n = c .before .before .before .before .before .before .before in
-    let v = n .before .before .before .before .before .before .before .before .before .before .loop .inv in
-    (stays-size v, goes-size v, far-size v, lasts-size v, marks-size v, tests-size v)
+    let n = c .before .before .before .before .before .before .before .before .before in
+    let s = n .before .before .before .before .before .before .before .before in
+    let v = s .before .before .before .loop .inv in
+    let l = s .before .before .loop-test .left in
+    (stays-size v, goes-size v, far-size v, lasts-size v, marks-size v, tests-size v,
+    n .lay-names .kept .0 ∙ lines-long v l (s .spread .ensures))
+
+same-length : tie.Need-same-length Inv-loop μ-loop
+same-length c =
+    let n = c .before .before .before .before .before .before .before .before .before .before .before .before in
+    let s = n .before .before .before .before .before .before .before .before in
+    let e = lines-long (s .before .before .before .loop .inv) (s .before .before .loop-test .left) (s .spread .ensures) in
+    c .before .before .lay-columns .kept .0 ∙ n .lay-names .kept .0 ∙ e ∙ sym (ap length (s .before .before .before .before .before .before .pre .1) ∙ length-replicate {A = ℕ} 18400 0)
 
 returns : tie.Need-returns Inv-loop μ-loop
 returns c =
-    let n = c .before .before .before .before .before .before .before .before in
-    let m = n .before .before .before .before .before .before .before in
-    let v = m .before .before .before .loop .inv in
-    let l = m .before .before .loop-test .left in
-    let s = m .spread .ensures in
-    laid-tables (lines-long v l s) _ (m .before .before .before .before .before .pre .1) (n .lay-names .ensures) (c .lay-columns .ensures)
-    ∙ lines-end v l s
+    let n = c .before .before .before .before .before .before .before .before .before .before .before .before in
+    let s = n .before .before .before .before .before .before .before .before in
+    lines-end (s .before .before .before .loop .inv) (s .before .before .loop-test .left) (s .spread .ensures) (n .lay-names .ensures)
+    (c .before .before .lay-columns .ensures)
 
 pub compile-spec : {M : Type 1} → statement M
 compile-spec =
@@ -114,6 +146,10 @@ compile-spec =
     Inv-loop
     μ-loop
     loop-holds
+    mul-enter-line
+    sub-enter-line
+    part-enter-line-start
+    part-enter-line-end
     enter-line-requires
     tail-at-requires
     mul-stays
@@ -133,7 +169,12 @@ compile-spec =
     add-p
     loop-less
     loop-again
+    mul-spread
+    sub-spread
+    part-spread-start
+    part-spread-end
     spread-requires
     lay-names-requires
     lay-columns-requires
+    same-length
     returns)

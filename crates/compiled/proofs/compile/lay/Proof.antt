@@ -27,8 +27,8 @@ add-t c = search laying
 mul-t-2 : tie.Need-mul-t-2 Inv-loop μ-loop
 mul-t-2 c = search laying
 
-element-write-t : tie.Need-element-write-t Inv-loop μ-loop
-element-write-t c = search laying
+slice-write-t : tie.Need-slice-write-t Inv-loop μ-loop
+slice-write-t c = search laying
 
 add-i : tie.Need-add-i Inv-loop μ-loop
 add-i c = search laying
@@ -38,6 +38,9 @@ loop-less c = search laying
 
 loop-again : tie.Need-loop-again Inv-loop μ-loop
 loop-again c = search laying
+
+same-length : tie.Need-same-length Inv-loop μ-loop
+same-length c = search laying
 
 returns : tie.Need-returns Inv-loop μ-loop
 returns c = search laying
@@ -53,8 +56,9 @@ lay-spec =
     shared-slice-read-t
     add-t
     mul-t-2
-    element-write-t
+    slice-write-t
     add-i
     loop-less
     loop-again
+    same-length
     returns)

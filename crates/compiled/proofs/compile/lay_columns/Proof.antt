@@ -22,14 +22,18 @@ lay-requires-5 c κs = search needs
 lay-requires-6 : tie.Need-lay-requires-6
 lay-requires-6 c κs = search needs
 
+same-length : tie.Need-same-length
+same-length c = search needs
+
 returns : tie.Need-returns
 returns c =
-    let c₅ = c .before .before .before in
-    let c₄ = c₅ .before .before .before in
-    let c₃ = c₄ .before .before .before in
-    let c₂ = c₃ .before .before .before in
-    let c₁ = c₂ .before .before .before in
-    cc (c₁ .lay .ensures, c₂ .lay2 .ensures, c₃ .lay3 .ensures, c₄ .lay4 .ensures, c₅ .lay5 .ensures, c .lay6 .ensures)
+    let c₆ = c .before .before in
+    let c₅ = c₆ .before .before .before .before .before in
+    let c₄ = c₅ .before .before .before .before .before in
+    let c₃ = c₄ .before .before .before .before .before in
+    let c₂ = c₃ .before .before .before .before .before in
+    let c₁ = c₂ .before .before .before .before .before in
+    cc (c₁ .lay .ensures, c₂ .lay2 .ensures, c₃ .lay3 .ensures, c₄ .lay4 .ensures, c₅ .lay5 .ensures, c₆ .lay6 .ensures)
 
 pub lay-columns-spec : {M : Type 1} → statement M
 lay-columns-spec =
@@ -41,4 +45,5 @@ lay-columns-spec =
     lay-requires-4
     lay-requires-5
     lay-requires-6
+    same-length
     returns)

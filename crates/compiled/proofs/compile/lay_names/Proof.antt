@@ -16,16 +16,16 @@ lay-requires-3 c κs = search needs
 lay-requires-4 : tie.Need-lay-requires-4
 lay-requires-4 c κs = search needs
 
-lay-requires-5 : tie.Need-lay-requires-5
-lay-requires-5 c κs = search needs
+same-length : tie.Need-same-length
+same-length c = search needs
 
 returns : tie.Need-returns
 returns c =
-    let c₄ = c .before .before .before in
-    let c₃ = c₄ .before .before .before in
-    let c₂ = c₃ .before .before .before in
-    let c₁ = c₂ .before .before .before in
-    cc (c₁ .lay .ensures, c₂ .lay2 .ensures, c₃ .lay3 .ensures, c₄ .lay4 .ensures, c .lay5 .ensures)
+    let c₄ = c .before .before in
+    let c₃ = c₄ .before .before .before .before .before in
+    let c₂ = c₃ .before .before .before .before .before in
+    let c₁ = c₂ .before .before .before .before .before in
+    cc (c₁ .lay .ensures, c₂ .lay2 .ensures, c₃ .lay3 .ensures, c₄ .lay4 .ensures)
 
 pub lay-names-spec : {M : Type 1} → statement M
 lay-names-spec =
@@ -35,5 +35,5 @@ lay-names-spec =
     lay-requires-2
     lay-requires-3
     lay-requires-4
-    lay-requires-5
+    same-length
     returns)

@@ -1,11 +1,9 @@
 -- `read` meets its contract:
 -- a sound list is compiled, and any other has no path.
-use mathlib.Core.Path.{sym, _∙_}
+use mathlib.Core.Path.{refl, sym, _∙_}
 use mathlib.Core.List.{[], _∷_}
 use types.Run.{miss}
 use borrow.Author.Needs.{needs}
-use Prim.Native.Nat.{ℕ}
-use lib.ListN.{length-replicate}
 use Rattle.compiled.proofs.Reading.{read-refused}
 use Rattle.compiled.proofs.compile.read.Statement.{statement}
 use Rattle.compiled.proofs.compile.read.Tie as tie
@@ -18,7 +16,7 @@ enum-told c = search needs
 
 compile-requires : tie.Need-compile-requires
 compile-requires c κs =
-    (sym (c .before .before .before .answer .ensures) ∙ c .before .enum-told .given .1, length-replicate {A = ℕ} 18400 0)
+    (sym (c .before .before .before .answer .ensures) ∙ c .before .enum-told .given .1, refl)
 
 returns : tie.Need-returns
 returns c = search needs

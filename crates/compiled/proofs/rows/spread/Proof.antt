@@ -17,14 +17,14 @@ loop-holds c = search spreading
 mul-rows : tie.Need-mul-rows Inv-loop μ-loop
 mul-rows c = search spreading
 
-element-copy-out-rows : tie.Need-element-copy-out-rows Inv-loop μ-loop
-element-copy-out-rows c = search spreading
+slice-read-rows : tie.Need-slice-read-rows Inv-loop μ-loop
+slice-read-rows c = search spreading
 
 mul-rows-2 : tie.Need-mul-rows-2 Inv-loop μ-loop
 mul-rows-2 c = search spreading
 
-element-copy-out-rows-2 : tie.Need-element-copy-out-rows-2 Inv-loop μ-loop
-element-copy-out-rows-2 c = search spreading
+slice-read-rows-2 : tie.Need-slice-read-rows-2 Inv-loop μ-loop
+slice-read-rows-2 c = search spreading
 
 add-rows : tie.Need-add-rows Inv-loop μ-loop
 add-rows c = search spreading
@@ -32,8 +32,8 @@ add-rows c = search spreading
 mul-rows-3 : tie.Need-mul-rows-3 Inv-loop μ-loop
 mul-rows-3 c = search spreading
 
-element-write-rows : tie.Need-element-write-rows Inv-loop μ-loop
-element-write-rows c = search spreading
+slice-write-rows : tie.Need-slice-write-rows Inv-loop μ-loop
+slice-write-rows c = search spreading
 
 add-i : tie.Need-add-i Inv-loop μ-loop
 add-i c = search spreading
@@ -43,6 +43,9 @@ loop-less c = search spreading
 
 loop-again : tie.Need-loop-again Inv-loop μ-loop
 loop-again c = search spreading
+
+same-length : tie.Need-same-length Inv-loop μ-loop
+same-length c = search spreading
 
 returns : tie.Need-returns Inv-loop μ-loop
 returns c = search spreading
@@ -55,13 +58,14 @@ spread-spec =
     μ-loop
     loop-holds
     mul-rows
-    element-copy-out-rows
+    slice-read-rows
     mul-rows-2
-    element-copy-out-rows-2
+    slice-read-rows-2
     add-rows
     mul-rows-3
-    element-write-rows
+    slice-write-rows
     add-i
     loop-less
     loop-again
+    same-length
     returns)
