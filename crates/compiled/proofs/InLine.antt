@@ -39,7 +39,7 @@ use Rattle.compiled.specs.Line.{AtPath, AtLine, LineDone}
 use Rattle.compiled.proofs.Alls.{all-left, all-right, all-map}
 use Rattle.compiled.proofs.Bits.{bits-below, bits-snoc, power-16, map-snoc, column-get, column-snoc}
 use Rattle.compiled.proofs.Listed.{listed-same}
-use Rattle.compiled.proofs.Numbers.{numbers-long, lists-snoc}
+use Rattle.compiled.proofs.Numbers.{lists-snoc, built-long}
 
 -- a name has a byte
 some-name : (m : List ℕ) → Language Name m → testOf (length m) m ≡ named m
@@ -205,11 +205,7 @@ module _ {d at len head next rows : List ℕ} {names p place bit stays goes far 
       omega arith
 
   pub line-rows : length rows ≡ 16416
-  line-rows =
-      let e = pathOf (v .read) (endingOf (v .here .path)) in
-      let l = length-append (v .here .done) (e ∷ []) in
-      let f = done-few (v .here) in
-      rw (v .built .rows-are) (numbers-long (v .here .done ++ e ∷ []) (omega arith))
+  line-rows = built-long (v .here .done) (pathOf (v .read) (endingOf (v .here .path))) (v .built) (done-few (v .here))
 
   abbrev before : List ℕ
   before = printList (v .here .done) ++ printAll printStep (v .read)

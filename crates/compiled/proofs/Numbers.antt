@@ -14,7 +14,7 @@ use Rattle.paths.specs.Path.{Test, any, named, Step, Path, All}
 use Rattle.paths.specs.Path.{printKind, printStep, printAll, printLine, printList}
 use Rattle.compiled.specs.Bits.{bitsOf, stepBits, column}
 use Rattle.lookup.specs.Names.{Named, testNames, stepNames, listNames, firsts, namesOf}
-use Rattle.compiled.specs.Built.{numberOf, numberRow, numberRows, longer}
+use Rattle.compiled.specs.Built.{numberOf, numberRow, numberRows, Built, longer}
 use Rattle.compiled.proofs.Alls.{all-map}
 use Rattle.lookup.proofs.Places.{place-least}
 use Rattle.compiled.proofs.Firsts.{HasTest, firsts-append, firsts-kept, names-have, firsts-few, lists-few, steps-few}
@@ -64,6 +64,10 @@ row-long ns ps l k = column-long _ ps l
 pub numbers-long : (ps : List Path) → length ps ≤ 32 → length (numberRows ps) ≡ 16416
 unfolding numberRows
 numbers-long ps l = listed-long (numberRow (namesOf ps) ps) (row-long (namesOf ps) ps l) 513
+
+pub built-long : {d at len head next rows : List ℕ} {names : ℕ} (done : List Path) (q : Path)
+    → Built d at len head next rows names (done ++ q ∷ []) → length done < 32 → length rows ≡ 16416
+built-long done q b l = rw (b .rows-are) (numbers-long (done ++ q ∷ []) (rw (length-append done (q ∷ [])) (omega arith)))
 
 -- ---- the names with one more step
 

@@ -33,7 +33,7 @@ use Rattle.compiled.proofs.Alls.{all-map}
 use Rattle.compiled.proofs.Bits.{column-long, column-snoc}
 use Rattle.compiled.proofs.NameRows.{joined-zeros}
 use Rattle.compiled.proofs.Listed.{listed-constant}
-use Rattle.compiled.proofs.Numbers.{numbers-long}
+use Rattle.compiled.proofs.Numbers.{built-long}
 use Rattle.compiled.proofs.Spreading.{numbers-spreadable, numbers-spread}
 use Rattle.compiled.proofs.Laid.{rowsIn, withRows, rows-stand, with-rows-long, Longs, laid-tables}
 use Rattle.compiled.proofs.InLine.{print-append, path-few, sound-bytes}
@@ -69,7 +69,8 @@ zeros-in =
     ∙ ap (take 16416) (drop-at (z 1792) (z 16608) 1792 (length-replicate {A = ℕ} 1792 0) ∙ b)
     ∙ take-at (z 16416) (z 192) 16416 (length-replicate {A = ℕ} 16416 0)
 
-built-none : (d : List ℕ) → Built d (replicate 512 0) (replicate 512 0) (replicate 256 0) (replicate 512 0) (rowsIn (replicate 18400 0)) 0 []
+built-none : (d : List ℕ)
+    → Built d (replicate 512 0) (replicate 512 0) (replicate 256 0) (replicate 512 0) (rowsIn (replicate 18400 0)) 0 []
 unfolding namesOf chainsOf padded
 built-none d =
     record {
@@ -187,11 +188,7 @@ module _ {d at len head next t stays goes far lasts marks tests : List ℕ} {nam
     path = w .here .path
 
     rows-size : length rows′ ≡ 16416
-    rows-size =
-        let l = length-append (w .here .done) (path ∷ []) in
-        let f = lines-few in
-        let e = w .here .p-is in
-        rw (w .built .rows-are) (numbers-long (w .here .done ++ path ∷ []) (omega arith))
+    rows-size = built-long (w .here .done) path (w .built) (rw (← w .here .p-is) lines-few)
 
     pub lines-place : r .end < 65536
     lines-place = rw (w .end-is) (end-below (w .here))

@@ -1,5 +1,5 @@
 -- The laws of `add_step`:
--- there is room for one more name, the rows are as long as they are to be, its bit fits, and the tables are those with the step.
+-- there is room for one more name, its bit fits, and the tables are those with the step.
 use mathlib.Core.Path.{_≡_, refl, sym, _∙_}
 use mathlib.Core.List.{List, [], _∷_, _++_}
 use Prim.Native.Nat.{ℕ, _+_, _*_, _^_, _≤_, _<_}
@@ -12,7 +12,7 @@ use Rattle.compiled.specs.Built.{Held, Numbers, Entered, longer, AtStep,
 use Rattle.compiled.specs.declared.build.Numbered.{Numbered}
 use Rattle.compiled.proofs.Alls.{all-append}
 use Rattle.compiled.proofs.Firsts.{names-few}
-use Rattle.compiled.proofs.Numbers.{numbers-long, names-longer, names-room, number-in, last-cell, rows-longer}
+use Rattle.compiled.proofs.Numbers.{built-long, names-longer, names-room, number-in, last-cell, rows-longer}
 
 module _ {d at len head next rows : List ℕ} {names p bit a n : ℕ} (v : AtStep d at len head next rows names p bit a n) where
   pub step-held : Held d at len head next names
@@ -31,10 +31,7 @@ module _ {d at len head next rows : List ℕ} {names p bit a n : ℕ} (v : AtSte
   step-path = rw (v .p-is) (v .few)
 
   pub step-rows : length rows ≡ 16416
-  step-rows =
-      let l = length-append (v .done) (v .path ∷ []) in
-      let f = v .few in
-      rw (v .built .rows-are) (numbers-long (v .done ++ v .path ∷ []) (omega arith))
+  step-rows = built-long (v .done) (v .path) (v .built) (v .few)
 
   bit-below : bit ≤ 32768
   bit-below =

@@ -40,8 +40,8 @@ fn lay_names(
     requires { ⌜ (length (now at) ≡ 512) × (length (now len) ≡ 512) × (length (now head) ≡ 256) × (length (now next) ≡ 512)
         × (length (now t) ≡ 18400) ⌝ }
     ensures { λ r.
-        ⌜ now (t .exit) ≡ sets (sets (sets (sets (now (t .entry)) 0 (now (at .entry))) 512 (now (len .entry))) 1024 (now (head .entry))) 1280
-        (now (next .entry)) ⌝ }
+        ⌜ now (t .exit) ≡ sets (sets (sets (sets (now (t .entry)) 0 (now (at .entry))) 512 (now (len .entry))) 1024
+        (now (head .entry))) 1280 (now (next .entry)) ⌝ }
 {
     lay(t, layout::AT, at);
     lay(t, layout::LEN, len);

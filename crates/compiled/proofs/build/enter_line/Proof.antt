@@ -36,7 +36,8 @@ stay-bit-requires c κs = search lining
 
 add-stays : tie.Need-add-stays Inv-steps μ-steps
 add-stays c =
-    let v = c .before .before .before .before .before .before .before .before .before .before .before .before .before .steps .inv in
+    let s = c .before .before .before .before .before in
+    let v = s .before .before .before .before .before .before .before .before .steps .inv in
     omega (arith, line-bit v, line-stays v)
 
 go-bit-requires : tie.Need-go-bit-requires Inv-steps μ-steps
@@ -44,7 +45,8 @@ go-bit-requires c κs = search lining
 
 add-goes : tie.Need-add-goes Inv-steps μ-steps
 add-goes c =
-    let v = c .before .before .before .before .before .before .before .before .before .before .before .before .before .before .steps .inv in
+    let s = c .before .before .before .before .before .before in
+    let v = s .before .before .before .before .before .before .before .before .steps .inv in
     omega (arith, line-bit v, line-goes v)
 
 far-bit-requires : tie.Need-far-bit-requires Inv-steps μ-steps
@@ -52,12 +54,14 @@ far-bit-requires c κs = search lining
 
 add-far : tie.Need-add-far Inv-steps μ-steps
 add-far c =
-    let v = c .before .before .before .before .before .before .before .before .before .before .before .before .before .before .before .steps .inv in
+    let s = c .before .before .before .before .before .before .before in
+    let v = s .before .before .before .before .before .before .before .before .steps .inv in
     omega (arith, line-bit v, line-far v)
 
 mul-bit : tie.Need-mul-bit Inv-steps μ-steps
 mul-bit c =
-    let v = c .before .before .before .before .before .before .before .before .before .before .before .before .before .before .before .steps .inv in
+    let s = c .before .before .before .before .before .before .before in
+    let v = s .before .before .before .before .before .before .before .before .steps .inv in
     omega (arith, line-bit v)
 
 steps-less : tie.Need-steps-less Inv-steps μ-steps
@@ -84,7 +88,8 @@ cast-t32 c = search lining
 
 same-length : tie.Need-same-length Inv-steps μ-steps
 same-length c =
-    line-rows (c .before .before .before .steps .inv) ∙ sym (line-rows (line-start (c .before .before .before .before .before .before .pre)))
+    let s = c .before .before .before in
+    line-rows (s .steps .inv) ∙ sym (line-rows (line-start (s .before .before .before .pre)))
 
 returns : tie.Need-returns Inv-steps μ-steps
 returns c = search lining

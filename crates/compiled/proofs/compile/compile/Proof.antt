@@ -121,16 +121,26 @@ lay-columns-requires c κs =
     let n = c .before .before .before .before .before .before .before .before .before in
     let s = n .before .before .before .before .before .before .before .before in
     let v = s .before .before .before .loop .inv in
-    let l = s .before .before .loop-test .left in
-    (stays-size v, goes-size v, far-size v, lasts-size v, marks-size v, tests-size v,
-    n .lay-names .kept .0 ∙ lines-long v l (s .spread .ensures))
+    let l = s .before .before .loop-test .left in (
+      stays-size v,
+      goes-size v,
+      far-size v,
+      lasts-size v,
+      marks-size v,
+      tests-size v,
+      n .lay-names .kept .0 ∙ lines-long v l (s .spread .ensures),
+    )
 
 same-length : tie.Need-same-length Inv-loop μ-loop
 same-length c =
     let n = c .before .before .before .before .before .before .before .before .before .before .before .before in
     let s = n .before .before .before .before .before .before .before .before in
-    let e = lines-long (s .before .before .before .loop .inv) (s .before .before .loop-test .left) (s .spread .ensures) in
-    c .before .before .lay-columns .kept .0 ∙ n .lay-names .kept .0 ∙ e ∙ sym (ap length (s .before .before .before .before .before .before .pre .1) ∙ length-replicate {A = ℕ} 18400 0)
+    let v = s .before .before .before .loop .inv in
+    let l = s .before .before .loop-test .left in
+    c .before .before .lay-columns .kept .0
+    ∙ n .lay-names .kept .0
+    ∙ lines-long v l (s .spread .ensures)
+    ∙ sym (ap length (s .before .before .before .before .before .before .pre .1) ∙ length-replicate {A = ℕ} 18400 0)
 
 returns : tie.Need-returns Inv-loop μ-loop
 returns c =
