@@ -9,8 +9,8 @@
 #include <string.h>
 #include <ucontext.h>
 
-#define SAID (128 * 1024)
-#define SAID_WITH (96 * 1024)
+#define SAID (96 * 1024)
+#define SAID_WITH (64 * 1024)
 #define PAINTED (1024 * 1024)
 
 static uint8_t stack[PAINTED], list[8193], doc[32768], out[2 * sizeof doc];
