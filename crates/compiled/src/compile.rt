@@ -73,7 +73,7 @@ fn lay_columns(
     lay(t, layout::TESTS, tests);
 }
 
-// The tables of the paths of a sound list. The rows are most of them, and are made in their place, where there are zeros before.
+// The tables of the paths of a sound list, in an array of zeros. The rows, which are most of it, are made in their place there.
 fn compile(list: &[u8], t: &mut [u16])
     requires { ⌜ (listAnswer (now list) ≡ Sound) × (now t ≡ replicate 18400 0) ⌝ }
     ensures { λ r. ⌜ now (t .exit) ≡ tablesOf (listPaths (now (list .entry))) ⌝ }

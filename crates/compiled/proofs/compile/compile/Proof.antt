@@ -4,6 +4,7 @@
 use Prim.Native.Nat.{ℕ, _-_}
 use native.Mathlib.Omega.{arith}
 use mathlib.Core.Path.{sym, ap, _∙_}
+use borrow.Author.Needs.{needs}
 use lib.ListN.{length, length-replicate}
 use Rattle.compiled.proofs.InLine.{path-few}
 use Rattle.compiled.proofs.OverLines.{over-lines, Lining, lines-long, lines-end}
@@ -26,16 +27,16 @@ loop-holds : tie.Need-loop-holds Inv-loop μ-loop
 loop-holds c = search over-lines
 
 mul-enter-line : tie.Need-mul-enter-line Inv-loop μ-loop
-mul-enter-line c = search over-lines
+mul-enter-line c = search needs
 
 sub-enter-line : tie.Need-sub-enter-line Inv-loop μ-loop
-sub-enter-line c = search over-lines
+sub-enter-line c = search needs
 
 part-enter-line-start : tie.Need-part-enter-line-start Inv-loop μ-loop
-part-enter-line-start c = search over-lines
+part-enter-line-start c = search needs
 
 part-enter-line-end : tie.Need-part-enter-line-end Inv-loop μ-loop
-part-enter-line-end c = search over-lines
+part-enter-line-end c = search needs
 
 enter-line-requires : tie.Need-enter-line-requires Inv-loop μ-loop
 enter-line-requires c κs = search over-lines
@@ -95,16 +96,16 @@ loop-again : tie.Need-loop-again Inv-loop μ-loop
 loop-again c = search over-lines
 
 mul-spread : tie.Need-mul-spread Inv-loop μ-loop
-mul-spread c = search over-lines
+mul-spread c = search needs
 
 sub-spread : tie.Need-sub-spread Inv-loop μ-loop
-sub-spread c = search over-lines
+sub-spread c = search needs
 
 part-spread-start : tie.Need-part-spread-start Inv-loop μ-loop
-part-spread-start c = search over-lines
+part-spread-start c = search needs
 
 part-spread-end : tie.Need-part-spread-end Inv-loop μ-loop
-part-spread-end c = search over-lines
+part-spread-end c = search needs
 
 spread-requires : tie.Need-spread-requires Inv-loop μ-loop
 spread-requires c κs = search over-lines
