@@ -1,5 +1,5 @@
--- The tables of the paths read so far, with one more step:
--- its name is entered, and its bit is added to the row of its number.
+-- The tables of the paths read so far: how long the rows are;
+-- and with one more step, whose name is entered and whose bit is added to the row of its number.
 use mathlib.Core.Path.{_≡_, refl, sym, ap, _∙_}
 use mathlib.Core.Bool.{Bool, cond}
 use mathlib.Core.List.{List, [], _∷_, _++_, append-assoc, append-nil, map}
