@@ -62,17 +62,16 @@ passing-none ps xs e = rw e (sym (passing-unset ps xs))
 
 module _ (ps : List Path) (xs : List Attribute) (bits p : ℕ) {rest : ℕ} (r : rest ≡ passingOf (drop (p + 1) ps) (bits / 2) xs) where
   module _ (l : bits < 2 ^ (32 - p)) where
-    fits : 2 * rest ≤ bits × bits < 2 ^ 32
-    fits =
+    pub passing-fits-more : rest * 2 + 1 < 2 ^ 32
+    passing-fits-more =
         let z = passing-among (drop (p + 1) ps) (bits / 2) xs in
-        let y : 2 ^ (32 - p) ≤ 2 ^ 32 = pow-le-pow-right {n = 2} (omega arith) (let i : 32 - p ≤ 32 = omega arith in i) in
-        (omega arith, omega arith)
+        let i : 32 - p ≤ 32 = omega arith in
+        let y : 2 ^ (32 - p) ≤ 2 ^ 32 = pow-le-pow-right {n = 2} (omega arith) i in
+        let x : 2 ^ 32 ≡ 4294967296 = refl in
+        omega arith
 
     pub passing-fits : rest * 2 < 2 ^ 32
-    passing-fits = let z = fits in omega arith
-
-    pub passing-fits-more : (bits % 2 ≡ 0 → ⊥) → rest * 2 + 1 < 2 ^ 32
-    passing-fits-more n = let z = fits in let y = pos-of-ne-zero n in omega arith
+    passing-fits = let z = passing-fits-more in omega arith
 
   joined : (b : Bool) → passesAt ps xs p && odd bits ≡ b → bit b + 2 * rest ≡ passingOf (drop p ps) bits xs
   joined b e =

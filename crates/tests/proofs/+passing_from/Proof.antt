@@ -2,7 +2,9 @@
 -- proofs/EachPath.antt has the laws.
 use Rattle.tests.proofs.EachPath.{passing}
 use Rattle.matcher.proofs.Picking.{bits-number}
-use Prim.Native.Nat.{ℕ, _<_}
+use mathlib.Core.Path.{_≡_}
+use Prim.Native.Nat.{ℕ, _%_, _<_}
+use native.Mathlib.Omega.{arith}
 use borrow.Fn.Kinds.{In}
 use borrow.Fn.PlainCycle.{Measures, is, falls, and}
 use Rattle.tests.proofs.passing_from.Reads as passing-from
@@ -43,7 +45,10 @@ passing-from-mul-rest : (t : ℕ) → passing-from-lts.Need-mul-rest (claims t) 
 passing-from-mul-rest t c = search passing
 
 passing-from-returns-2 : (t : ℕ) → passing-from-lts.Need-returns-2 (claims t) (passing-from-at t) passing-from.Post
-passing-from-returns-2 t c = search passing
+passing-from-returns-2 t c =
+    let start = c .before .before .before .before .before .before in
+    let unset : start .args .selecting % 2 ≡ 0 = omega arith in
+    search passing
 
 passing-from-passes-requires : (t : ℕ) → passing-from-lts.Need-passes-requires (claims t) (passing-from-at t) passing-from.Post
 passing-from-passes-requires t c κs = search passing
