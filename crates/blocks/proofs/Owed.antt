@@ -1,14 +1,14 @@
 -- A block of usual characters is a run of characters of [2]. In order: the code's tests are those of the definitions; what tests that fail
 -- say of the bytes; characters of two, three and four bytes; from a place to the next, by how many bytes are owed to the character that is
--- begun; a block of 64 places, and the place after it.
+-- begun; the same of characters of one and two bytes; a block of 64 places, and the place after it.
 use mathlib.Core.Path.{_≡_, refl, sym, ap, _∙_}
-use mathlib.Core.Bool.{Bool, true, false, cond, not, _&&_, _||_, true≢false, false≢true}
+use mathlib.Core.Bool.{Bool, Bool·beq, true, false, cond, not, _&&_, _||_, true≢false, false≢true}
 use mathlib.Core.List.{List, [], _∷_, _++_}
 use mathlib.Core.Option.{some}
 use Prim.Native.Nat.{ℕ, zero, suc, _+_, _-_, _*_, _≤_, _<_}
 use native.Mathlib.Nat.{add-zero}
 use native.Mathlib.Omega.{arith}
-use borrow.Author.Tests.{ltb-true, ltb-false, leb-false, eqb-true, eqb-false, lt-ltb, lt-leb, le-leb, eq-eqb, not-true, not-false}
+use borrow.Author.Tests.{ltb-true, ltb-false, leb-false, eqb-true, eqb-false, lt-ltb, lt-leb, le-leb, eq-eqb, ne-eqb, not-true, not-false}
 use lib.Dec.{eqb, leb, ltb}
 use lib.ListN.{length, getD, drop, length-drop}
 use lib.Seq.{getD-drop, drop-drop}
@@ -22,7 +22,8 @@ use Rattle.xml.proofs.Utf8.{scalar-low, scalar-high, encode-two, encode-three, 
 use Rattle.xml.proofs.Character.{character-is}
 use Rattle.xml.proofs.Run.{run-low, run-skip}
 use Rattle.blocks.specs.Block.{someOf, isOther, Passes}
-use Rattle.blocks.specs.Usual.{isLater, isNever, isOutside, differ, isOdd, oddAt, isCut, cutAt, afterLater, afterBlock}
+use Rattle.blocks.specs.Usual.{isLater, isNever, isOutside, differ, isOdd, oddAt, isCut, cutAt}
+use Rattle.blocks.specs.Usual.{isStrange, strangeAt, afterLater, afterPairs, afterBlock}
 use Rattle.blocks.proofs.Until.{seek-start, seek-past, some-none}
 use Rattle.blocks.proofs.Plain.{plain-run}
 
@@ -63,19 +64,51 @@ module _ (d : List ℕ) (i : ℕ) {x : Bool} (p : x ≡ someOf (λ k. isOther (g
   unfolding afterBlock
   block-plain h = sym (rw (sym p ∙ not-true x h))
 
-  module _ (h : not x ≡ false) {y : Bool} (q : y ≡ isCut (getD d i 0) (getD d (i + 1) 0) (getD d (i + 2) 0)) where
-    pub block-cut : y ≡ true → i ≡ afterBlock d i
-    unfolding afterBlock cutAt
-    block-cut k = sym (rw (sym p ∙ not-false x h, sym q ∙ k))
+  module _ (h : not x ≡ false) {u : ℕ} (w : u ≡ afterPairs d i) where
+    pub block-pairs : (u ≡ i → ⊥) → u ≡ afterBlock d i
+    unfolding afterBlock
+    block-pairs n = w ∙ sym (rw (sym p ∙ not-false x h, ← w, ne-eqb u i n))
 
-    module _ (k : y ≡ false) {z : Bool} (r : z ≡ someOf (λ k. oddAt d (i + k)) 64) where
-      pub block-odd : z ≡ true → i ≡ afterBlock d i
-      unfolding afterBlock cutAt
-      block-odd l = sym (rw (sym p ∙ not-false x h, sym q ∙ k, sym r ∙ l))
+    module _ (o : u ≡ i) {y : Bool} (q : y ≡ isCut (getD d i 0) (getD d (i + 1) 0) (getD d (i + 2) 0)) where
+      same-place : eqb (afterPairs d i) i ≡ true
+      same-place = eq-eqb (afterPairs d i) i (sym w ∙ o)
 
-      pub block-usual : z ≡ false → {e : ℕ} → e ≡ afterLater d (i + 64) → e ≡ afterBlock d i
+      pub block-cut : y ≡ true → i ≡ afterBlock d i
       unfolding afterBlock cutAt
-      block-usual l f = f ∙ sym (rw (sym p ∙ not-false x h, sym q ∙ k, sym r ∙ l))
+      block-cut k = sym (rw (sym p ∙ not-false x h, same-place, sym q ∙ k))
+
+      module _ (k : y ≡ false) {z : Bool} (r : z ≡ someOf (λ k. oddAt d (i + k)) 64) where
+        pub block-odd : z ≡ true → i ≡ afterBlock d i
+        unfolding afterBlock cutAt
+        block-odd l = sym (rw (sym p ∙ not-false x h, same-place, sym q ∙ k, sym r ∙ l))
+
+        pub block-usual : z ≡ false → {e : ℕ} → e ≡ afterLater d (i + 64) → e ≡ afterBlock d i
+        unfolding afterBlock cutAt
+        block-usual l f = f ∙ sym (rw (sym p ∙ not-false x h, same-place, sym q ∙ k, sym r ∙ l))
+
+-- the shorter test
+module _ (d : List ℕ) (i : ℕ) {x : Bool} (p : x ≡ isLater (getD d i 0)) where
+  pub pairs-later : x ≡ true → i ≡ afterPairs d i
+  unfolding afterPairs
+  pairs-later h = sym (rw (sym p ∙ h))
+
+  module _ (h : x ≡ false) {y : Bool} (q : y ≡ someOf (λ k. strangeAt d (i + k)) 64) where
+    pub pairs-strange : y ≡ true → i ≡ afterPairs d i
+    unfolding afterPairs
+    pairs-strange k = sym (rw (sym p ∙ h, sym q ∙ k))
+
+    module _ (k : y ≡ false) {z : Bool} (r : z ≡ isLater (getD d (i + 64) 0)) where
+      pub pairs-over : z ≡ true → i + 65 ≡ afterPairs d i
+      unfolding afterPairs
+      pairs-over l = sym (rw (sym p ∙ h, sym q ∙ k, sym r ∙ l))
+
+      pub pairs-end : z ≡ false → i + 64 ≡ afterPairs d i
+      unfolding afterPairs
+      pairs-end l = sym (rw (sym p ∙ h, sym q ∙ k, sym r ∙ l))
+
+pub strange-test : (a b : ℕ) → (isNever a || leb 0xE0 a) || not (Bool·beq (leb 0xC0 a) (isLater b)) ≡ isStrange a b
+unfolding isStrange differ
+strange-test a b = refl
 
 -- ---- what tests that fail say of the bytes
 
@@ -334,12 +367,61 @@ module _ (d : List ℕ) (j m : ℕ) where
   owed-after (two e p q r) = (rw (p, q, r) (omega arith), omega arith)
   owed-after (three e p q r) = (rw (p, q, r) (omega arith), omega arith)
 
+-- ---- the same of characters of one and two bytes
+
+-- one byte is owed, or none: x goes on with a character, or not
+module _ (x y : ℕ) (s : List ℕ) (e : isStrange x y ≡ false) where
+  strange-parts : (isNever x ≡ false) × (x < 0xE0) × (leb 0xC0 x ≡ isLater y)
+  unfolding isStrange
+  strange-parts =
+      let (p, q) = neither (isNever x || leb 0xE0 x) _ e in
+      let (r, t) = neither (isNever x) _ p in
+      (r, leb-false 0xE0 x t, same _ (isLater y) q)
+
+  pair-next : (n : ℕ) → n ≡ cond (isLater x) 1 0 → run isChar (cond (isLater y) 1 0) (y ∷ s) ≡ run isChar n (x ∷ y ∷ s)
+  unfolding run
+  pair-next n h = go (isLater x) (ltb x 0x80) refl refl
+    where
+      low : x < 0xC0 → isLater y ≡ false
+      low l = sym (strange-parts .2) ∙ lt-leb 0xC0 x l
+
+      go : (k t : Bool) → isLater x ≡ k → ltb x 0x80 ≡ t → run isChar (cond (isLater y) 1 0) (y ∷ s) ≡ run isChar n (x ∷ y ∷ s)
+      go true t p q =
+          let (_, u) = later-bounds x p in
+          rw (h, p, low (omega arith))
+      go false true p q =
+          let l = ltb-true x 0x80 q in
+          rw (h, p, low (omega arith)) (sym (run-low isChar x (y ∷ s) l ∙ rw (never-char x (strange-parts .0) l)))
+      go false false p q =
+          let l = later-not x p (ltb-false x 0x80 q) in
+          let k : isLater y ≡ true = sym (strange-parts .2) ∙ le-leb 0xC0 x l in
+          let u = strange-parts .1 in
+          rw (h, p, k) (sym (run-two x y s k (never-bounds x (strange-parts .0) l .0) (omega arith)))
+
+abbrev strangeOn : List ℕ → Bool
+strangeOn s = isStrange (getD s 0 0) (getD s 1 0)
+
+abbrev owedOn : List ℕ → ℕ
+owedOn s = cond (isLater (getD s 0 0)) 1 0
+
+pairs-on : (k : ℕ) (s : List ℕ) → k + 1 ≤ length s → ((j : ℕ) → j < k → strangeOn (drop j s) ≡ false)
+    → run isChar (owedOn (drop k s)) (drop k s) ≡ run isChar (owedOn s) s
+pairs-on zero s h f = refl
+pairs-on (suc k) [] h f = absurd (omega arith)
+pairs-on (suc k) (x ∷ []) h f = absurd (omega arith)
+pairs-on (suc k) (x ∷ y ∷ s) h f =
+    pairs-on k (y ∷ s) (omega arith) (λ j l. f (suc j) (omega arith)) ∙ pair-next x y s (f 0 (omega arith)) _ refl
+
 module _ (d : List ℕ) (i : ℕ) where
   byte-drop : (k : ℕ) → getD (drop i d) k 0 ≡ getD d (i + k) 0
   byte-drop k = getD-drop i d k 0
 
   first-drop : getD (drop i d) 0 0 ≡ getD d i 0
   first-drop = byte-drop 0 ∙ ap (λ (k : ℕ). getD d k 0) (add-zero i)
+
+  strange-drop : strangeOn (drop i d) ≡ strangeAt d i
+  unfolding strangeAt
+  strange-drop = rw (first-drop, byte-drop 1)
 
   odd-drop : oddOn (drop i d) ≡ oddAt d i
   unfolding oddAt
@@ -377,14 +459,43 @@ module _ (d : List ℕ) (i : ℕ) (h : i + 67 ≤ length d) where
           ap (run isChar 0) (sym (ap (drop m) (drop-drop 64 i d) ∙ drop-drop m (i + 64) d))
           ∙ sym (run-skip isChar m (drop 64 (drop i d))) ∙ e
 
+  pairs-passed : Passes d i (afterPairs d i)
+  unfolding afterPairs
+  pairs-passed = go (isLater (getD d i 0)) (someOf (λ k. strangeAt d (i + k)) 64) (isLater (getD d (i + 64) 0)) refl refl refl
+    where
+      rest : isLater (getD d i 0) ≡ false → someOf (λ k. strangeAt d (i + k)) 64 ≡ false → (b : Bool) → isLater (getD d (i + 64) 0) ≡ b
+          → run isChar (cond b 1 0) (drop (i + 64) d) ≡ run isChar 0 (drop i d)
+      rest p q b r =
+          let l : 64 + 1 ≤ length (drop i d) = omega (arith, length-drop i d) in
+          let f = some-none (λ k. strangeAt d (i + k)) 64 q in
+          let e = pairs-on 64 (drop i d) l (λ j k. rw (drop-drop j i d, strange-drop d (i + j)) (f j k)) in
+          rw (drop-drop 64 i d, first-drop d (i + 64), r, first-drop d i, p) at e
+
+      go : (x y z : Bool) → isLater (getD d i 0) ≡ x → someOf (λ k. strangeAt d (i + k)) 64 ≡ y → isLater (getD d (i + 64) 0) ≡ z
+          → Passes d i (cond x i (cond y i (cond z (i + 65) (i + 64))))
+      go true y z p q r = none-passed
+      go false true z p q r = none-passed
+      go false false true p q r =
+          let one : (i + 64) + 1 ≡ i + 65 = omega arith in
+          record {
+            ahead = omega arith;
+            inside = omega arith;
+            same =
+                ap (run isChar 0) (sym (drop-drop 1 (i + 64) d ∙ ap (λ (k : ℕ). drop k d) one))
+                ∙ sym (run-skip isChar 1 (drop (i + 64) d)) ∙ rest p q true r;
+          }
+      go false false false p q r = record { ahead = omega arith; inside = omega arith; same = rest p q false r }
+
   pub block-passed : Passes d i (afterBlock d i)
   unfolding afterBlock
   block-passed =
-      go (someOf (λ k. isOther (getD d (i + k) 0)) 64) (cutAt d i) (someOf (λ k. oddAt d (i + k)) 64) refl refl refl
+      go (someOf (λ k. isOther (getD d (i + k) 0)) 64) (eqb (afterPairs d i) i) (cutAt d i) (someOf (λ k. oddAt d (i + k)) 64)
+      refl refl refl
     where
-      go : (x y z : Bool) → someOf (λ k. isOther (getD d (i + k) 0)) 64 ≡ x → cutAt d i ≡ y → someOf (λ k. oddAt d (i + k)) 64 ≡ z
-          → Passes d i (cond x (cond y i (cond z i (afterLater d (i + 64)))) (i + 64))
-      go false y z p q r = plain-passed p
-      go true true z p q r = none-passed
-      go true false true p q r = none-passed
-      go true false false p q r = usual-passed q r
+      go : (x v y z : Bool) → someOf (λ k. isOther (getD d (i + k) 0)) 64 ≡ x → cutAt d i ≡ y → someOf (λ k. oddAt d (i + k)) 64 ≡ z
+          → Passes d i (cond x (cond v (cond y i (cond z i (afterLater d (i + 64)))) (afterPairs d i)) (i + 64))
+      go false v y z p q r = plain-passed p
+      go true false y z p q r = pairs-passed
+      go true true true z p q r = none-passed
+      go true true false true p q r = none-passed
+      go true true false false p q r = usual-passed q r

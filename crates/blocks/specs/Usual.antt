@@ -45,8 +45,21 @@ unfoldable pub afterLater : List ℕ → ℕ → ℕ
 afterLater d i =
     cond (isLater (getD d i 0)) (cond (isLater (getD d (i + 1) 0)) (cond (isLater (getD d (i + 2) 0)) (i + 3) (i + 2)) (i + 1)) i
 
+-- a is in no character of one or two bytes, or b goes on with one and is not asked for by a, or the reverse
+unfoldable pub isStrange : ℕ → ℕ → Bool
+isStrange a b = (isNever a || leb 0xE0 a) || differ (leb 0xC0 a) (isLater b)
+
+unfoldable pub strangeAt : List ℕ → ℕ → Bool
+strangeAt d i = isStrange (getD d i 0) (getD d (i + 1) 0)
+
+-- the place after 64 bytes whose characters have one or two bytes: the last of them may go over the end; else i
+unfoldable pub afterPairs : List ℕ → ℕ → ℕ
+afterPairs d i =
+    cond (isLater (getD d i 0)) i (cond (someOf (λ k. strangeAt d (i + k)) 64) i (cond (isLater (getD d (i + 64) 0)) (i + 65) (i + 64)))
+
 -- the place after 64 bytes that are plain, or whose characters are usual: the last of them may go over the end; else i
 unfoldable pub afterBlock : List ℕ → ℕ → ℕ
 afterBlock d i =
     cond (someOf (λ k. isOther (getD d (i + k) 0)) 64)
-    (cond (cutAt d i) i (cond (someOf (λ k. oddAt d (i + k)) 64) i (afterLater d (i + 64)))) (i + 64)
+    (cond (eqb (afterPairs d i) i)
+    (cond (cutAt d i) i (cond (someOf (λ k. oddAt d (i + k)) 64) i (afterLater d (i + 64)))) (afterPairs d i)) (i + 64)

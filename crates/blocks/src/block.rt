@@ -1,7 +1,8 @@
 // Blocks of 64 bytes, passed at once where they are plain, so that each byte is an ASCII character that XML allows, or where all their
 // characters are usual. Usual are the characters that XML allows, but those that begin with EF BF or with F1 and higher bytes.
 //
-// A block that is not plain is looked at as 64 places, each with the three bytes after it, of which the last must go on with a character
+// A block that is not plain is looked at as 64 places, each with the byte after it, which must go on with a character exactly where the one
+// before it asks for that; and where characters have more than two bytes, each with the three bytes after it, of which the last must go on
 // exactly where one of the three before it asks for that.
 //
 //   bytes       61 C3 A9 E2 82 AC F0 9F 98 80 62     C2 to DF ask for one byte more, E0 to EF for two, F0 for three
@@ -10,7 +11,8 @@ ghost use mathlib.Core.Path.{_≡_};
 ghost use Prim.Native.Nat.{_+_, _≤_};
 ghost use lib.ListN.{length, getD};
 ghost use Rattle.blocks.specs.Block.{isOther, someOf};
-ghost use Rattle.blocks.specs.Usual.{isLater, isNever, isOutside, isOdd, oddAt, isCut, afterLater, afterBlock};
+ghost use Rattle.blocks.specs.Usual.{isLater, isNever, isOutside, isOdd, oddAt, isCut};
+ghost use Rattle.blocks.specs.Usual.{isStrange, strangeAt, afterLater, afterPairs, afterBlock};
 
 // Whether b is no ASCII character that XML allows.
 pub fn is_other(b: u8) -> bool
@@ -106,14 +108,56 @@ fn after_later(s: &[u8], i: usize) -> usize
     i + 3
 }
 
+// Whether a is in no character of one or two bytes, or b goes on with a character and is not asked for, or the reverse.
+fn is_strange(a: u8, b: u8) -> bool
+    ensures { λ r. ⌜ r ≡ isStrange a b ⌝ }
+{
+    is_never(a) | (0xE0 <= a) | ((0xC0 <= a) != is_later(b))
+}
+
+// Whether that is so at one of the 64 places from i on.
+fn some_strange64(s: &[u8], i: usize) -> bool
+    requires { ⌜ i + 67 ≤ length (now s) ⌝ }
+    ensures { λ r. ⌜ r ≡ someOf (λ k. strangeAt (now (s .entry)) (i + k)) 64 ⌝ }
+{
+    let mut found = false;
+    let mut j: usize = 0;
+    while j < 64 {
+        found = found | is_strange(s[i + j], s[i + j + 1]);
+        j += 1;
+    }
+    found
+}
+
+// The place after the 64 bytes from i on, and after the character that goes over their end, where all have one or two bytes; else i.
+fn after_pairs(s: &[u8], i: usize) -> usize
+    requires { ⌜ i + 67 ≤ length (now s) ⌝ }
+    ensures { λ r. ⌜ r ≡ afterPairs (now (s .entry)) i ⌝ }
+{
+    if is_later(s[i]) {
+        return i;
+    }
+    if some_strange64(s, i) {
+        return i;
+    }
+    if is_later(s[i + 64]) {
+        return i + 65;
+    }
+    i + 64
+}
+
 // The place after the 64 bytes from i on, and after the character that goes over their end, where they are plain or all their characters
-// are usual; else i.
+// are usual; else i. Where all have one or two bytes a shorter test says so.
 pub fn after_block(s: &[u8], i: usize) -> usize
     requires { ⌜ i + 67 ≤ length (now s) ⌝ }
     ensures { λ r. ⌜ r ≡ afterBlock (now (s .entry)) i ⌝ }
 {
     if !some_other64(s, i) {
         return i + 64;
+    }
+    let e = after_pairs(s, i);
+    if e != i {
+        return e;
     }
     if is_cut(s[i], s[i + 1], s[i + 2]) {
         return i;

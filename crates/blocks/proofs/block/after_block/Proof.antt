@@ -1,7 +1,7 @@
 -- `after_block` meets its contract: one law for each way through the code.
 -- proofs/Owed.antt has them.
 use borrow.Author.Needs.{needs}
-use Rattle.blocks.proofs.Owed.{block-plain, block-cut, block-odd, block-usual}
+use Rattle.blocks.proofs.Owed.{block-plain, block-pairs, block-cut, block-odd, block-usual}
 use Rattle.blocks.proofs.block.after_block.Statement.{statement}
 use Rattle.blocks.proofs.block.after_block.Tie as tie
 
@@ -15,6 +15,16 @@ returns : tie.Need-returns
 returns c =
     let at = c .before .before .before .args in
     block-plain (at .s .now) (at .i) (c .before .some-other64 .ensures) (c .if1 .taken)
+
+after-pairs-requires : tie.Need-after-pairs-requires
+after-pairs-requires c κs = search needs
+
+returns-2 : tie.Need-returns-2
+returns-2 c =
+    let plain = c .before .before in
+    let at = plain .before .before .before .args in
+    block-pairs (at .s .now) (at .i) (plain .before .some-other64 .ensures) (plain .if1 .left) (c .before .after-pairs .ensures)
+    (c .if2 .taken)
 
 shared-slice-read-is-cut : tie.Need-shared-slice-read-is-cut
 shared-slice-read-is-cut c = search needs
@@ -34,22 +44,25 @@ shared-slice-read-is-cut-3 c = search needs
 is-cut-requires : tie.Need-is-cut-requires
 is-cut-requires c κs = search needs
 
-returns-2 : tie.Need-returns-2
-returns-2 c =
-    let plain = c .before .before .before .before .before in
+returns-3 : tie.Need-returns-3
+returns-3 c =
+    let pairs = c .before .before .before .before .before in
+    let plain = pairs .before .before in
     let at = plain .before .before .before .args in
-    block-cut (at .s .now) (at .i) (plain .before .some-other64 .ensures) (plain .if1 .left) (c .before .is-cut .ensures) (c .if2 .taken)
+    block-cut (at .s .now) (at .i) (plain .before .some-other64 .ensures) (plain .if1 .left) (pairs .before .after-pairs .ensures)
+    (pairs .if2 .left) (c .before .is-cut .ensures) (c .if3 .taken)
 
 some-odd64-requires : tie.Need-some-odd64-requires
 some-odd64-requires c κs = search needs
 
-returns-3 : tie.Need-returns-3
-returns-3 c =
+returns-4 : tie.Need-returns-4
+returns-4 c =
     let cut = c .before .before in
-    let plain = cut .before .before .before .before .before in
+    let pairs = cut .before .before .before .before .before in
+    let plain = pairs .before .before in
     let at = plain .before .before .before .args in
-    block-odd (at .s .now) (at .i) (plain .before .some-other64 .ensures) (plain .if1 .left) (cut .before .is-cut .ensures) (cut .if2 .left)
-    (c .before .some-odd64 .ensures) (c .if3 .taken)
+    block-odd (at .s .now) (at .i) (plain .before .some-other64 .ensures) (plain .if1 .left) (pairs .before .after-pairs .ensures)
+    (pairs .if2 .left) (cut .before .is-cut .ensures) (cut .if3 .left) (c .before .some-odd64 .ensures) (c .if4 .taken)
 
 add-after-later : tie.Need-add-after-later
 add-after-later c = search needs
@@ -57,14 +70,16 @@ add-after-later c = search needs
 after-later-requires : tie.Need-after-later-requires
 after-later-requires c κs = search needs
 
-returns-4 : tie.Need-returns-4
-returns-4 c =
+returns-5 : tie.Need-returns-5
+returns-5 c =
     let odd = c .before in
     let cut = odd .before .before in
-    let plain = cut .before .before .before .before .before in
+    let pairs = cut .before .before .before .before .before in
+    let plain = pairs .before .before in
     let at = plain .before .before .before .args in
-    block-usual (at .s .now) (at .i) (plain .before .some-other64 .ensures) (plain .if1 .left) (cut .before .is-cut .ensures)
-    (cut .if2 .left) (odd .before .some-odd64 .ensures) (odd .if3 .left) (c .after-later .ensures)
+    block-usual (at .s .now) (at .i) (plain .before .some-other64 .ensures) (plain .if1 .left) (pairs .before .after-pairs .ensures)
+    (pairs .if2 .left) (cut .before .is-cut .ensures) (cut .if3 .left) (odd .before .some-odd64 .ensures) (odd .if4 .left)
+    (c .after-later .ensures)
 
 pub after-block-spec : {M : Type 1} → statement M
 after-block-spec =
@@ -73,15 +88,17 @@ after-block-spec =
     some-other64-requires
     add-result
     returns
+    after-pairs-requires
+    returns-2
     shared-slice-read-is-cut
     add-is-cut
     shared-slice-read-is-cut-2
     add-is-cut-2
     shared-slice-read-is-cut-3
     is-cut-requires
-    returns-2
-    some-odd64-requires
     returns-3
+    some-odd64-requires
+    returns-4
     add-after-later
     after-later-requires
-    returns-4)
+    returns-5)
