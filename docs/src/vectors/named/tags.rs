@@ -9,6 +9,7 @@ pub fn all() -> Vec<Named> {
     cases.extend(values());
     cases.extend(ends());
     cases.extend(repeated());
+    cases.extend(far_from_the_end());
     cases
 }
 
@@ -181,5 +182,46 @@ fn repeated() -> Vec<Named> {
         sound("<g a:k='' b:k='' xmlns:a='u' xmlns:b='u'/>"),
         sound("<g k='k' l='k'/>"),
         sound("<g k=''><v k=''/><v k=''/></g>"),
+    ]
+}
+
+/// Inside an element, with many bytes behind it.
+fn far(item: &str) -> String {
+    format!("<g>{item}{}</g>", " ".repeat(80))
+}
+
+/// What can be read several bytes at a time only where enough of them are left.
+fn far_from_the_end() -> Vec<Named> {
+    vec![
+        fault(far("<v k='' k=''/>"), 3),
+        fault(far("<v k=\"1\" k='2'></v>"), 3),
+        fault(far("<v k='' l='' m='' l=''/>"), 3),
+        fault(far("<v abcdefgh='' abcdefgh=''/>"), 3),
+        fault(far("<v abcdefghi='' l='' abcdefghi=''/>"), 3),
+        sound(far("<v k='' l=''/>")),
+        sound(far("<v k='' kk=''></v>")),
+        sound(far("<v abcdefghi='' abcdefghj=''/>")),
+        sound(far("<v k = '' l='&lt;' m='\u{e9}'/>")),
+        sound(far("<v\n k='>'\tl='/>' ></v >")),
+        sound(far("<v\u{e9}w k=''></v\u{e9}w>")),
+        fault(far("<v k=''l=''/>"), 3),
+        fault(far("<v k='<'/>"), 3),
+        fault(far("<v k='&'/>"), 3),
+        fault(far("<v k=''"), 3),
+        fault(far("<v k/>"), 3),
+        fault(far("<v k=1/>"), 3),
+        fault(far("<v 1=''/>"), 3),
+        fault(far("<v></vw>"), 6),
+        fault(far("<vw></v>"), 7),
+        fault(far("<vw></vx>"), 7),
+        sound(far("<abcdefgh></abcdefgh>")),
+        fault(far("<abcdefgh></abcdefgi>"), 13),
+        sound(far("<abcdefghi></abcdefghi>")),
+        fault(far("<abcdefghi></abcdefghj>"), 14),
+        sound(far("]")),
+        sound(far("x]] >y]>")),
+        fault(far("x]]>"), 3),
+        sound(far("0123456789abcdef]]")),
+        fault(far("0123456789abcdef]]>"), 3),
     ]
 }
