@@ -29,7 +29,7 @@ use Rattle.writer.proofs.Laying.{laid-whole}
 use Rattle.notes.specs.Notes.{textOf, Within, Stood}
 use Rattle.trees.specs.Written.{cutOf, countOf, testsOf}
 use Rattle.cutter.specs.Answer.{byList, faultOf, byDocument, byRoom, answerBy, answerOf, after, bytesBy, bytesAfter}
-use Rattle.passes.specs.Passed.{judgedBy, Told, Passed}
+use Rattle.passes.specs.Passed.{judgedBy, Told, PassedBy, Passed}
 use Rattle.cutter.specs.declared.Answer.{Answer}
 use Rattle.cutter.specs.declared.Answer.the-variants.{Written, ListTooLong, ListMalformed, ListTooLarge, TooLong}
 use Rattle.cutter.specs.declared.Answer.the-variants.{OtherEncoding, NotChar, Doctype, Malformed, TooLarge, Short}
@@ -157,12 +157,12 @@ module _ (list d o : List ℕ) (small : length d ≤ 16777216) (utf8 : otherEnco
         → AnswersBy list d o (Written len count tests) o′
     written-noted l f w = laid-answers l (w .laid ∙ ap (sets o 0) (told .4 .text f))
 
-    -- by a second pass
-    pub written-whole : len ≤ length o → {m₂ : Outcome} {o′ g′ : List ℕ} → Passed list d o m₂ o′ g′
+    -- by a second pass, in which no name tests are counted
+    pub written-whole : len ≤ length o → {m₂ : Outcome} {o′ g′ : List ℕ} → PassedBy false list d o m₂ o′ g′
         → AnswersBy list d o (Written len count tests) o′
     written-whole l {m₂} {o′} {g′} p₂ = laid-answers l (laid m₂ (p₂ .judged) (p₂ .told))
       where
-        laid : (x : Outcome) → judgedBy x ≡ scanned d → Told d (cutOf list d) (countOf list d) (testsOf list d) o x o′ g′
+        laid : (x : Outcome) → judgedBy x ≡ scanned d → Told d (cutOf list d) (countOf list d) 0 o x o′ g′
             → o′ ≡ sets o 0 (cutOf list d)
         laid (Fine n c i j) e t = t .3
         laid (Fault w at) e t =

@@ -95,7 +95,7 @@ fn written(list: &[u8], t: &Compiled, doc: &[u8], out: &mut [u8], log: &mut [u64
 {
     let table = classes();
     let mut scratch = [0u8; 1];
-    match pass(&table, list, t, doc, &mut scratch, log) {
+    match pass(&table, list, t, true, doc, &mut scratch, log) {
         Outcome::Fault(why, place) => fault_of(why, place),
         Outcome::Fine(length, selected, tests, noted) => {
             if out.len() < length {
@@ -109,7 +109,7 @@ fn written(list: &[u8], t: &Compiled, doc: &[u8], out: &mut [u8], log: &mut [u64
                     tests,
                 };
             }
-            pass(&table, list, t, doc, out, log);
+            pass(&table, list, t, false, doc, out, log);
             Answer::Written {
                 length,
                 selected,

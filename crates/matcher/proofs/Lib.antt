@@ -16,6 +16,7 @@ pub mod Rows
 pub mod Serving
 pub mod Sums
 pub mod Carrying
+pub mod Alike
 pub mod Selecting
 pub mod Picking
 pub mod OneAnswer

@@ -4,7 +4,8 @@ ghost use mathlib.Core.Path.{_≡_};
 ghost use Rattle.paths.specs.Judge.{listPaths};
 ghost use Prim.Native.Nat.{_+_, _≤_};
 ghost use lib.ListN.{length, take, drop};
-ghost use Rattle.matcher.specs.Fit.{fitFor, Serves};
+ghost use Rattle.lookup.specs.Names.{namesOf, placeOf};
+ghost use Rattle.matcher.specs.Fit.{fitFor, fitAt, Serves};
 ghost use Rattle.matcher.specs.Picked.{pickedBy};
 use crate::Verdict;
 use crate::state::MatchState;
@@ -37,21 +38,29 @@ fn numbers(t: &[u16], from: usize) -> [u16; MatchState::PATHS]
     bits
 }
 
-// The fit of a name, by the tables of a sound list: the row of the name's place among the list's names, and the list's columns.
-pub fn fit_of(list: &[u8], t: &Compiled, name: &[u8]) -> Fit
+// The row of a name in the tables of a sound list: its place among the list's names, or 0 for a name that no step has.
+pub fn row_of(list: &[u8], t: &Compiled, name: &[u8]) -> usize
     requires { ⌜ Serves (now list) (now t) ⌝ }
-    ensures { λ r. ⌜ r ≡ fitFor (listPaths (now (list .entry))) (now (name .entry)) ⌝ }
+    ensures { λ r. ⌜ r ≡ placeOf (namesOf (listPaths (now (list .entry)))) (now (name .entry)) ⌝ }
 {
     let s = &t[..];
-    let k = find(
+    find(
         list,
         &s[layout::AT..layout::LEN],
         &s[layout::LEN..layout::HEAD],
         &s[layout::HEAD..layout::NEXT],
         &s[layout::NEXT..layout::ROWS],
         name,
-    );
-    let passes = numbers(s, layout::ROWS + layout::PATHS * k);
+    )
+}
+
+// The fit of a row of the tables, with the list's columns.
+pub fn fit_by(t: &Compiled, row: usize) -> Fit
+    requires { ⌜ row ≤ 512 ⌝ }
+    ensures { λ r. ⌜ r ≡ fitAt (now (t .entry)) row ⌝ }
+{
+    let s = &t[..];
+    let passes = numbers(s, layout::ROWS + layout::PATHS * row);
     let stays = numbers(s, layout::STAYS);
     let goes = numbers(s, layout::GOES);
     let far = numbers(s, layout::FAR);
@@ -65,6 +74,15 @@ pub fn fit_of(list: &[u8], t: &Compiled, name: &[u8]) -> Fit
         lasts,
         marks,
     }
+}
+
+// The fit of a name, by the tables of a sound list: that of its row.
+pub fn fit_of(list: &[u8], t: &Compiled, name: &[u8]) -> Fit
+    requires { ⌜ Serves (now list) (now t) ⌝ }
+    ensures { λ r. ⌜ r ≡ fitFor (listPaths (now (list .entry))) (now (name .entry)) ⌝ }
+{
+    let row = row_of(list, t, name);
+    fit_by(t, row)
 }
 
 impl Fit {

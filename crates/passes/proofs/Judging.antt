@@ -31,9 +31,9 @@ module _ (list d : List ℕ) (at n h : ℕ) (m : MatchState) (f : Fit) where
       → b ≡ somePlace (take 32 (drop 18368 t)) → b ≡ false → Judges w
   judged-untested s e g y = untested e (any-untested s (sym y ∙ g))
 
-  pub judged-tested : {k : ℕ} → k ≡ selectingBy m f → {j : ℕ}
-      → j ≡ passingOf (listPaths list) k (attributesIn 0 (take (h - (at + 1 + n)) (drop (at + 1 + n) d))) → {w : Verdict} → w ≡ pickedBy f j
+  pub judged-tested : {g : Fit} → g ≡ f → {k : ℕ} → k ≡ selectingBy m g → {j : ℕ}
+      → j ≡ passingOf (listPaths list) k (attributesIn 0 (take (h - (at + 1 + n)) (drop (at + 1 + n) d))) → {w : Verdict} → w ≡ pickedBy g j
       → Judges w
-  judged-tested ek ej ew = tested (rw (rw ek at ej) at ew)
+  judged-tested eg ek ej ew = tested (rw eg at (rw (rw ek at ej) at ew))
 
 pub ruleset judging = (judged-unselected, judged-untested, judged-tested, needs)

@@ -2,7 +2,7 @@
 -- of the buffer, and what the notes stand for, unless some were left out. After a fault nothing is said of the buffer and of the log.
 -- Both theorems are over the contract that the toolchain makes of the source.
 use mathlib.Core.Path.{_≡_, sym, _∙_}
-use mathlib.Core.Bool.{false≢true}
+use mathlib.Core.Bool.{Bool, cond, false≢true}
 use mathlib.Core.List.{List}
 use Prim.Native.Nat.{ℕ, _≤_}
 use lib.ListN.{length}
@@ -13,7 +13,7 @@ use Rattle.document.specs.declared.judge.Judged.the-variants.{Sound}
 use Rattle.notes.specs.Notes.{Stood, textOf}
 use Rattle.notes.specs.Alike.{Alike}
 use Rattle.trees.specs.Written.{cutOf, countOf, testsOf}
-use Rattle.passes.specs.Passed.{judgedBy, Told, Passed}
+use Rattle.passes.specs.Passed.{judgedBy, Told, PassedBy}
 use Rattle.passes.specs.declared.Outcome.{Outcome}
 use Rattle.passes.specs.declared.Outcome.the-variants.{Fine, Fault}
 use Rattle.passes.proofs.pass.Reads as pass
@@ -33,39 +33,42 @@ pub record Same (d : List ℕ) (r : Outcome) (o g : List ℕ) (r′ : Outcome) (
   pub buffer : o ≡ o′
   pub noted : notesOf r ≤ length g → notesOf r′ ≤ length g′ → textOf d g (notesOf r) ≡ textOf d g′ (notesOf r′)
 
-outcome-one : (list d o : List ℕ) (r r′ : Outcome) (o₁ g₁ o₂ g₂ : List ℕ) → Passed list d o r o₁ g₁ → Passed list d o r′ o₂ g₂
+outcome-one : (counts : Bool) (list d o : List ℕ) (r r′ : Outcome) (o₁ g₁ o₂ g₂ : List ℕ) → PassedBy counts list d o r o₁ g₁
+    → PassedBy counts list d o r′ o₂ g₂
     → unnoted r ≡ unnoted r′
-outcome-one list d o r r′ o₁ g₁ o₂ g₂ p q = go r r′ (p .judged ∙ sym (q .judged)) (p .told) (q .told)
+outcome-one counts list d o r r′ o₁ g₁ o₂ g₂ p q = go r r′ (p .judged ∙ sym (q .judged)) (p .told) (q .told)
   where
-    go : (x y : Outcome) → judgedBy x ≡ judgedBy y → Told d (cutOf list d) (countOf list d) (testsOf list d) o x o₁ g₁
-        → Told d (cutOf list d) (countOf list d) (testsOf list d) o y o₂ g₂ → unnoted x ≡ unnoted y
+    go : (x y : Outcome) → judgedBy x ≡ judgedBy y → Told d (cutOf list d) (countOf list d) (cond counts (testsOf list d) 0) o x o₁ g₁
+        → Told d (cutOf list d) (countOf list d) (cond counts (testsOf list d) 0) o y o₂ g₂ → unnoted x ≡ unnoted y
     go (Fine n c m l) (Fine n′ c′ m′ l′) e s t = rw (s .0, s .1, s .2, t .0, t .1, t .2)
     go (Fine n c m l) (Fault w at) e s t = absurd (false≢true cc)
     go (Fault w at) (Fine n c m l) e s t = absurd (false≢true cc)
     go (Fault w at) (Fault v to) e s t = cc
 
 -- where the document is sound
-sound-one : (list d o : List ℕ) (r r′ : Outcome) (o₁ g₁ o₂ g₂ : List ℕ) → Passed list d o r o₁ g₁ → Passed list d o r′ o₂ g₂
+sound-one : (counts : Bool) (list d o : List ℕ) (r r′ : Outcome) (o₁ g₁ o₂ g₂ : List ℕ) → PassedBy counts list d o r o₁ g₁
+    → PassedBy counts list d o r′ o₂ g₂
     → scanned d ≡ Sound → Same d r o₁ g₁ r′ o₂ g₂
-sound-one list d o r r′ o₁ g₁ o₂ g₂ p q sound =
+sound-one counts list d o r r′ o₁ g₁ o₂ g₂ p q sound =
     let a = says r o₁ g₁ (p .judged ∙ sound) (p .told) in
     let b = says r′ o₂ g₂ (q .judged ∙ sound) (q .told) in
     record {
-      outcome = outcome-one list d o r r′ o₁ g₁ o₂ g₂ p q;
+      outcome = outcome-one counts list d o r r′ o₁ g₁ o₂ g₂ p q;
       buffer = a .0 ∙ sym (b .0);
       noted = λ h k. a .1 .text h ∙ sym (b .1 .text k);
     }
   where
-    says : (x : Outcome) (b g : List ℕ) → judgedBy x ≡ Sound → Told d (cutOf list d) (countOf list d) (testsOf list d) o x b g
+    says : (x : Outcome) (b g : List ℕ) → judgedBy x ≡ Sound
+        → Told d (cutOf list d) (countOf list d) (cond counts (testsOf list d) 0) o x b g
         → (b ≡ sets o 0 (cutOf list d)) × Stood d g (notesOf x) (cutOf list d)
     says (Fine n c m l) b g e s = (s .3, s .4)
     says (Fault w at) b g e s = absurd (false≢true cc)
 
 -- `pass`
 pub pass-one : Alike pass.Asked pass.Learnt (λ κs a z e z′ e′. unnoted z ≡ unnoted z′)
-pass-one κs a z z′ e e′ x = outcome-one _ _ _ z z′ _ _ _ _
+pass-one κs a z z′ e e′ x = outcome-one _ _ _ _ z z′ _ _ _ _
 
-pub buffer-one : Alike (λ κs a. pass.Asked κs a × (scanned (now (a .1 .1 .1 .0)) ≡ Sound)) pass.Learnt
-    (λ κs a z e z′ e′. Same (now (a .1 .1 .1 .0)) z (now (e .1 .1 .1 .1 .0)) (now (e .1 .1 .1 .1 .1 .0))
-    z′ (now (e′ .1 .1 .1 .1 .0)) (now (e′ .1 .1 .1 .1 .1 .0)))
-buffer-one κs a z z′ e e′ x p q = sound-one _ _ _ z z′ _ _ _ _ p q (x .1)
+pub buffer-one : Alike (λ κs a. pass.Asked κs a × (scanned (now (a .1 .1 .1 .1 .0)) ≡ Sound)) pass.Learnt
+    (λ κs a z e z′ e′. Same (now (a .1 .1 .1 .1 .0)) z (now (e .1 .1 .1 .1 .1 .0)) (now (e .1 .1 .1 .1 .1 .1 .0))
+    z′ (now (e′ .1 .1 .1 .1 .1 .0)) (now (e′ .1 .1 .1 .1 .1 .1 .0)))
+buffer-one κs a z z′ e e′ x p q = sound-one _ _ _ _ z z′ _ _ _ _ p q (x .1)

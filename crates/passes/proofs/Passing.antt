@@ -1,18 +1,21 @@
 -- The pass over the items. The invariant: the code's state stands for an engine from which the rest of the pass comes to what it comes to
 -- from the start; the scan of the document does too. Then a law for each way on and each way out.
-use mathlib.Core.Path.{_≡_, refl, sym, ap, _∙_}
-use mathlib.Core.Bool.{Bool, true, false}
+use mathlib.Core.Path.{_≡_, refl, sym, ap, ap₂, _∙_}
+use mathlib.Core.Bool.{Bool, true, false, cond}
 use mathlib.Core.List.{List, [], _∷_, _++_}
-use mathlib.Core.Logic.{⊎-elim}
-use Prim.Native.Nat.{ℕ, _+_, _-_, _*_, _≤_, _<_}
-use native.Mathlib.Nat.{eq-or-lt-of-le}
+use mathlib.Core.Logic.{_⊎_, inl, inr, ⊎-elim}
+use Prim.Native.Nat.{ℕ, zero, suc, _+_, _-_, _*_, _≤_, _<_}
+use native.Mathlib.Nat.{zero-add, eq-or-lt-of-le}
 use native.Mathlib.Omega.{arith}
+use borrow.Author.Tests.{eqb-true, eqb-false}
 use types.Run.{OneOf}
 use denote.Enum.Declared.{tagOf as kindOf}
 use mir.Syntax.{w64}
 use mir.Val.{Fits}
+use lib.Dec.{eqb}
 use lib.ListN.{length, take, drop, getD, set, length-set, replicate, length-replicate}
 use lib.Seq.{sets, getD-set-same, getD-set-other}
+use Rattle.paths.specs.Path.{Path}
 use Rattle.paths.specs.Judge.{listAnswer, listPaths}
 use Rattle.paths.specs.declared.ListAnswer.the-variants.{Sound as SoundList}
 use Rattle.tags.proofs.Item as item
@@ -38,19 +41,21 @@ use Rattle.attributes.specs.Held.{attributesIn, attributesOf}
 use Rattle.attributes.proofs.Placed.{attributes-behind}
 use Rattle.matcher.specs.Says.{verdictOf}
 use Rattle.matcher.specs.Picked.{passingOf, pickedBy, Untested}
-use Rattle.matcher.specs.Fit.{fitFor}
+use Rattle.matcher.specs.Fit.{fitFor, fitAt}
 use Rattle.matcher.specs.State.{freshState, deeperOf, verdictBy, selectingBy, stateOf, testsBy}
 use Rattle.matcher.specs.declared.Verdict.{Verdict}
 use Rattle.matcher.specs.declared.Verdict.the-variants.{Unselected}
 use Rattle.matcher.specs.declared.fit.Fit.{Fit}
 use Rattle.matcher.specs.declared.state.MatchState.{MatchState}
 use Rattle.matcher.proofs.Meaning.{verdict-told, unselected-told, untested-told}
-use Rattle.xml.specs.Forest.{Tag}
+use Rattle.recall.specs.Known.{knownOf, unknown, Recalls, nothing, something}
+use Rattle.recall.specs.declared.Known.{Known}
+use Rattle.xml.specs.Forest.{Name, Tag}
 use Rattle.trees.specs.Cut.{on}
-use Rattle.trees.specs.Grown.{part, tagOf, tokensOf}
+use Rattle.trees.specs.Grown.{Token, start, finish, aside, part, tagOf, tokensOf}
 use Rattle.notes.specs.Notes.{Stood}
 use Rattle.notes.proofs.Making.{stood-none}
-use Rattle.trees.specs.Engine.{Engine, engine, begun, openOf, run as runs}
+use Rattle.trees.specs.Engine.{Engine, engine, begun, openOf, outer, tallied, run as runs}
 use Rattle.trees.specs.Written.{rootFirst, verdicts, cutOf, countOf, nameTests, testsOf}
 use Rattle.trees.proofs.Told.{run-cut, run-tests}
 use Rattle.passes.specs.ByTests.{ByTests, unselected, untested, tested}
@@ -60,7 +65,7 @@ use Rattle.output.specs.declared.Run.{Run}
 use Rattle.output.proofs.Chains.{name-part}
 use Rattle.output.proofs.Steps.{open-is}
 use Rattle.passes.specs.Opens.{Opens}
-use Rattle.passes.specs.Passed.{Passed}
+use Rattle.passes.specs.Passed.{PassedBy}
 use Rattle.passes.specs.declared.Outcome.the-variants.{Fine as Ended, Fault}
 use Rattle.quick.proofs.Opened.{start-named}
 use Rattle.passes.proofs.Telling.{opens-none, opens-kept, opens-more}
@@ -68,11 +73,91 @@ use Rattle.passes.proofs.Rests.{Rest, untagged, rest-start, rest-over, 
 use Rattle.passes.proofs.States.{none, above, Held, Stored, name-here, span-below, held-start, held-kept, held-deeper, held-same}
 use Rattle.passes.proofs.States.{parent-is, stored-long}
 
-pub record Passing (list d o₀ g₀ : List ℕ) (states : List MatchState) (starts lens : List ℕ) (opened : Open) (run : Run) (at : ℕ)
-    (first : Bool) (tests : ℕ) (o g : List ℕ) : Type 0 where
+-- ---- what is known of elements, and the name tests
+
+-- no entry
+abbrev pub blank : Known
+blank = record { row = 0; parent = none; below = none; verdict = Unselected; tests = 0 }
+
+unknown-row : {e : Known} → e ≡ unknown → 512 < e .row
+unfolding unknown
+unknown-row {e} u = let z : e .row ≡ 513 = ap (λ (x : Known). x .row) u in omega (arith, z)
+
+pub recalls-none : (counts : Bool) (tb : List ℕ) {e : Known} → e ≡ unknown → (n i : ℕ) → i < length (replicate n e)
+    → Recalls counts tb (getD (replicate n e) i blank)
+recalls-none counts tb u zero i l = absurd (omega arith)
+recalls-none counts tb u (suc n) zero l = nothing (unknown-row u)
+recalls-none counts tb u (suc n) (suc i) l = recalls-none counts tb u n i (omega arith)
+
+-- what is known of an element is kept in place of another
+pub recalls-set : {counts : Bool} {tb : List ℕ} (memo : List Known) → ((i : ℕ) → i < length memo → Recalls counts tb (getD memo i blank))
+    → (slot : ℕ) {e : Known} → Recalls counts tb e → (i : ℕ) → i < length (set memo slot e)
+    → Recalls counts tb (getD (set memo slot e) i blank)
+recalls-set {counts} {tb} memo v slot {e} r i l = decided (eqb i slot) refl
+  where
+    inside : i < length memo
+    inside = omega (arith, l, length-set memo slot e)
+
+    decided : (b : Bool) → eqb i slot ≡ b → Recalls counts tb (getD (set memo slot e) i blank)
+    decided true q =
+        let z : i ≡ slot = eqb-true i slot q in
+        rw (z, getD-set-same memo slot e blank (omega (arith, inside, z))) r
+    decided false q = rw (getD-set-other memo slot i e blank (eqb-false i slot q)) (v i inside)
+
+-- one number is stored, or none is
+abbrev pub Written : List ℕ → List ℕ → Type 0
+Written xs ys = ((i : ℕ) × (y : ℕ) × (ys ≡ set xs i y)) ⊎ (ys ≡ xs)
+
+written-long : {xs ys : List ℕ} → Written xs ys → length ys ≡ length xs
+written-long {xs} (inl (i, y, e)) = ap length e ∙ length-set xs i y
+written-long (inr e) = ap length e
+
+-- what is known of a row and a state is what may be kept
+pub known-recalls : (counts : Bool) (tb : List ℕ) (k : ℕ) (m : MatchState) {e : Known} → (e ≡ knownOf counts tb k m) × (e .tests ≤ 512)
+    → Recalls counts tb e
+unfolding knownOf
+known-recalls counts tb k m q =
+    let z = q .0 in
+    something
+    (z ∙ ap₂ (knownOf counts tb) (sym (ap (λ (x : Known). x .row) z)) (sym (ap (λ (x : Known). x .parent) z)))
+    (q .1)
+
+pub tests-told : (counts : Bool) (tb : List ℕ) (k : ℕ) (m : MatchState) {e : Known} → (e ≡ knownOf counts tb k m) × (e .tests ≤ 512)
+    → (e .tests ≡ cond counts (testsBy m (fitAt tb k)) 0) × (e .tests ≤ 512)
+unfolding knownOf
+tests-told counts tb k m q = (ap (λ (x : Known). x .tests) (q .0), q .1)
+
+pub below-told : (counts : Bool) (tb : List ℕ) (k : ℕ) (m : MatchState) {e : Known} → (e ≡ knownOf counts tb k m) × (e .tests ≤ 512)
+    → e .below ≡ deeperOf m (fitAt tb k)
+unfolding knownOf
+below-told counts tb k m q = ap (λ (x : Known). x .below) (q .0)
+
+pub verdict-told-by : (counts : Bool) (tb : List ℕ) (k : ℕ) (m : MatchState) {e : Known} → (e ≡ knownOf counts tb k m) × (e .tests ≤ 512)
+    → e .verdict ≡ verdictBy m (fitAt tb k)
+unfolding knownOf
+verdict-told-by counts tb k m q = ap (λ (x : Known). x .verdict) (q .0)
+
+-- a sum of nothing
+none-tallied : (ts : List Token) (up : List Name) → tallied (λ (ns : List Name). 0) ts up ≡ 0
+none-tallied [] up = refl
+none-tallied (start t ∷ ts) up = zero-add (tallied (λ (ns : List Name). 0) ts (t .name ∷ up)) ∙ none-tallied ts (t .name ∷ up)
+none-tallied (finish raw ∷ ts) up = none-tallied ts (outer up)
+none-tallied (aside raw ∷ ts) up = none-tallied ts up
+
+-- the name tests at the element of these names, where they are counted
+abbrev pub countedTests : Bool → List Path → List Name → ℕ
+countedTests counts ps ns = cond counts (nameTests ps ns) 0
+
+counted-tests : (counts : Bool) (list d : List ℕ) → scanned d ≡ Sound
+    → tallied (countedTests counts (listPaths list)) (tokensOf d) [] ≡ cond counts (testsOf list d) 0
+counted-tests true list d e = run-tests list d e
+counted-tests false list d e = none-tallied (tokensOf d) []
+
+pub record Passing (counts : Bool) (list tb d o₀ g₀ : List ℕ) (states : List MatchState) (memo : List Known) (slots starts lens : List ℕ)
+    (opened : Open) (run : Run) (at : ℕ) (first : Bool) (tests : ℕ) (o g : List ℕ) : Type 0 where
   pub judging : Judging d starts lens opened at first
   pub x : Engine
-  pub rest : Rest (verdicts (listPaths list)) (nameTests (listPaths list)) d at first x tests
+  pub rest : Rest (verdicts (listPaths list)) (countedTests counts (listPaths list)) d at first x tests
   pub stands : Stands d starts lens o₀ (opened .level .0) (run .reached .0) (run .kept) (run .len) (run .count) (run .noted) o g x
   pub held : Held (listPaths list) states d starts lens (opened .level .0)
   pub opens : Opens d starts lens (opened .level .0)
@@ -81,21 +166,26 @@ pub record Passing (list d o₀ g₀ : List ℕ) (states : List MatchState) (sta
   pub few : run .count ≤ at * 2
   pub many : tests ≤ at * 512
   pub long : length states ≡ 64
+  pub recalls : (i : ℕ) → i < length memo → Recalls counts tb (getD memo i blank)
+  pub memo-long : length memo ≡ 64
+  pub slots-long : length slots ≡ 64
   pub room : length o ≡ length o₀
   pub log-room : length g ≡ length g₀
 
-pub pass-start : (list d o g : List ℕ) {m : MatchState} {opened : Open} {run : Run} {at : ℕ}
+pub pass-start : (counts : Bool) (list tb d o g : List ℕ) {m : MatchState} {e : Known} {opened : Open} {run : Run} {at : ℕ}
     → opened ≡ record { level = record { 0 = 0 }; rooted = false }
     → run ≡ record { reached = record { 0 = 0 }; kept = 0; len = 0; count = 0; noted = 0 }
     → at ≡ startOf d
     → m ≡ freshState
-    → Passing list d o g (replicate 64 m) (replicate 64 0) (replicate 64 0) opened run at true 0 o g
-pass-start list d o g {m} {at = at} p r q f =
+    → e ≡ unknown
+    → Passing counts list tb d o g (replicate 64 m) (replicate 64 e) (replicate 64 0) (replicate 64 0) (replicate 64 0) opened run at true 0
+    o g
+pass-start counts list tb d o g {m} {e} {at = at} p r q f u =
     rw (p, r)
     (record {
       judging = judge-start d refl q;
       x = begun;
-      rest = rw q (rest-start (verdicts (listPaths list)) (nameTests (listPaths list)) d);
+      rest = rw q (rest-start (verdicts (listPaths list)) (countedTests counts (listPaths list)) d);
       stands =
           record {
             kept-is = refl;
@@ -112,20 +202,24 @@ pass-start list d o g {m} {at = at} p r q f =
       few = omega arith;
       many = omega arith;
       long = length-replicate {A = MatchState} 64 m;
+      recalls = recalls-none counts tb u 64;
+      memo-long = length-replicate {A = Known} 64 e;
+      slots-long = length-replicate {A = ℕ} 64 0;
       room = refl;
       log-room = refl;
     })
 
 -- ---- out
 
-module _ {list d o₀ g₀ : List ℕ} {states : List MatchState} {starts lens : List ℕ} {opened : Open} {run : Run} {at : ℕ} {first : Bool}
-    {tests : ℕ} {o g : List ℕ} (v : Passing list d o₀ g₀ states starts lens opened run at first tests o g)
+module _ {counts : Bool} {list tb d o₀ g₀ : List ℕ} {states : List MatchState} {memo : List Known} {slots starts lens : List ℕ}
+    {opened : Open} {run : Run} {at : ℕ} {first : Bool} {tests : ℕ} {o g : List ℕ}
+    (v : Passing counts list tb d o₀ g₀ states memo slots starts lens opened run at first tests o g)
     {i : Item} (e : i ≡ itemAt first d at)
     {p : Placement} (q : p ≡ placement d at i (openedOf d starts lens opened)) where
-  pub pass-fault : (why : Why) → p ≡ Faulty why → Passed list d o₀ (Fault why at) o g
+  pub pass-fault : (why : Why) → p ≡ Faulty why → PassedBy counts list d o₀ (Fault why at) o g
   pass-fault why h = record { judged = judge-fault (v .judging) e q why h; told = tt }
 
-  pub pass-over : p ≡ Over → Passed list d o₀ (Ended (run .len) (run .count) tests (run .noted)) o g
+  pub pass-over : p ≡ Over → PassedBy counts list d o₀ (Ended (run .len) (run .count) tests (run .noted)) o g
   pass-over h = record { judged = sound; told = go (v .x) (v .stands) (whole ∙ run-cut list d (sym sound)) }
     where
       sound : Sound ≡ scanned d
@@ -134,13 +228,14 @@ module _ {list d o₀ g₀ : List ℕ} {states : List MatchState} {starts lens :
       whole : v .x ≡ runs (verdicts (listPaths list)) (tokensOf d) begun
       whole = rest-over (v .rest) e (openedOf d starts lens opened) (sym q ∙ h)
 
-      counted : tests ≡ testsOf list d
-      counted = sum-over (v .rest) e (openedOf d starts lens opened) (sym q ∙ h) ∙ run-tests list d (sym sound)
+      counted : tests ≡ cond counts (testsOf list d) 0
+      counted = sum-over (v .rest) e (openedOf d starts lens opened) (sym q ∙ h) ∙ counted-tests counts list d (sym sound)
 
       go : (y : Engine) → Stands d starts lens o₀ (opened .level .0) (run .reached .0) (run .kept) (run .len) (run .count)
           (run .noted) o g y
           → y ≡ engine false [] [] (cutOf list d) (countOf list d)
-          → (run .len ≡ length (cutOf list d)) × (run .count ≡ countOf list d) × (tests ≡ testsOf list d) × (o ≡ sets o₀ 0 (cutOf list d))
+          → (run .len ≡ length (cutOf list d)) × (run .count ≡ countOf list d) × (tests ≡ cond counts (testsOf list d) 0)
+          × (o ≡ sets o₀ 0 (cutOf list d))
           × Stood d g (run .noted) (cutOf list d)
       go (engine k p′ d′ w c) t z =
           let a : w ≡ cutOf list d = cc in
@@ -154,8 +249,9 @@ by-deeper P true l a c = a
 by-deeper P false l a c = c
 
 -- the numbers of a step are within 64 bits
-module _ {list d o₀ g₀ : List ℕ} {states : List MatchState} {starts lens : List ℕ} {opened : Open} {run : Run} {at : ℕ} {first : Bool}
-    {tests : ℕ} {o g : List ℕ} (v : Passing list d o₀ g₀ states starts lens opened run at first tests o g)
+module _ {counts : Bool} {list tb d o₀ g₀ : List ℕ} {states : List MatchState} {memo : List Known} {slots starts lens : List ℕ}
+    {opened : Open} {run : Run} {at : ℕ} {first : Bool} {tests : ℕ} {o g : List ℕ}
+    (v : Passing counts list tb d o₀ g₀ states memo slots starts lens opened run at first tests o g)
     (small : length d ≤ 16777216) where
   pub pass-ready : length g₀ ≤ 16777216 → at < length d → Ready d g run 72057594037927936
   pass-ready s l =
@@ -223,8 +319,9 @@ stands-kept {d} {starts} {lens} {level = level} {reached} h t a n =
       notes = t .notes;
     }
 
-module _ {list d o₀ g₀ : List ℕ} {states : List MatchState} {starts lens : List ℕ} {opened : Open} {run : Run} {at : ℕ} {first : Bool}
-    {tests : ℕ} {o g : List ℕ} (v : Passing list d o₀ g₀ states starts lens opened run at first tests o g)
+module _ {counts : Bool} {list tb d o₀ g₀ : List ℕ} {states : List MatchState} {memo : List Known} {slots starts lens : List ℕ}
+    {opened : Open} {run : Run} {at : ℕ} {first : Bool} {tests : ℕ} {o g : List ℕ}
+    (v : Passing counts list tb d o₀ g₀ states memo slots starts lens opened run at first tests o g)
     {i : Item} (e : i ≡ itemAt first d at)
     {p : Placement} (q : p ≡ placement d at i (openedOf d starts lens opened)) (h : p ≡ Fine) where
   inner : Inside d at i
@@ -258,7 +355,7 @@ module _ {list d o₀ g₀ : List ℕ} {states : List MatchState} {starts lens :
     pub pass-other : OneOf untagged (kindOf item.the-type i) → {run′ : Run} {o′ g′ : List ℕ}
         → Moves d starts′ lens′ (opened .level .0) run o g (onOther d at i) 1 (levelAfter i (opened .level .0)) run′ o′ g′
         → {opened′ : Open} → opened′ ≡ openAfter i opened → {n : ℕ} → n ≡ endOf at i
-        → Passing list d o₀ g₀ states starts′ lens′ opened′ run′ n false tests o′ g′
+        → Passing counts list tb d o₀ g₀ states memo slots starts′ lens′ opened′ run′ n false tests o′ g′
     pass-other k {run′} {o′} {g′} m {opened′} eo {n} en =
         record {
           judging = scan-on (v .judging) e q h es el eo en;
@@ -272,6 +369,9 @@ module _ {list d o₀ g₀ : List ℕ} {states : List MatchState} {starts lens :
           few = omega (arith, m .few, v .few, ahead .0);
           many = omega (arith, v .many, ahead .0);
           long = v .long;
+          recalls = v .recalls;
+          memo-long = v .memo-long;
+          slots-long = v .slots-long;
           room = m .same ∙ v .room;
           log-room = m .room ∙ v .log-room;
         }
@@ -447,14 +547,15 @@ module _ {list d o₀ g₀ : List ℕ} {states : List MatchState} {starts lens :
             (held-same (v .held) (at + 1) n ls ll (v .long) state-is et)
             (held-deeper (v .held) (at + 1) n ls ll (v .long) state-is et)
 
-        tests-are : {k : ℕ} → k ≡ testsBy parent fit → k ≡ nameTests (listPaths list) (nameFrom d (at + 1) n ∷ openOf (v .x))
+        tests-are : {k : ℕ} → k ≡ cond counts (testsBy parent fit) 0
+            → k ≡ countedTests counts (listPaths list) (nameFrom d (at + 1) n ∷ openOf (v .x))
         unfolding nameTests
         tests-are ek =
             ek
-            ∙ ap (λ (y : MatchState). testsBy y fit) parent-state
-            ∙ ap (testsBy (stateOf (listPaths list) (above d starts lens (opened .level .0)))) fit-is
-            ∙ ap (λ (ns : List (List ℕ)). testsBy (stateOf (listPaths list) (rootFirst ns)) (fitFor (listPaths list) (nameFrom d
-            (at + 1) n)))
+            ∙ ap (λ (y : MatchState). cond counts (testsBy y fit) 0) parent-state
+            ∙ ap (λ (y : Fit). cond counts (testsBy (stateOf (listPaths list) (above d starts lens (opened .level .0))) y) 0) fit-is
+            ∙ ap (λ (ns : List (List ℕ)). cond counts (testsBy (stateOf (listPaths list) (rootFirst ns)) (fitFor (listPaths list)
+            (nameFrom d (at + 1) n))) 0)
             (sym (open-is (v .stands) (v .order)))
 
         opens-next : (empty : Bool)
@@ -468,12 +569,14 @@ module _ {list d o₀ g₀ : List ℕ} {states : List MatchState} {starts lens :
             (start-named d at first (sym s ∙ e)) tag-name)
 
         pub pass-tag : {w : Verdict} → TagVerdict w → {states′ : List MatchState} → TagStored states′
-            → {k : ℕ} → (k ≡ testsBy parent fit) × (k ≤ 512) → {run′ : Run} {o′ g′ : List ℕ}
+            → {memo′ : List Known} (slot : ℕ) {y : Known} → memo′ ≡ set memo slot y → Recalls counts tb y
+            → {slots′ : List ℕ} → Written slots slots′
+            → {k : ℕ} → (k ≡ cond counts (testsBy parent fit) 0) × (k ≤ 512) → {run′ : Run} {o′ g′ : List ℕ}
             → Moves d starts′ lens′ (opened .level .0) run o g
             (onTag w (nameAt d starts′ lens′ (opened .level .0)) (part d at b) (part d at f) m) 2 (deeper m (opened .level .0)) run′ o′ g′
             → {opened′ : Open} → opened′ ≡ openAfter (Start n b f m t) opened
-            → Passing list d o₀ g₀ states′ starts′ lens′ opened′ run′ f false (tests + k) o′ g′
-        pass-tag {w} ew et {k} ek {run′} {o′} {g′} mv {opened′} eo =
+            → Passing counts list tb d o₀ g₀ states′ memo′ slots′ starts′ lens′ opened′ run′ f false (tests + k) o′ g′
+        pass-tag {w} ew et slot em er el′ {k} ek {run′} {o′} {g′} mv {opened′} eo =
             record {
               judging = scan-on (v .judging) e q h es el (eo ∙ sym (ap (λ (j : Item). openAfter j opened) s)) (sym (ap (endOf at) s));
               x = onTag w (nameFrom d (at + 1) n) (part d at b) (part d at f) m (v .x);
@@ -488,6 +591,9 @@ module _ {list d o₀ g₀ : List ℕ} {states : List MatchState} {starts lens :
               few = omega (arith, mv .few, v .few, places .0, places .1);
               many = omega (arith, v .many, ek .1, places .0, places .1);
               long = stored-long states (opened .level .0) (deeperOf parent fit) et ∙ v .long;
+              recalls = rw em (recalls-set memo (v .recalls) slot er);
+              memo-long = ap length em ∙ length-set memo slot _ ∙ v .memo-long;
+              slots-long = written-long el′ ∙ v .slots-long;
               room = mv .same ∙ v .room;
               log-room = mv .room ∙ v .log-room;
             }

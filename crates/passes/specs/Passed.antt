@@ -2,6 +2,7 @@
 -- elements selected and of name tests tried, the cut laid into the buffer as far as it reaches, and notes that stand for the cut, unless
 -- some were left out. After a fault nothing is said of the buffer and of the log.
 use mathlib.Core.Path.{_≡_}
+use mathlib.Core.Bool.{Bool, true, cond}
 use mathlib.Core.List.{List}
 use Prim.Native.Nat.{ℕ}
 use lib.ListN.{length}
@@ -23,6 +24,10 @@ abbrev pub Told : List ℕ → List ℕ → ℕ → ℕ → List ℕ → Outcome
 Told d w k t o₀ (Fine n c m l) o g = (n ≡ length w) × (c ≡ k) × (m ≡ t) × (o ≡ sets o₀ 0 w) × Stood d g l w
 Told d w k t o₀ (Fault y at) o g = Unit {0}
 
-pub record Passed (list d o₀ : List ℕ) (r : Outcome) (o g : List ℕ) : Type 0 where
+-- where name tests are counted, and where not: then their number is 0
+pub record PassedBy (counts : Bool) (list d o₀ : List ℕ) (r : Outcome) (o g : List ℕ) : Type 0 where
   pub judged : judgedBy r ≡ scanned d
-  pub told : Told d (cutOf list d) (countOf list d) (testsOf list d) o₀ r o g
+  pub told : Told d (cutOf list d) (countOf list d) (cond counts (testsOf list d) 0) o₀ r o g
+
+abbrev pub Passed : List ℕ → List ℕ → List ℕ → Outcome → List ℕ → List ℕ → Type 0
+Passed = PassedBy true

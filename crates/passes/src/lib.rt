@@ -7,12 +7,14 @@
 //     <g><p><v></v>   g     p     .                 an end tag goes back to the state of the parent
 //
 // State 0 is the fresh one, under which the root stands, and state k the one below level k. No element stands below level 64, so there is
-// none of it.
+// none of it. What is known of elements that were matched is kept (`memo`), by where that of the parent is (`slots`), and asked before
+// another is matched: only the time depends on it.
 ghost use mathlib.Core.Path.{_≡_};
 ghost use Prim.Native.Nat.{_+_, _-_, _≤_, _<_};
 ghost use lib.ListN.{length, getD, take, drop};
 ghost use Rattle.points.specs.Class.{classTable};
-ghost use Rattle.matcher.specs.Fit.{Serves};
+ghost use Rattle.matcher.specs.Fit.{Serves, fitAt};
+ghost use Rattle.matcher.specs.State.{verdictBy};
 ghost use Rattle.paths.specs.Judge.{listPaths};
 ghost use Rattle.attributes.specs.Held.{attributesIn};
 ghost use Rattle.items.specs.Item.{itemAt};
@@ -21,7 +23,7 @@ ghost use Rattle.document.specs.Levels.{Names, openedOf};
 ghost use Rattle.tags.specs.Usual.{ToldMark};
 ghost use Rattle.tests.specs.Passing.{somePlace};
 ghost use Rattle.passes.specs.Opens.{Opens, Usual};
-ghost use Rattle.passes.specs.Passed.{Passed};
+ghost use Rattle.passes.specs.Passed.{PassedBy};
 ghost use Rattle.passes.specs.ByTests.{ByTests};
 use chars::name::Reading;
 use compiled::Compiled;
@@ -35,8 +37,8 @@ use document::place::keep;
 use document::place::place;
 use items::told::item;
 use matcher::Verdict;
-use matcher::fit::Fit;
-use matcher::fit::fit_of;
+use matcher::fit::fit_by;
+use matcher::fit::row_of;
 use matcher::state::MatchState;
 use output::Run;
 use output::step::other_step;
@@ -44,6 +46,8 @@ use output::step::tag_step;
 use plain::text::text;
 use points::table::Classes;
 use quick::end::end_tag;
+use recall::Known;
+use recall::slot_of;
 use scans::mark::before16;
 use tags::Item;
 use tags::usual::next_tag;
@@ -202,9 +206,9 @@ fn next_item(
     }
 }
 
-// What the list says of an element. Where the steps of no path select it, or no path has a test (`tested`), its attributes are not looked
-// at; else the tests of the paths that select it are tried, and the matcher is handed which of them pass. Attributes stand in the tag, from
-// behind the name, which has so many bytes, to the end of the head.
+// What the list says of an element of this row, where `plain` is what it says by the name alone. Where the steps of no path select it, or
+// no path has a test (`tested`), its attributes are not looked at; else the tests of the paths that select it are tried, and the matcher
+// is handed which of them pass. Attributes stand in the tag, from behind the name, which has so many bytes, to the end of the head.
 fn judged(
     table: &Classes,
     list: &[u8],
@@ -212,22 +216,23 @@ fn judged(
     tested: bool,
     doc: &[u8],
     parent: MatchState,
-    fit: Fit,
+    row: usize,
+    plain: Verdict,
     at: usize,
     name: usize,
     head: usize,
 ) -> Verdict
     requires { ⌜ (now table ≡ classTable) × Serves (now list) (now t) × (tested ≡ somePlace (take 32 (drop 18368 (now t))))
-        × (at + 1 + name ≤ head) × (head ≤ length (now doc)) ⌝ }
+        × (at + 1 + name ≤ head) × (head ≤ length (now doc)) × (row ≤ 512) × (plain ≡ verdictBy parent (fitAt (now t) row)) ⌝ }
     ensures { λ r. ⌜ ByTests (listPaths (now (list .entry)))
-        (attributesIn 0 (take (head - (at + 1 + name)) (drop (at + 1 + name) (now (doc .entry))))) parent fit r ⌝ }
+        (attributesIn 0 (take (head - (at + 1 + name)) (drop (at + 1 + name) (now (doc .entry))))) parent (fitAt (now (t .entry)) row) r ⌝ }
 {
-    let plain = parent.verdict_on(fit);
     if let Verdict::Unselected = plain {
         return plain;
     }
     if tested {
         let from = at + 1 + name;
+        let fit = fit_by(t, row);
         let selecting = parent.selecting(fit);
         let passed = passing(table, list, t, selecting, &doc[from..head]);
         return fit.verdict_of(passed);
@@ -235,21 +240,25 @@ fn judged(
     plain
 }
 
-// By the tables of a sound list.
+// By the tables of a sound list. Name tests are counted where that is asked for.
 pub fn pass(
     table: &Classes,
     list: &[u8],
     t: &Compiled,
+    counts: bool,
     doc: &[u8],
     out: &mut [u8],
     log: &mut [u64],
 ) -> Outcome
     requires { ⌜ (now table ≡ classTable) × (length (now doc) ≤ 16777216) × Serves (now list) (now t) × (length (now log) ≤ 16777216) ⌝ }
-    ensures { λ r. ⌜ Passed (now (list .entry)) (now (doc .entry)) (now (out .entry)) r (now (out .exit)) (now (log .exit)) ⌝ }
+    ensures { λ r. ⌜ PassedBy counts (now (list .entry)) (now (doc .entry)) (now (out .entry)) r (now (out .exit)) (now (log .exit)) ⌝ }
 {
     let tested = any(t);
     let fresh = MatchState::fresh();
     let mut states = [fresh; Open::LEVELS];
+    let nothing = Known::nothing();
+    let mut memo = [nothing; Known::KEPT];
+    let mut slots = [0usize; Open::LEVELS];
     let mut starts = [0usize; Open::LEVELS];
     let mut lens = [0usize; Open::LEVELS];
     let mut opened = Open::none();
@@ -280,13 +289,31 @@ pub fn pass(
                 } = next {
                     let parent = states[level];
                     let a = at + 1;
-                    let fit = fit_of(list, t, &doc[a..a + name]);
-                    let below = parent.deeper(fit);
-                    let tried = parent.tests_on(fit);
+                    let row = row_of(list, t, &doc[a..a + name]);
+                    let slot = slot_of(row, slots[level]);
+                    let before = memo[slot];
+                    let known = before.renewed(counts, t, row, parent);
+                    memo[slot] = known;
+                    let below = known.below;
+                    let plain = known.verdict;
+                    let tried = known.tests;
                     tests = tests + (tried as usize);
-                    let verdict = judged(table, list, t, tested, doc, parent, fit, at, name, head);
+                    let verdict = judged(
+                        table,
+                        list,
+                        t,
+                        tested,
+                        doc,
+                        parent,
+                        row,
+                        plain,
+                        at,
+                        name,
+                        head,
+                    );
                     if level + 1 < Open::LEVELS {
                         states[level + 1] = below;
+                        slots[level + 1] = slot;
                     }
                     run = tag_step(
                         run,

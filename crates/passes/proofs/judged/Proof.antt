@@ -3,9 +3,6 @@ use Rattle.passes.proofs.Judging.{judging}
 use Rattle.passes.proofs.judged.Statement.{statement}
 use Rattle.passes.proofs.judged.Tie as tie
 
-verdict-on-requires : tie.Need-verdict-on-requires
-verdict-on-requires c κs = search judging
-
 enum-told : tie.Need-enum-told
 enum-told c = search judging
 
@@ -17,6 +14,9 @@ add-from c = search judging
 
 add-from-2 : tie.Need-add-from-2
 add-from-2 c = search judging
+
+fit-by-requires : tie.Need-fit-by-requires
+fit-by-requires c κs = search judging
 
 selecting-requires : tie.Need-selecting-requires
 selecting-requires c κs = search judging
@@ -46,11 +46,11 @@ pub judged-spec : {M : Type 1} → statement M
 judged-spec =
     tie.close
     (tie.spec
-    verdict-on-requires
     enum-told
     returns
     add-from
     add-from-2
+    fit-by-requires
     selecting-requires
     sub-passing
     part-passing-start

@@ -43,6 +43,9 @@ array-read-tried-4 c = search summing
 tried-requires : tie.Need-tried-requires Inv-loop μ-loop
 tried-requires c κs = search summing
 
+cast-tests : tie.Need-cast-tests Inv-loop μ-loop
+cast-tests c = let z = ones-le 16 (c .tried .result) (omega arith) in omega arith
+
 add-tests : tie.Need-add-tests Inv-loop μ-loop
 add-tests c = let z = ones-le 16 (c .tried .result) (omega arith) in omega arith
 
@@ -54,6 +57,9 @@ loop-less c = search summing
 
 loop-again : tie.Need-loop-again Inv-loop μ-loop
 loop-again c = search summing
+
+cast-result : tie.Need-cast-result Inv-loop μ-loop
+cast-result c = search summing
 
 returns : tie.Need-returns Inv-loop μ-loop
 returns c = search summing
@@ -74,8 +80,10 @@ tests-on-spec =
     mul-tried-4
     array-read-tried-4
     tried-requires
+    cast-tests
     add-tests
     add-p
     loop-less
     loop-again
+    cast-result
     returns)

@@ -1,0 +1,3 @@
+-- Laws of what is known, and one answer.
+pub mod Knowing
+pub mod OneAnswer
