@@ -1,4 +1,5 @@
 -- Laws:
 -- the number for each case, and one answer.
 pub mod Numbering
+pub mod Plainly
 pub mod OneAnswer

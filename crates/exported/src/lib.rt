@@ -12,6 +12,8 @@ use document::Why;
 use document::judge::Judged;
 use document::judge::judge;
 
+mod engine; // the plain engine
+
 // The number, the second and the third.
 #[repr(C)]
 pub struct Numbers {
