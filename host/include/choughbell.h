@@ -1,4 +1,4 @@
-/* The proved filter, for callers in C: four functions of a static library, choughbell 0.2.0. Link with -lchoughbell, or with
+/* The proved filter, for callers in C: five functions of a static library, choughbell 0.3.0. Link with -lchoughbell, or with
  * target/native/libexported.a as `make library` leaves it. They allocate nothing, keep nothing between calls and call nothing but memset
  * and memcpy, so threads may call them at once. A call takes less than 96 KiB of stack; one with a log that is lent less than 64.
  *
@@ -67,6 +67,12 @@ struct choughbell_four_numbers choughbell_cut(const uint8_t *list, size_t list_l
  * overlaps none of the others. */
 struct choughbell_four_numbers choughbell_cut_with(const uint8_t *list, size_t list_len, const uint8_t *doc, size_t doc_len, uint8_t *out,
                                                    size_t out_len, uint64_t *log, size_t log_len);
+
+/* The same by the plain engine, a second one that is there to be read: it goes down the tree, and tries the paths at each element from the
+ * top. It is proved that for every list, document and room its three numbers are the first three of choughbell_cut, and `out` is the same
+ * in every byte. It counts no name tests, and takes longer. A call takes less than 192 KiB of stack. */
+struct choughbell_numbers choughbell_plain(const uint8_t *list, size_t list_len, const uint8_t *doc, size_t doc_len, uint8_t *out,
+                                           size_t out_len);
 
 /* The numbers of a document alone, as above: 4 to 8 or 10 with the second number, or 0 where the document is sound, and then the second
  * number is 0 too. The third is 0. A sound document is cut by every sound list, in a room that suffices. */

@@ -19,6 +19,8 @@ A file that is not named, or named -, is the standard input or output.
   -o, --output OUTPUT  is replaced when the cut is there, and else stays as it was
       --count          print only: kept, the elements selected, the length of the cut; and
                        on a second line: name tests, how many were tried
+      --plain          cut by the plain engine: the same cut and the same numbers, slower,
+                       and without name tests
   -q, --quiet          no message, only the exit status
       --json           print the numbers as one line of JSON, on the standard output, or on
                        the standard error where the cut goes to the other

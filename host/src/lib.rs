@@ -1,5 +1,6 @@
 //! The proved filter, for callers in Rust: functions on byte slices. `cut` writes into a lent buffer, as the library does; `cut_of` brings
-//! a buffer of its own; `check` judges a document alone.
+//! a buffer of its own; `check` judges a document alone. `plain` and `plain_of` cut by the plain engine, a second one to be read,
+//! and give the same numbers and bytes; they count no name tests.
 //!
 //! The static library comes from Rattle. Its contract asks nothing of the lists and documents that it is given, and says of every byte of
 //! the buffer what it is afterwards. What a caller of the library's own function owes is that the buffer overlaps neither the list nor the
@@ -37,18 +38,23 @@ pub struct FourNumbers {
     pub fourth: u64,
 }
 
-/// The numbers that are handed back of a document alone. The third is always 0.
+/// The numbers that a cut by the plain engine hands back: those of `FourNumbers` but for the name tests.
 #[repr(C)]
-struct Numbers {
-    number: u64,
-    second: u64,
-    _third: u64,
+#[derive(Clone, Copy, PartialEq, Eq, Debug)]
+pub struct Numbers {
+    /// 0 where the cut is written, else why it is refused.
+    pub number: u64,
+    /// Under 0 the length written, under 9 the length needed, else the line or the offset at fault, or 0.
+    pub second: u64,
+    /// Under 0 how many elements are selected, else 0. Of a document alone it is always 0.
+    pub third: u64,
 }
 
 #[link(name = "exported", kind = "static")]
 extern "C" {
     // Nothing checks these against the Rattle source, crates/exported/src/lib.rt: a slice is its pointer and then its length.
     fn choughbell_judge(doc: *const u8, doc_len: usize) -> Numbers;
+    fn choughbell_plain(list: *const u8, list_len: usize, doc: *const u8, doc_len: usize, out: *mut u8, out_len: usize) -> Numbers;
     fn choughbell_cut(list: *const u8, list_len: usize, doc: *const u8, doc_len: usize, out: *mut u8, out_len: usize) -> FourNumbers;
     fn choughbell_cut_with(
         list: *const u8,
@@ -124,6 +130,41 @@ pub fn cut_of(list: &[u8], doc: &[u8]) -> Result<Cut, Refusal> {
     Ok(Cut { bytes, selected, name_tests })
 }
 
+/// The same by the plain engine, which goes down the tree and tries the paths at each element from the top. It is proved to give the
+/// numbers and bytes of `cut`, and takes longer.
+///
+/// ```
+/// let (mut ours, mut plain) = ([7; 40], [7; 40]);
+/// let numbers = choughbell::plain(b"//v\n", b"<g><p><v/></p></g>", &mut plain);
+/// assert_eq!((numbers.number, numbers.second, numbers.third), (0, 21, 1));
+/// choughbell::cut(b"//v\n", b"<g><p><v/></p></g>", &mut ours);
+/// assert_eq!(plain, ours);
+/// ```
+pub fn plain(list: &[u8], doc: &[u8], out: &mut [u8]) -> Numbers {
+    unsafe { choughbell_plain(list.as_ptr(), list.len(), doc.as_ptr(), doc.len(), out.as_mut_ptr(), out.len()) }
+}
+
+/// A cut by the plain engine with its bytes.
+#[derive(Clone, PartialEq, Eq, Debug)]
+pub struct Plain {
+    /// What is written.
+    pub bytes: Vec<u8>,
+    /// How many elements the list selects, those inside a kept entry too.
+    pub selected: u64,
+}
+
+/// As `cut_of`, by the plain engine.
+pub fn plain_of(list: &[u8], doc: &[u8]) -> Result<Plain, Refusal> {
+    // As much room as `cut_of` has; the number is that of `cut`.
+    let mut bytes = vec![0; (2 * doc.len()).saturating_sub(1)];
+    let numbers = plain(list, doc, &mut bytes);
+    if let Some(refusal) = Refusal::of(numbers.number, numbers.second) {
+        return Err(refusal);
+    }
+    bytes.truncate(numbers.second as usize);
+    Ok(Plain { bytes, selected: numbers.third })
+}
+
 /// Whether a document is sound, within the sizes: what `cut` answers by a list that is sound itself, in a room that suffices. It is never
 /// 1 to 3 or 9.
 pub fn check(doc: &[u8]) -> Result<(), Refusal> {
@@ -189,6 +230,22 @@ mod tests {
         assert_eq!(tests(b"/g/*\n", doc), 3);
         // A first step self is tried nowhere.
         assert_eq!(tests(b"/self::g\n", doc), 0);
+    }
+
+    #[test]
+    fn plain_is_as_cut_but_for_the_name_tests() {
+        let doc = b"<g><p><v k='1'>a</v></p><w><v/>b</w><v/></g>";
+        for list in [&b"//v\n//w #\n"[..], b"", b"//w/v\n", b"/g/p/v[@k=\"1\"] #\n", b"v\n"] {
+            for room in [0, 43, 80] {
+                let (mut ours, mut plainly) = (vec![b'+'; room], vec![b'+'; room]);
+                let FourNumbers { number, second, third, .. } = cut(list, doc, &mut ours);
+                assert_eq!(plain(list, doc, &mut plainly), Numbers { number, second, third });
+                assert_eq!(plainly, ours);
+            }
+        }
+        assert_eq!(plain_of(b"/g\n", b"<g/>"), Ok(Plain { bytes: b"<g></g>".to_vec(), selected: 1 }));
+        assert_eq!(plain_of(b"v\n", b"<g/>"), Err(Refusal::ListMalformed { line: 1 }));
+        assert_eq!(plain_of(b"", b"<g><v></g>"), Err(Refusal::NotWellFormed { offset: 6 }));
     }
 
     #[test]

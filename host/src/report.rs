@@ -85,8 +85,8 @@ impl Report {
     }
 
     /// The numbers and the place, as one line of JSON.
-    pub fn json(&self) -> String {
-        let mut object = numbers(self.refusal.number(), self.refusal.second(), 0, 0, self.refusal.meaning());
+    pub fn json(&self, name_tests: Option<u64>) -> String {
+        let mut object = numbers(self.refusal.number(), self.refusal.second(), 0, name_tests, self.refusal.meaning());
         object.string("file", &self.file);
         match &self.place {
             Place::Whole => {}
@@ -107,13 +107,15 @@ impl Report {
     }
 }
 
-/// The members that every answer has.
-pub fn numbers(number: u64, second: u64, third: u64, name_tests: u64, meaning: &str) -> Object {
+/// The members that every answer has; name tests only where they are counted, which the plain engine does not.
+pub fn numbers(number: u64, second: u64, third: u64, name_tests: Option<u64>, meaning: &str) -> Object {
     let mut object = Object::new();
     object.number("number", number);
     object.number("second", second);
     object.number("third", third);
-    object.number("name_tests", name_tests);
+    if let Some(name_tests) = name_tests {
+        object.number("name_tests", name_tests);
+    }
     object.string("meaning", meaning);
     object
 }
@@ -146,7 +148,8 @@ mod tests {
         let place = r#""offset":10,"line":2,"column":6,"there":"</g>","hint":"<v> of line 2 is open""#;
         let numbers = r#""number":7,"second":10,"third":0,"name_tests":0"#;
         let json = format!(r#"{{{numbers},"meaning":"not well-formed","file":"m.xml",{place}}}"#) + "\n";
-        assert_eq!(report.json(), json);
+        assert_eq!(report.json(Some(0)), json);
+        assert_eq!(report.json(None), json.replace("\"name_tests\":0,", ""));
     }
 
     #[test]

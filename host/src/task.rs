@@ -4,7 +4,7 @@ use crate::output::{self, Sink};
 use crate::report::{self, Read};
 use crate::say;
 use crate::trouble::Trouble;
-use choughbell::{Cut, Refusal, DOCUMENT_LIMIT, LIST_LIMIT};
+use choughbell::{Refusal, DOCUMENT_LIMIT, LIST_LIMIT};
 
 /// What is asked for.
 #[derive(PartialEq, Eq, Debug)]
@@ -14,6 +14,8 @@ pub struct Task {
     pub document: Source,
     /// Where the cut goes; nowhere under `check` and `--count`.
     pub output: Option<Sink>,
+    /// By the plain engine, which counts no name tests.
+    pub plain: bool,
     pub quiet: bool,
     pub json: bool,
 }
@@ -25,7 +27,12 @@ pub fn run(task: &Task) -> Result<u8, Trouble> {
     };
     let document = Read { name: task.document.name(), bytes: task.document.read(DOCUMENT_LIMIT)? };
     let done = match &task.list {
-        Some(_) => choughbell::cut_of(&list.bytes, &document.bytes).map(|cut| written(task, &cut)),
+        Some(_) if task.plain => {
+            choughbell::plain_of(&list.bytes, &document.bytes).map(|cut| written(task, &cut.bytes, cut.selected, None))
+        }
+        Some(_) => {
+            choughbell::cut_of(&list.bytes, &document.bytes).map(|cut| written(task, &cut.bytes, cut.selected, Some(cut.name_tests)))
+        }
         None => choughbell::check(&document.bytes).map(|()| sound(task)),
     };
     match done {
@@ -35,19 +42,22 @@ pub fn run(task: &Task) -> Result<u8, Trouble> {
 }
 
 /// Under 0: the cut goes where it is to go, and the numbers where they are asked for.
-fn written(task: &Task, cut: &Cut) -> Result<(), Trouble> {
-    let length = cut.bytes.len() as u64;
+fn written(task: &Task, cut: &[u8], selected: u64, name_tests: Option<u64>) -> Result<(), Trouble> {
+    let length = cut.len() as u64;
     match &task.output {
-        Some(output) => output.write(&cut.bytes)?,
-        None if !task.json => output::print(&format!("kept {} {length}\nname tests {}\n", cut.selected, cut.name_tests))?,
+        Some(output) => output.write(cut)?,
+        None if !task.json => {
+            let tried = name_tests.map_or(String::new(), |tests| format!("name tests {tests}\n"));
+            output::print(&format!("kept {selected} {length}\n{tried}"))?
+        }
         None => {}
     }
-    numbers(task, || report::numbers(0, length, cut.selected, cut.name_tests, "written").line())
+    numbers(task, || report::numbers(0, length, selected, name_tests, "written").line())
 }
 
 /// `check` has no numbers of its own.
 fn sound(task: &Task) -> Result<(), Trouble> {
-    numbers(task, || report::numbers(0, 0, 0, 0, "sound").line())
+    numbers(task, || report::numbers(0, 0, 0, Some(0), "sound").line())
 }
 
 fn refused(task: &Task, refusal: Refusal, list: &Read, document: &Read) -> Result<u8, Trouble> {
@@ -55,7 +65,8 @@ fn refused(task: &Task, refusal: Refusal, list: &Read, document: &Read) -> Resul
     if !task.json && !task.quiet {
         say(&report.message());
     }
-    numbers(task, || report.json())?;
+    let name_tests = if task.plain { None } else { Some(0) };
+    numbers(task, || report.json(name_tests))?;
     Ok(refusal.number() as u8)
 }
 

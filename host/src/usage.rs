@@ -23,6 +23,7 @@ struct Given {
     list: Option<OsString>,
     output: Option<OsString>,
     count: bool,
+    plain: bool,
     quiet: bool,
     json: bool,
     help: bool,
@@ -42,6 +43,7 @@ pub fn read(mut words: impl Iterator<Item = OsString>) -> Result<Request, String
     match command.as_bytes() {
         _ if given.help => Ok(Request::Help),
         b"cut" => cut(given),
+        _ if given.plain => Err("--plain goes with cut alone".to_string()),
         b"check" => check(given),
         _ => explain(given),
     }
@@ -72,10 +74,11 @@ impl Given {
             (b"--list" | b"-l", _) => value("--list", &mut self.list, joined, words),
             (b"--output" | b"-o", _) => value("--output", &mut self.output, joined, words),
             (b"--count", None) => flag(&mut self.count),
+            (b"--plain", None) => flag(&mut self.plain),
             (b"--quiet" | b"-q", None) => flag(&mut self.quiet),
             (b"--json", None) => flag(&mut self.json),
             (b"--help" | b"-h", None) => flag(&mut self.help),
-            (b"--count" | b"--quiet" | b"--json" | b"--help", Some(_)) => Err(format!("{} takes no value", shown::all(name))),
+            (b"--count" | b"--plain" | b"--quiet" | b"--json" | b"--help", Some(_)) => Err(format!("{} takes no value", shown::all(name))),
             _ => Err(format!("there is no option {}", word(option))),
         }
     }
@@ -126,7 +129,7 @@ fn cut(given: Given) -> Result<Request, String> {
         Some(output) => Some(Sink::named(output)),
         None => Some(Sink::Standard),
     };
-    Ok(Request::Task(Task { list: Some(list), document, output, quiet: given.quiet, json: given.json }))
+    Ok(Request::Task(Task { list: Some(list), document, output, plain: given.plain, quiet: given.quiet, json: given.json }))
 }
 
 fn check(given: Given) -> Result<Request, String> {
@@ -134,7 +137,7 @@ fn check(given: Given) -> Result<Request, String> {
     if given.list.is_some() || given.output.is_some() || given.count {
         return Err("check takes no --list, --output or --count".to_string());
     }
-    Ok(Request::Task(Task { list: None, document, output: None, quiet: given.quiet, json: given.json }))
+    Ok(Request::Task(Task { list: None, document, output: None, plain: false, quiet: given.quiet, json: given.json }))
 }
 
 /// The document of either command, and what both ask of options.

@@ -41,7 +41,16 @@ fn standard_input_and_output_have_names() {
 fn names_are_bytes() {
     let words = [&b"check"[..], b"\xFF.xml"].map(|word| OsString::from_vec(word.to_vec()));
     let document = Source::File(PathBuf::from(OsString::from_vec(b"\xFF.xml".to_vec())));
-    assert_eq!(read(words.into_iter()), Ok(Request::Task(Task { list: None, document, output: None, quiet: false, json: false })));
+    let task = Task { list: None, document, output: None, plain: false, quiet: false, json: false };
+    assert_eq!(read(words.into_iter()), Ok(Request::Task(task)));
+}
+
+#[test]
+fn the_plain_engine_is_asked_for() {
+    let plain = |words: &[&str]| matches!(asked(words), Ok(Request::Task(Task { plain: true, .. })));
+    assert!(plain(&["cut", "-la", "--plain"]) && !plain(&["cut", "-la"]));
+    assert_eq!(asked(&["check", "--plain"]), Err("--plain goes with cut alone".to_string()));
+    assert_eq!(asked(&["cut", "-la", "--plain=no"]), Err("--plain takes no value".to_string()));
 }
 
 #[test]

@@ -79,10 +79,10 @@ example 'another encoding' 10 v.lst latin.xml
 value='k="&#x78;"'
 repeat 32 "//*$(repeat 15 /self::*)[@k=\"x\"] #
 " > most.lst
-inner="<?p é?><![CDATA[é]]><g $value/>"
+inner="<?p é?><![CDATA[é]]><g $value/><g $value>é</g>"
 { echo '<?xml version="1.0"?><!-- é -->' && repeat 63 "<g $value>é&amp;" && echo "$inner" && repeat 63 '</g>'; } > most.xml
 program_before=$program program=$room/c-stack
-lines 'answer 0: less than 98304 bytes of stack' 'answer 0: less than 65536 bytes of stack'
+lines 'answer 0: less than 98304 bytes of stack' 'answer 0: less than 65536 bytes of stack' 'answer 0: less than 196608 bytes of stack'
 try 'C: the stack of a call' 0 most.lst most.xml
 program=$program_before
 

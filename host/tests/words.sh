@@ -67,12 +67,12 @@ explains 66 "the list or the document can't be opened, or is a directory." 2
 explains 73 "the output can't be created." 3
 explains 74 'reading or writing failed' 2
 
-lines 'choughbell 0.2.0'
+lines 'choughbell 0.3.0'
 try 'version' 0 --version
 # The man page and the header have the same.
 ran=$((ran + 2))
-grep -q '^\.TH CHOUGHBELL 1 [0-9-]* "choughbell 0\.2\.0"' "$root/host/man/choughbell.1" || fault 'version' 'of the man page'
-head -n 1 "$root/host/include/choughbell.h" | grep -q 'choughbell 0\.2\.0' || fault 'version' 'of the header'
+grep -q '^\.TH CHOUGHBELL 1 [0-9-]* "choughbell 0\.3\.0"' "$root/host/man/choughbell.1" || fault 'version' 'of the man page'
+head -n 1 "$root/host/include/choughbell.h" | grep -q 'choughbell 0\.3\.0' || fault 'version' 'of the header'
 start --help > help 2>&1 || fault 'help' 'status'
 [ "$(head -n 1 help)" = 'choughbell cuts XML by a list of paths, by a filter that is proved.' ] || fault 'help' "$(head -n 1 help)"
 for words in '--help' 'help' '-h' 'cut --help' 'check -h' 'explain --help'; do
