@@ -1,4 +1,5 @@
-// The function that the library exports, beside the second program: the same four numbers, and the same bytes in the whole buffer.
+// The function that the library exports, beside the second program: the same four numbers, and the same bytes in the whole buffer. And the
+// plain engine beside both: the first three of these numbers, and the same bytes.
 //
 //     packs FOLDER         the packed cases
 //     limits               documents at the most bytes that one may have and about it

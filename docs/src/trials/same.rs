@@ -1,5 +1,6 @@
 // One call of both programs, on buffers that hold the same bytes before it. What they say, all four numbers, and what they leave has to be
-// the same, and the cut within the length that Q-13 of document 02 promises.
+// the same, and the cut within the length that Q-13 of document 02 promises. The plain engine is called too: its three numbers and its
+// whole buffer have to be the same again.
 use second::Numbers;
 use vectors::asked::fresh;
 
@@ -16,10 +17,30 @@ pub fn tried(list: &[u8], doc: &[u8], room: usize) -> Result<(Numbers, Vec<u8>),
         let at = ours.iter().zip(&theirs).position(|(a, b)| a != b);
         return Err(format!("under {found:?} the buffers differ at {at:?}"));
     }
+    plainly(list, doc, found, &theirs)?;
     if is_long(found, doc) {
         return Err(format!("{found:?} is a longer cut than {} bytes may have", doc.len()));
     }
     Ok((found, ours))
+}
+
+/// The plain engine tries each step of each path at each element anew: where that would take minutes, it is left out.
+const TRIED: usize = 1 << 35;
+
+/// Whether the plain engine answers the same three numbers and leaves the same bytes.
+fn plainly(list: &[u8], doc: &[u8], expected: Numbers, left: &[u8]) -> Result<(), String> {
+    if list.len() * doc.len() > TRIED {
+        return Ok(());
+    }
+    let mut out = fresh(left.len());
+    let found = choughbell::plain(list, doc, &mut out);
+    if (found.number, found.second, found.third) != (expected.number, expected.second, expected.third) {
+        return Err(format!("the plain engine says {found:?}, the second program {expected:?}"));
+    }
+    if out != left {
+        return Err(format!("under {found:?} the plain engine leaves other bytes"));
+    }
+    Ok(())
 }
 
 /// "a cut of an accepted document of n bytes has at most 2 × n − 1 bytes": under 9 too, where the second number is the length needed.
