@@ -1,23 +1,22 @@
 -- The start of an element, whose name is kept at its level beside those of the elements around it. In order: the names; what the state
 -- stands for; the verdict on the element; its start; an empty tag; its end, after which the names around it are as they were.
-use mathlib.Core.Path.{_≡_, refl, sym, ap, ap₂, _∙_, subst}
+use mathlib.Core.Path.{_≡_, refl, sym, ap, ap₂, _∙_}
 use mathlib.Core.Bool.{Bool, true, false, true≢false}
 use mathlib.Core.List.{List, [], _∷_, _++_}
 use Prim.Native.Nat.{ℕ, zero, suc, _+_, _-_, _≤_, _<_}
 use native.Mathlib.Nat.{zero-add}
 use native.Mathlib.Numerals.{add-one}
 use native.Mathlib.Omega.{arith}
-use lib.ListN.{length, take, drop, getD, set}
-use Rattle.xml.specs.Forest.{Name, Tag}
+use lib.ListN.{length, take, drop, set}
+use Rattle.xml.specs.Forest.{Name}
 use Rattle.paths.specs.Judge.{listPaths}
 use Rattle.attributes.specs.Attribute.{Attribute}
 use Rattle.attributes.specs.Held.{attributesIn, attributesOf}
 use Rattle.attributes.proofs.Placed.{attributes-behind}
 use Rattle.tags.specs.Kept.{nameFrom}
-use Rattle.tags.specs.declared.Item.{Item}
-use Rattle.tags.specs.declared.Item.the-variants.{Start, Finish}
+use Rattle.tags.specs.declared.Item.the-variants.{Start}
 use Rattle.items.specs.Item.{itemAt}
-use Rattle.document.specs.Place.{Opened, placement, afterItem}
+use Rattle.document.specs.Place.{placement, afterItem}
 use Rattle.document.specs.Levels.{namesOf}
 use Rattle.document.specs.Judge.{scanFrom}
 use Rattle.document.specs.declared.Placement.the-variants.{Fine}
@@ -31,7 +30,7 @@ use Rattle.notes.proofs.Making.{part-join}
 use Rattle.output.specs.Levels.{nameAt, span}
 use Rattle.output.proofs.Spans.{span-whole}
 use Rattle.passes.proofs.States.{name-here, span-below}
-use Rattle.descent.specs.Ink.{Stands, Moved, Moves}
+use Rattle.descent.specs.Ink.{Stands, Moves}
 use Rattle.descent.specs.Tree.{opening, Going}
 use Rattle.descent.specs.declared.ink.Run.{Run}
 use Rattle.descent.proofs.Going.{going-on}

@@ -1,10 +1,10 @@
 -- An element as a whole. In order: its name is kept beside those around it; whether what comes behind it is inside a kept entry; what its
 -- content needs to be safe; and the three ways out: an empty tag, a fault inside, an end.
 use mathlib.Core.Path.{_≡_, refl, sym, ap, _∙_, subst}
-use mathlib.Core.Bool.{Bool, true, false, cond, true≢false, _||_}
+use mathlib.Core.Bool.{Bool, true, false, cond, _||_}
 use mathlib.Core.List.{List, []}
 use mathlib.Core.Logic.{⊎-elim}
-use Prim.Native.Nat.{ℕ, _+_, _-_, _*_, _≤_, _<_}
+use Prim.Native.Nat.{ℕ, _+_, _-_, _≤_, _<_}
 use native.Mathlib.Nat.{eq-or-lt-of-le}
 use native.Mathlib.Numerals.{add-one}
 use native.Mathlib.Omega.{arith}
@@ -25,12 +25,11 @@ use Rattle.descent.specs.Places.{Inside}
 use Rattle.descent.specs.Lines.{verdictBy}
 use Rattle.descent.specs.Ink.{Moves, Ready, Reached, isMarked}
 use Rattle.tags.specs.declared.Item.{Item}
-use Rattle.tags.specs.declared.Item.the-variants.{Start, Finish}
+use Rattle.tags.specs.declared.Item.the-variants.{Finish}
 use Rattle.items.specs.Item.{itemAt}
 use Rattle.items.specs.Inside.{Inside as ItemInside}
 use Rattle.items.proofs.Insides.{item-inside}
 use Rattle.document.specs.Place.{placement}
-use Rattle.document.specs.declared.Open.{Open}
 use Rattle.document.specs.declared.Placement.the-variants.{Fine}
 use Rattle.document.specs.declared.Why.{Why}
 use Rattle.trees.proofs.Passes.{over-nothing, over-closed}

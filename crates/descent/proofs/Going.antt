@@ -1,41 +1,33 @@
 -- States on the way. In order: the first; an item at fault; one item on, whatever it is; an item that is no tag; a tag; an end tag.
-use mathlib.Core.Path.{_≡_, refl, sym, ap, _∙_, subst}
+use mathlib.Core.Path.{_≡_, refl, sym, ap, _∙_}
 use mathlib.Core.Bool.{Bool, true, false}
-use mathlib.Core.List.{List, [], _∷_, _++_}
+use mathlib.Core.List.{List, [], _∷_}
 use Prim.Native.Nat.{ℕ, zero, suc, _+_, _-_, _≤_, _<_}
-use native.Mathlib.Nat.{zero-add}
 use native.Mathlib.Numerals.{add-one}
 use native.Mathlib.Omega.{arith}
 use types.Run.{OneOf}
 use denote.Enum.Declared.{tagOf as kindOf}
-use lib.ListN.{length, replicate}
-use Rattle.xml.specs.Forest.{Name}
+use lib.ListN.{length}
 use Rattle.paths.specs.Judge.{listPaths}
 use Rattle.tags.proofs.Item as item
-use Rattle.tags.specs.Kept.{nameFrom}
 use Rattle.tags.specs.declared.Item.{Item}
 use Rattle.tags.specs.declared.Item.the-variants.{Declaration, Instruction, Comment, Section, Reference, Text, Start, Finish}
 use Rattle.tags.specs.declared.Item.the-variants.{Doctype, Malformed, TooLarge, Nothing}
 use Rattle.items.specs.Item.{itemAt}
 use Rattle.document.specs.Place.{Opened, placement, afterItem, endOf}
-use Rattle.document.specs.Levels.{namesOf}
 use Rattle.document.specs.Judge.{startOf, onward, scanFrom, scanned}
 use Rattle.document.specs.declared.Placement.{Placement}
 use Rattle.document.specs.declared.Placement.the-variants.{Fine, Fault as Faulty, Over}
 use Rattle.document.specs.declared.Why.{Why}
-use Rattle.document.specs.declared.judge.Judged.{Judged}
 use Rattle.document.specs.declared.judge.Judged.the-variants.{Sound, AtFault}
 use Rattle.document.proofs.Placing.{not-among}
-use Rattle.matcher.specs.declared.Verdict.{Verdict}
-use Rattle.trees.specs.Cut.{Judge, on}
-use Rattle.trees.specs.Grown.{Token, part, tagOf, itemTokens, tokensFrom, tokensOf}
-use Rattle.trees.specs.Engine.{Engine, engine, begun, openOf, onStart, onFinish, onAside, run as runs}
+use Rattle.trees.specs.Cut.{Judge}
+use Rattle.trees.specs.Grown.{Token, part, itemTokens, tokensFrom, tokensOf}
+use Rattle.trees.specs.Engine.{Engine, engine, begun, onFinish, onAside, run as runs}
 use Rattle.trees.specs.Written.{verdicts, cutOf, countOf}
 use Rattle.trees.proofs.Passes.{over-fine, over-nothing}
 use Rattle.trees.proofs.Told.{run-cut}
-use Rattle.notes.proofs.Making.{part-join}
-use Rattle.output.specs.Levels.{nameAt, span}
-use Rattle.descent.specs.Ink.{Stands, Moved, Moves}
+use Rattle.descent.specs.Ink.{Stands, Moves}
 use Rattle.descent.specs.Tree.{opening, Going}
 use Rattle.descent.specs.declared.ink.Run.{Run}
 

@@ -2,25 +2,23 @@
 -- note is left out, says nothing, so they are cited with it. In order: such a log; one law for each way out; the ways as the code has them.
 use mathlib.Core.Path.{_≡_, refl, sym, ap, _∙_}
 use mathlib.Core.Bool.{Bool, true, false, cond, true≢false, _||_}
-use mathlib.Core.List.{List, [], _∷_, _++_}
+use mathlib.Core.List.{List, [], _∷_}
 use Prim.Native.Nat.{ℕ, _+_, _-_, _≤_, _<_}
 use native.Mathlib.Omega.{arith}
 use borrow.Author.Needs.{needs}
-use borrow.Author.Tests.{lt-ltb, le-ltb}
 use mir.Syntax.{w64}
 use mir.Val.{Fits}
 use lib.Dec.{ltb}
 use lib.ListN.{length, getD}
 use Rattle.xml.specs.Forest.{startTag, endTag}
-use Rattle.matcher.specs.declared.Verdict.{Verdict}
 use Rattle.matcher.specs.declared.Verdict.the-variants.{Unselected, Selected, Marked}
 use Rattle.writer.specs.Wrote.{Wrote}
-use Rattle.notes.specs.Notes.{Noted, Stood}
+use Rattle.notes.specs.Notes.{Noted}
 use Rattle.notes.proofs.Replaying.{part-size}
 use Rattle.trees.specs.Cut.{one}
 use Rattle.trees.specs.Grown.{part}
 use Rattle.trees.specs.Engine.{Engine, chain, onStart, onFinish, onAside}
-use Rattle.output.specs.Levels.{nameAt, span, Placed, Inked, Stands as StandsNoted, Moved as MovedNoted}
+use Rattle.output.specs.Levels.{nameAt, span, Placed, Inked, Moved as MovedNoted}
 use Rattle.output.proofs.Inking.{part-long}
 use Rattle.output.proofs.Chains.{Chaining, chain-start, chain-level, chain-fits, chain-inside, chain-room, chain-step}
 use Rattle.output.proofs.Chains.{chain-whole, chain-far, name-part}

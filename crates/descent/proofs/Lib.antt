@@ -1,4 +1,4 @@
--- The laws of the plain engine.
+-- The laws of the plain engine; last worked examples.
 pub mod Places
 pub mod Lines
 pub mod Inking
@@ -9,3 +9,4 @@ pub mod Ending
 pub mod Whole
 pub mod Answering
 pub mod OneAnswer
+pub mod Examples

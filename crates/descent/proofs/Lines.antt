@@ -1,7 +1,7 @@
 -- The lines of a list, tried on an element. In order: a step that is read is the one that is tried; the steps of a line; the test of
 -- a line; the lines of a sound list.
 use mathlib.Core.Path.{_≡_, refl, sym, ap, _∙_, subst}
-use mathlib.Core.Bool.{Bool, true, false, cond, false≢true, true≢false, _&&_, _||_, or-assoc, or-false, and-comm}
+use mathlib.Core.Bool.{Bool, true, false, false≢true, _&&_, _||_, or-assoc, or-false, and-comm}
 use mathlib.Core.List.{List, [], _∷_, _++_, append-assoc, append-nil}
 use mathlib.Core.Logic.{_↔_}
 use mathlib.Core.Option.{Option, none, some, Option·none-ne-some, Option·some-injective}
@@ -11,8 +11,6 @@ use borrow.Author.Needs.{needs}
 use borrow.Author.Tests.{ne-eqb}
 use lib.ListN.{length, take, drop, getD, set, length-set, replicate, length-replicate, length-append}
 use lib.Seq.{getD-set-same, getD-set-other}
-use Rattle.xml.specs.Productions.{same}
-use Rattle.tags.specs.Kept.{nameFrom}
 use Rattle.xml.specs.Notation.{bytes}
 use Rattle.utf8.proofs.Place.{drop-end}
 use Rattle.paths.specs.Path.{Test, any, named, Step, AttributeTest, Path, printKind, printTest, printStep, printMark, printLine}
@@ -43,7 +41,7 @@ use Rattle.matcher.specs.Says.{some as someOf, decided, verdictOf}
 use Rattle.matcher.specs.declared.Verdict.{Verdict}
 use Rattle.matcher.proofs.Laying.{reach-none}
 use Rattle.matcher.proofs.Places.{selects-iff}
-use Rattle.descent.specs.Places.{passesBy, nameAt, Stepped, Inside, Can}
+use Rattle.descent.specs.Places.{passesBy, nameAt, Stepped, Can}
 use Rattle.descent.specs.Lines.{LineIs, passesTestBy}
 use Rattle.descent.proofs.Places.{names-long, at-level, can-step}
 

@@ -24,11 +24,11 @@ use Rattle.paths.specs.declared.Kind.the-variants.{Child, Descendant, SelfStep,
 use Rattle.compiled.specs.Kinds.{stays, goes, far}
 use Rattle.document.specs.Levels.{namesOf}
 use Rattle.trees.specs.Written.{rootFirst}
-use Rattle.matcher.specs.Select.{Below, At, root, under, Stands, Reaches, PassesName}
+use Rattle.matcher.specs.Select.{At, root, under, Stands, Reaches, PassesName}
 use Rattle.matcher.specs.Moves.{Moves, same, down}
 use Rattle.matcher.specs.Test.{passesName}
 use Rattle.matcher.proofs.Moving.{below-moves}
-use Rattle.matcher.proofs.Laying.{at-positive, at-behind, at-one, reach-more, reach-last, reach-zero, reach-none}
+use Rattle.matcher.proofs.Laying.{at-behind, at-one, reach-more, reach-last, reach-zero}
 use Rattle.matcher.proofs.Places.{passes-decides}
 use Rattle.descent.specs.Places.{mayStand, passesBy, someUpTo, nameAt, canStand, Stepped, Inside, Can}
 

@@ -1,14 +1,14 @@
 -- The loop of `content`: a law for each way on and each way out. The invariant: the state now is safe, and where the state at the beginning
 -- was on the way, it is.
-use mathlib.Core.Path.{_≡_, refl, sym, ap, _∙_, subst}
+use mathlib.Core.Path.{_≡_, refl, sym, _∙_, subst}
 use mathlib.Core.Bool.{Bool, true, false}
 use mathlib.Core.List.{List}
-use Prim.Native.Nat.{ℕ, _+_, _-_, _*_, _≤_, _<_}
+use Prim.Native.Nat.{ℕ, _+_, _-_, _≤_, _<_}
 use native.Mathlib.Omega.{arith}
 use borrow.Author.Needs.{needs}
 use types.Run.{OneOf}
 use denote.Enum.Declared.{tagOf as kindOf}
-use lib.ListN.{length, getD}
+use lib.ListN.{length}
 use Rattle.tags.proofs.Item as item
 use Rattle.tags.specs.declared.Item.{Item}
 use Rattle.tags.specs.declared.Item.the-variants.{Start, Finish}
@@ -17,18 +17,16 @@ use Rattle.items.specs.Inside.{Inside}
 use Rattle.items.proofs.Insides.{item-inside}
 use Rattle.document.specs.Place.{placement, endOf}
 use Rattle.document.specs.Levels.{Names, openedOf}
-use Rattle.document.specs.Judge.{scanned}
 use Rattle.document.specs.declared.Open.{Open}
 use Rattle.document.specs.declared.Placement.{Placement}
 use Rattle.document.specs.declared.Placement.the-variants.{Fine, Fault as Faulty, Over}
 use Rattle.document.specs.declared.Why.{Why}
-use Rattle.document.specs.declared.judge.Judged.the-variants.{AtFault}
 use Rattle.document.proofs.After.{start-room}
 use Rattle.document.proofs.Judging.{fine-ahead}
 use Rattle.trees.specs.Grown.{part}
 use Rattle.trees.specs.Engine.{onAside}
 use Rattle.descent.specs.Ink.{Moves, Ready}
-use Rattle.descent.specs.Tree.{Safe, opening, Going, Stops, closed, over, ElementEnds, ElementIs, ContentEnds, ContentIs}
+use Rattle.descent.specs.Tree.{Safe, Going, closed, over, ElementEnds, ElementIs, ContentIs}
 use Rattle.descent.specs.declared.ink.Run.{Run}
 use Rattle.descent.specs.declared.ink.Tag.{Tag}
 use Rattle.descent.specs.declared.tree.Read.{Read}

@@ -1,3 +1,4 @@
+-- "Prove that numbers, bytes and counts equal the first engine's for every list, document and room."
 -- Two contracts agree, for functions that are handed the same: whatever each hands back, as its contract says, is alike.
 -- κs are the lifetimes of the references lent, a is what is handed over, z and z′ are the results, e and e′ the parameters at exit.
 use mathlib.Core.Path.{_≡_}

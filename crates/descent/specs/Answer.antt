@@ -1,4 +1,5 @@
--- What is answered: the answer of the crate cutter without the number of name tests; and the three numbers for each answer.
+-- What is answered: the answer of the crate cutter without the number of name tests, which "the single cut, but not the batch or the plain
+-- engine," hands back (Q-13); and the three numbers for each answer.
 use Prim.Native.Nat.{ℕ}
 use Rattle.cutter.specs.declared.Answer.{Answer as Full}
 use Rattle.cutter.specs.declared.Answer.the-variants as full

@@ -1,10 +1,9 @@
 -- What the code's numbers and names stand for: an engine of the crate trees. And a step, which makes of whatever engine they stand for what
 -- f makes of it. Names by level, rows of them and text laid are defined in the crate output, whose code is not used here.
 use mathlib.Core.Path.{_≡_}
-use mathlib.Core.Bool.{Bool, true, false, cond}
+use mathlib.Core.Bool.{Bool, true, false}
 use mathlib.Core.List.{List}
 use Prim.Native.Nat.{ℕ, _+_, _-_, _≤_, _<_}
-use lib.Dec.{ltb}
 use lib.ListN.{length}
 use Rattle.trees.specs.Engine.{Engine, keptOf, pendOf, doneOf, outOf, numOf}
 use Rattle.output.specs.Levels.{nameAt, span, Laid}

@@ -1,5 +1,6 @@
--- The places that a step can have, from those that the step before it can have. Place 0 stands before the root, place p + 1 is the level p
--- of the names that are kept. In order: where a step may stand; the test of a name; one step; the places of some steps.
+-- "At each element it tries the places of every path from the top, with no state kept": the places that a step can have, from those that
+-- the step before it can have. Place 0 stands before the root, place p + 1 is the level p of the names that are kept. In order: where a
+-- step may stand; the test of a name; one step; the places of some steps. proofs/Examples.antt has a path worked through.
 use mathlib.Core.Path.{_≡_}
 use mathlib.Core.Bool.{Bool, true, false, cond, _&&_, _||_}
 use mathlib.Core.List.{List}
@@ -9,7 +10,6 @@ use lib.Dec.{eqb}
 use lib.ListN.{length, getD}
 use Rattle.xml.specs.Productions.{same}
 use Rattle.paths.specs.Path.{Step}
-use Rattle.paths.specs.Reader.{steps}
 use Rattle.paths.specs.declared.Kind.{Kind}
 use Rattle.tags.specs.Kept.{nameFrom}
 use Rattle.compiled.specs.Kinds.{stays, goes, far}

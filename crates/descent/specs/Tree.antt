@@ -1,16 +1,15 @@
--- What an element and its content come to, by the scan of the document and the engine run over its tokens. A state is on the way where
--- both, from its place on, come to what they come to from the start. So an element takes a state that is on the way before its tag to one
--- that is on the way behind its end, whatever buffer there was at the beginning; and an item at fault is the one that the scan finds.
--- In order: what the code needs to be safe; states on the way; where content stops; an element, and content; a whole document.
+-- "an element reads its content, and content reads the elements inside it, to depth 64": what both come to, by the scan of the document and
+-- the engine run over its tokens. A state is on the way where both, from its place on, come to what they come to from the start. So an
+-- element takes a state that is on the way before its tag to one that is on the way behind its end, whatever buffer there was at the
+-- beginning; and an item at fault is the one that the scan finds. In order: what the code needs to be safe; states on the way; where
+-- content stops; an element, and content; a whole document.
 use mathlib.Core.Path.{_≡_}
 use mathlib.Core.Bool.{Bool, true, false}
 use mathlib.Core.List.{List}
-use mathlib.Core.Logic.{_⊎_}
-use Prim.Native.Nat.{ℕ, _+_, _-_, _*_, _≤_, _<_}
+use Prim.Native.Nat.{ℕ, _-_, _*_, _≤_, _<_}
 use lib.ListN.{length}
 use lib.Seq.{sets}
 use Rattle.paths.specs.Judge.{listPaths}
-use Rattle.tags.specs.declared.Item.{Item}
 use Rattle.tags.specs.declared.Item.the-variants.{Start, Finish}
 use Rattle.items.specs.Item.{itemAt}
 use Rattle.document.specs.Place.{Opened, placement}
@@ -18,7 +17,6 @@ use Rattle.document.specs.Levels.{namesOf}
 use Rattle.document.specs.Judge.{scanFrom, scanned}
 use Rattle.document.specs.declared.Open.{Open}
 use Rattle.document.specs.declared.Placement.the-variants.{Fine, Over}
-use Rattle.document.specs.declared.Why.{Why}
 use Rattle.document.specs.declared.judge.Judged.the-variants.{Sound, AtFault}
 use Rattle.trees.specs.Grown.{tokensFrom, tokensOf}
 use Rattle.trees.specs.Engine.{Engine, begun, run as runs}

@@ -1,5 +1,7 @@
 // A second engine, to be read first: it cuts a document by a list and goes down the tree as one would by hand. It gives the numbers, bytes
-// and counts of `cutter::cut`, less the name tests, and shares with it the readers of items and characters alone.
+// and counts of `cutter::cut`, less the name tests. It shares with it the readers of characters, of the list and of items, where an item
+// may stand, and how bytes are laid into a buffer; and nothing of matching, of compiled lists, of what is written at an item and of the
+// pass over items.
 //
 //     <g><p><v k="1"/>t</p></g>          content of the document     element g
 //                                          content of g                element p
@@ -75,10 +77,12 @@ fn written(list: &[u8], doc: &[u8], out: &mut [u8]) -> Answer
     let table = classes();
     let mut scratch = [0u8; 1];
     match whole(&table, list, doc, &mut scratch) {
+        // 6, 7, 8: "offset of the item (or the document's length ..)"
         Read::Fault(why, at) => fault_of(why, at),
         Read::Ends { at: _, end: _, run } => {
             let length = run.len;
             let selected = run.count;
+            // 9: "output shorter than the cut", and the whole output stays
             if out.len() < length {
                 return Answer::Short(length);
             }
@@ -94,13 +98,16 @@ fn cut_by(list: &[u8], doc: &[u8], out: &mut [u8]) -> Answer
     ensures { λ r. ⌜ r ≡ without (answerBy (now (list .entry)) (now (doc .entry)) (length (now (out .entry)))) ⌝ }
     ensures { λ r. ⌜ now (out .exit) ≡ bytesBy (now (list .entry)) (now (doc .entry)) (now (out .entry)) ⌝ }
 {
+    // 4: "document too long"
     if doc.len() > Open::BYTES {
         return Answer::TooLong;
     }
+    // 10: the declaration, behind the three front bytes where they stand, names another encoding
     let start = start_of(doc);
     if names_other(doc, start) {
         return Answer::OtherEncoding(start);
     }
+    // 5: "not UTF-8, or not a Char, anywhere"
     match check(doc) {
         Checked::All => written(list, doc, out),
         Checked::BadAt(o) => Answer::NotChar(o),
@@ -112,6 +119,7 @@ pub fn cut(list: &[u8], doc: &[u8], out: &mut [u8]) -> Answer
     ensures { λ r. ⌜ r ≡ without (answerOf (now (list .entry)) (now (doc .entry)) (length (now (out .entry)))) ⌝ }
     ensures { λ r. ⌜ now (out .exit) ≡ bytesAfter (now (list .entry)) (now (doc .entry)) (now (out .entry)) ⌝ }
 {
+    // 1 to 3: "the first line with a fault decides"
     match answer(list) {
         ListAnswer::Sound => cut_by(list, doc, out),
         ListAnswer::TooLong => Answer::ListTooLong,

@@ -1,6 +1,14 @@
-// Down the tree: an element reads its content, and content reads the elements inside it. No element stands deeper than 64, so the levels
-// that are left fall from call to call. The names of the open elements are kept by level, by their places, and an element lends its content
-// a copy with its own name: so going back up there is nothing to undo.
+// Down the tree: "an element reads its content, and content reads the elements inside it, to depth 64". No element stands deeper, so the
+// levels that are left fall from call to call. The names of the open elements are kept by level, by their places, and an element lends its
+// content a copy with its own name: so going back up there is nothing to undo.
+//
+//     content of the document    element <g>      content of g     element <p>      content of p
+//        item <g>  ------------> names: g
+//                                says, start ---> item <p>  -----> names: g p
+//                                                                  says, start ---> text, dropped
+//                                                                  finish </p> <--- item </p>
+//                                finish </g> <--- item </g>  <----
+//        no item is left  <-----
 ghost use mathlib.Core.Path.{_≡_};
 ghost use Prim.Native.Nat.{_+_, _≤_, _<_};
 ghost use lib.ListN.{length};
@@ -66,11 +74,13 @@ fn element(
         ⌜ ElementIs (now (list .entry)) (now (doc .entry)) (now (starts .entry)) (now (lens .entry)) level kept tag empty run
         (now (out .entry)) r (now (out .exit)) ⌝ }
 {
+    // "Take the names from the root to an element, places 1 to k": those around it, and its own
     let mut own_starts = *starts;
     let mut own_lens = *lens;
     let from = tag.at + 1;
     own_starts[level] = from;
     own_lens[level] = tag.name;
+    // "At each element it tries the places of every path from the top": what the list says of it
     let a = from + tag.name;
     let head = tag.head;
     let said = said_of(
@@ -82,6 +92,7 @@ fn element(
         level + 1,
         &doc[a..head],
     );
+    // "all bytes .. as they came, and so everything inside": whether what follows stands in a kept entry
     let inside = kept | is_entry(said);
     let end = tag.end;
     let begun = start(
@@ -95,6 +106,7 @@ fn element(
         tag,
         run,
     );
+    // "an empty tag is its own end"
     if empty {
         let run = finish(
             doc,
@@ -109,6 +121,7 @@ fn element(
         );
         return Read::Ends { at: end, end, run };
     }
+    // "the kept children": its content, one level deeper
     let opened = Open {
         level: InputLevel(level + 1),
         rooted: true,
@@ -126,7 +139,9 @@ fn element(
         false,
         begun,
     ) {
+        // "The first item at fault decides": nothing after it is read
         Read::Fault(why, o) => Read::Fault(why, o),
+        // then its end tag
         Read::Ends { at, end, run } => {
             let run = finish(
                 doc,
@@ -177,18 +192,22 @@ fn content(
             rooted,
         };
         match place(doc, starts, lens, here, at, next) {
-            // "The first item at fault decides"
+            // "An item is at fault in this order"; "The first item at fault decides"
             Placement::Fault(why) => {
                 return Read::Fault(why, at);
             }
+            // the items have run out, with a root and no element open
             Placement::Over => {
                 return Read::Ends { at, end: at, run };
             }
             Placement::Fine => {
+                // "as first item only": a declaration may stand at the front alone
                 first = false;
+                // "End tags match": this is the end tag of the element that reads this content
                 if let Item::Finish { name: _, end } = next {
                     return Read::Ends { at, end, run };
                 }
+                // an element inside: it is read to its end, and content goes on behind it
                 if let Item::Start {
                     name,
                     head,
@@ -230,6 +249,7 @@ fn content(
                         }
                     }
                 }
+                // "Everything else is dropped: text, comments, instructions and the declaration too", unless it stands in a kept entry
                 let end = end_of(at, next);
                 run = aside(doc, out, kept, at, end, run);
                 at = end;

@@ -1,7 +1,7 @@
 -- `step` meets its contract. The invariant: the places up to p are found, and those behind it are as they were; `right` and `above` tell of
 -- those that the step before can have. The measure is the places left. proofs/Places.antt has the laws.
 use Prim.Native.Nat.{_-_}
-use Rattle.descent.specs.Places.{passesBy, nameAt, Inside}
+use Rattle.descent.specs.Places.{passesBy, nameAt}
 use Rattle.descent.proofs.Places.{Trying, trying}
 use Rattle.descent.proofs.select.step.Statement.{statement}
 use Rattle.descent.proofs.select.step.Tie as tie
