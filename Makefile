@@ -21,7 +21,7 @@
 
 MADE = target/rust
 
-.PHONY: run test outside runs cut rt rust format lines
+.PHONY: run test outside runs cut rt rust format lines apart
 
 run: rt cut
 	@for list in atlas desk; do \
@@ -31,7 +31,7 @@ run: rt cut
 
 # First what fails fastest and needs the toolchain alone: the layout; the gate, which begins from nothing and leaves the programs proved and
 # built; runs of the program `cut`. Then what needs more. The gate's last line is said again at the end.
-test: rt format lines
+test: rt format lines apart
 	@said=$$(mktemp -d) && trap 'rm -rf $$said' EXIT && \
 	{ rt ci; echo $$? > $$said/status; } | tee $$said/lines && [ "$$(cat $$said/status)" = 0 ] && \
 	crates/cut/runs.sh && $(MAKE) --no-print-directory -s outside && tail -n 1 $$said/lines
@@ -80,6 +80,12 @@ format:
 lines:
 	@! git ls-files '*.rt' '*.antt' '*.rs' '*.md' '*.sh' '*.mk' '*.c' '*.h' Makefile .ci/run | LC_ALL=C.UTF-8 xargs grep -nE '^.{141,}' || { \
 	    echo 'lines over 140 characters, above'; exit 1; }
+
+# The plain engine calls nothing of the first: no line of its source but comments has a path into one of these crates.
+FIRST = lookup|compiled|matcher|tests|quick|notes|output|passes|cutter
+apart:
+	@! grep -nE '\b($(FIRST))::' crates/descent/src/*.rt | grep -vE '^[^:]*:[0-9]*: *//' || { \
+	    echo 'the plain engine calls the first one, above'; exit 1; }
 
 include host/rules.mk
 include docs/src/rules.mk
