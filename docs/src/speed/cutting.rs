@@ -1,9 +1,10 @@
 // The whole cut of a gazetteer by five lists: by the library as the toolchain compiles it, with a log that is lent and with its own, by its
 // source read as Rust and by the baseline, beside other parsers, which check that it is well-formed, and a copy of its bytes; and parts of
 // the cut. Cuts are first compared with each other and, where expat is there, with that of tree.rs, which knows child and descendant steps
-// alone; the cut by steps that stay is that by the same list without them.
+// alone; the cut by steps that stay is that by the same list without them. Last the plain engine, once by each of three lists, since it
+// takes longer than is worth fifteen rounds; its cuts are compared too.
 use crate::figures::Figures;
-use crate::filters::{agreed, library, room, FILTERS};
+use crate::filters::{agreed, library, plain, room, FILTERS};
 use crate::gazetteer;
 use crate::lists;
 use crate::parsers::{agree, COUNTING, EXPAT, LIBXML, PARSERS};
@@ -87,8 +88,23 @@ pub fn measure(figures: &mut Figures) {
         print!("{what:<30}{:>8.2}{:>9.2}{:>9.2}{:>10.2}", cuts[0] * 1e3, cuts[1] * 1e3, cuts[2] * 1e3, cuts[3] * 1e3);
         println!("{:>10}{expat:>8}{libxml:>9}", times_as_fast(cuts[0], Some(cuts[3])));
     }
+    println!("\nThe plain engine, one cut each; and how many times as long as ours it takes");
+    println!("{:<30}{:>10}{:>10}", "list", "ms", "times");
+    for ((what, list), cuts) in lists.iter().zip(seconds[names.len()..].chunks(FILTERS.len())).take(3) {
+        let took = plainly(list, doc);
+        println!("{what:<30}{:>10.1}{:>10.1}", took * 1e3, took / cuts[0]);
+    }
     let shown = lists.iter().zip(seconds[names.len()..].chunks(FILTERS.len())).take(3);
     shown.for_each(|((what, _), cuts)| add(figures, what, doc.len(), cuts, &of));
+}
+
+/// The plain engine by a list: the time of one cut, which has to be that of the others.
+fn plainly(list: &str, doc: &[u8]) -> f64 {
+    let (mut out, mut numbers) = (vec![0; room(doc)], [0; 3]);
+    let took = work(|| numbers = plain(black_box(list.as_bytes()), black_box(doc), &mut out))();
+    let (cut, selected) = agreed(list, doc);
+    assert!(numbers == [0, cut.len() as u64, selected] && out[..cut.len()] == cut, "another cut by the plain engine");
+    took
 }
 
 /// The bars of a group: ours, the baseline, the parsers.

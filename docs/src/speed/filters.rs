@@ -1,5 +1,5 @@
 // The filters that are compared, behind one signature: the library as the toolchain compiles it, with a log that is lent, as the command
-// does it, and with its own; its source read as Rust, with a log that is lent; and the baseline.
+// does it, and with its own; its source read as Rust, with a log that is lent; and the baseline. And the plain engine, apart from these.
 use crate::ours::exported::choughbell_cut_with;
 
 /// The number, the second and the third, of a list, a document and a buffer.
@@ -29,6 +29,11 @@ fn source(list: &[u8], doc: &[u8], out: &mut [u8]) -> [u64; 3] {
 
 pub fn baseline(list: &[u8], doc: &[u8], out: &mut [u8]) -> [u64; 3] {
     let numbers = baseline::cut(list, doc, out);
+    [numbers.number, numbers.second, numbers.third]
+}
+
+pub fn plain(list: &[u8], doc: &[u8], out: &mut [u8]) -> [u64; 3] {
+    let numbers = choughbell::plain(list, doc, out);
     [numbers.number, numbers.second, numbers.third]
 }
 
