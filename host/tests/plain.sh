@@ -48,3 +48,13 @@ try 'plain: 65 levels, quiet' 8 cut --plain --quiet -l levels.lst levels.xml
 wrong 'plain and check' '--plain goes with cut alone' check --plain b.xml
 wrong 'plain and explain' '--plain goes with cut alone' explain --plain 7
 wrong 'a value for plain' '--plain takes no value' cut --plain=yes -l v.lst b.xml
+
+# The document that docs/TEACH.md walks through, and the same with another end tag.
+teach="$root/examples/teach"
+prints '<g><p><v k="3"><n>x</n></v></p></g>'
+try 'plain: TEACH.md' 0 cut --plain -l "$teach.lst" "$teach.xml"
+lines 'kept 2 35'
+try 'plain: the numbers of TEACH.md' 0 cut --plain --count -l "$teach.lst" "$teach.xml"
+sed 's|</v>|</w>|' "$teach.xml" > taught.xml
+says 'taught.xml:1:39: 7: not well-formed: "</w>": <v> of line 1 is open (offset 38)'
+try 'plain: the fault of TEACH.md' 7 cut --plain -l "$teach.lst" taught.xml
