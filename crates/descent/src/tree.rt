@@ -75,50 +75,22 @@ fn element(
         (now (out .entry)) r (now (out .exit)) ⌝ }
 {
     // "Take the names from the root to an element, places 1 to k": those around it, and its own
-    let mut own_starts = *starts;
-    let mut own_lens = *lens;
+    let mut own = *starts;
+    let mut sizes = *lens;
     let from = tag.at + 1;
-    own_starts[level] = from;
-    own_lens[level] = tag.name;
+    own[level] = from;
+    sizes[level] = tag.name;
     // "At each element it tries the places of every path from the top": what the list says of it
     let a = from + tag.name;
     let head = tag.head;
-    let said = said_of(
-        table,
-        list,
-        doc,
-        &own_starts,
-        &own_lens,
-        level + 1,
-        &doc[a..head],
-    );
+    let said = said_of(table, list, doc, &own, &sizes, level + 1, &doc[a..head]);
     // "all bytes .. as they came, and so everything inside": whether what follows stands in a kept entry
     let inside = kept | is_entry(said);
     let end = tag.end;
-    let begun = start(
-        doc,
-        &own_starts,
-        &own_lens,
-        out,
-        level,
-        kept,
-        said,
-        tag,
-        run,
-    );
+    let begun = start(doc, &own, &sizes, out, level, kept, said, tag, run);
     // "an empty tag is its own end"
     if empty {
-        let run = finish(
-            doc,
-            &own_starts,
-            &own_lens,
-            out,
-            level,
-            inside,
-            end,
-            end,
-            begun,
-        );
+        let run = finish(doc, &own, &sizes, out, level, inside, end, end, begun);
         return Read::Ends { at: end, end, run };
     }
     // "the kept children": its content, one level deeper
@@ -130,8 +102,8 @@ fn element(
         table,
         list,
         doc,
-        &own_starts,
-        &own_lens,
+        &own,
+        &sizes,
         out,
         opened,
         inside,
@@ -143,17 +115,7 @@ fn element(
         Read::Fault(why, o) => Read::Fault(why, o),
         // then its end tag
         Read::Ends { at, end, run } => {
-            let run = finish(
-                doc,
-                &own_starts,
-                &own_lens,
-                out,
-                level,
-                inside,
-                at,
-                end,
-                run,
-            );
+            let run = finish(doc, &own, &sizes, out, level, inside, at, end, run);
             Read::Ends { at, end, run }
         }
     }

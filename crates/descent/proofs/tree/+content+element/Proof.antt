@@ -225,17 +225,17 @@ content-loop-again-2 t c =
 element-add-from : (t : ℕ) → element-lts.Need-add-from (element-claims t) (element-at t) element.Post
 element-add-from t c = search ending
 
-element-mul-own-starts : (t : ℕ) → element-lts.Need-mul-own-starts (element-claims t) (element-at t) element.Post
-element-mul-own-starts t c = search ending
+element-mul-own : (t : ℕ) → element-lts.Need-mul-own (element-claims t) (element-at t) element.Post
+element-mul-own t c = search ending
 
-element-array-write-own-starts : (t : ℕ) → element-lts.Need-array-write-own-starts (element-claims t) (element-at t) element.Post
-element-array-write-own-starts t c = search ending
+element-array-write-own : (t : ℕ) → element-lts.Need-array-write-own (element-claims t) (element-at t) element.Post
+element-array-write-own t c = search ending
 
-element-mul-own-lens : (t : ℕ) → element-lts.Need-mul-own-lens (element-claims t) (element-at t) element.Post
-element-mul-own-lens t c = search ending
+element-mul-sizes : (t : ℕ) → element-lts.Need-mul-sizes (element-claims t) (element-at t) element.Post
+element-mul-sizes t c = search ending
 
-element-array-write-own-lens : (t : ℕ) → element-lts.Need-array-write-own-lens (element-claims t) (element-at t) element.Post
-element-array-write-own-lens t c = search ending
+element-array-write-sizes : (t : ℕ) → element-lts.Need-array-write-sizes (element-claims t) (element-at t) element.Post
+element-array-write-sizes t c = search ending
 
 element-add-a : (t : ℕ) → element-lts.Need-add-a (element-claims t) (element-at t) element.Post
 element-add-a t c = search ending
@@ -425,10 +425,10 @@ pub +content+element-spec : {M : Type 1} → statement M
     (element-at t)
     element.Post
     (element-add-from t)
-    (element-mul-own-starts t)
-    (element-array-write-own-starts t)
-    (element-mul-own-lens t)
-    (element-array-write-own-lens t)
+    (element-mul-own t)
+    (element-array-write-own t)
+    (element-mul-sizes t)
+    (element-array-write-sizes t)
     (element-add-a t)
     (element-add-said-of t)
     (element-sub-said-of t)
