@@ -12,7 +12,7 @@ use document::Why;
 use document::judge::Judged;
 use document::judge::judge;
 
-mod engine; // the plain engine
+pub mod engine; // the plain engine
 
 // The number, the second and the third.
 #[repr(C)]
