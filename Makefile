@@ -12,7 +12,7 @@
 # make cases        writes the packed cases and their answers anew, by the second program
 # make packs        the library, called from Rust, on the packed cases, beside the second program
 # make big          the same on documents of 16 MiB and about
-# make fuzz         the same on CASES cases of a generator, from SEED on
+# make fuzz         the same on CASES cases of a generator, from SEED on; CALL names a call other than the cut
 # make suite        all 399 files of the W3C's suite that have no document type, which it fetches, by both
 # make wrong        the gate's wrong programs, of which each should answer some packed case otherwise
 # make peers        whether documents are well-formed, beside two XML processors from Debian

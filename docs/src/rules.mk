@@ -5,7 +5,8 @@ RUST = docs/src
 .PHONY: expected cases peers wrong packs big fuzz suite x86-packs x86-limits x86-trials speed count parsers
 
 # The outputs that programs are held to are those of ordinary Rust, which shares nothing with the Rattle source. They are made again, the
-# packed cases too, and compared; the suite's verdicts are held against the second program, and the baseline against the packed answers.
+# packed cases too, and compared, as are the sums of the answers of the other calls; the suite's verdicts are held against the second
+# program, and the baseline against the packed answers.
 VECTORS = crates/vectors
 expected: $(MADE)/vectors $(MADE)/baseline
 	rustc --edition 2021 -O -o $(MADE)/expected $(RUST)/expected/main.rs
@@ -16,6 +17,7 @@ expected: $(MADE)/vectors $(MADE)/baseline
 	$(MADE)/vectors pack $(MADE)/packs
 	for pack in suite named made; do cmp $(MADE)/packs/$$pack $(VECTORS)/data/$$pack || exit 1; done
 	$(MADE)/vectors answers $(VECTORS)/data | cmp - $(VECTORS)/stdout
+	$(MADE)/vectors calls | cmp - $(RUST)/vectors/calls.txt
 	$(MADE)/vectors verdicts
 	$(MADE)/baseline $(VECTORS)/data $(VECTORS)/stdout
 
@@ -58,6 +60,7 @@ wrong: $(MADE)/libvectors.rlib
 TRIALS = $(MADE)/trials
 CASES = 1000000
 SEED = 1
+CALL =
 packs: $(TRIALS)
 	$(TRIALS) packs $(VECTORS)/data
 
@@ -65,7 +68,7 @@ big: $(TRIALS)
 	$(TRIALS) big
 
 fuzz: $(TRIALS)
-	$(TRIALS) fuzz $(CASES) $(SEED)
+	$(TRIALS) fuzz $(CASES) $(SEED) $(CALL)
 
 suite: $(TRIALS)
 	xmlconf/fetch.sh

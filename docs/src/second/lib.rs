@@ -19,6 +19,7 @@ mod select;
 mod tag;
 #[cfg(test)]
 mod tests;
+pub mod three;
 mod tree;
 mod tried;
 mod value;

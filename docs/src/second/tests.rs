@@ -1,6 +1,7 @@
 //! Tests of the filter against document 01 and of document 02. Every expected value is worked out by
 //! hand from these pages. Here are the questions that the tests ask; each of them checks every byte of the lent output. How
-//! many name tests are tried is asked in `name_tests`; elsewhere they are only held to their bound, and cuts to theirs.
+//! many name tests are tried is asked in `name_tests`; elsewhere they are only held to their bound, and cuts to theirs. The other
+//! calls of document 02 have their own questions beside their tests.
 
 mod attributes;
 mod axes;

@@ -1,7 +1,7 @@
 // Makes the cases that the filter is held to, and their answers by the second program (docs/src/second), which shares nothing with the
 // filter. Here are the commands; the cases are in named/ (by hand) and the library's suite.rs (W3C files) and made/ (by a generator),
-// the files that hold them in its pack.rs, a case asked and its digest in its asked.rs and crc.rs, a case shown in show.rs. It is run
-// from the repository's top; `make target/rust/vectors` builds it.
+// the files that hold them in its pack.rs, a case asked and its digest in its asked.rs and crc.rs, a case shown in show.rs, and the
+// cases of the other calls in its calls.rs. It is run from the repository's top; `make target/rust/vectors` builds it.
 
 mod named;
 mod show;
@@ -9,6 +9,7 @@ mod show;
 use std::fs;
 use std::process::ExitCode;
 use vectors::asked::{ask, line, second};
+use vectors::calls::CALLS;
 use vectors::made::{self, Case, Random};
 use vectors::pack::{self, read, PACKS};
 use vectors::suite;
@@ -17,7 +18,7 @@ use vectors::suite;
 const SEED: u64 = 19_980_210;
 const MADE: usize = 24_000;
 
-const COMMANDS: &str = "pack FOLDER | answers FOLDER | verdicts [--folder DIR] | counts FOLDER | show FOLDER PACK N";
+const COMMANDS: &str = "pack FOLDER | answers FOLDER | calls [FOLDER] | verdicts [--folder DIR] | counts FOLDER | show FOLDER PACK N";
 
 fn main() -> ExitCode {
     let words: Vec<String> = std::env::args().skip(1).collect();
@@ -25,6 +26,8 @@ fn main() -> ExitCode {
     let done = match words[..] {
         ["pack", folder] => write(folder),
         ["answers", folder] => answers(folder),
+        ["calls"] => calls(),
+        ["calls", folder] => write_calls(folder),
         ["verdicts"] => suite::verdicts(suite::FILES, second),
         ["verdicts", "--folder", folder] => suite::verdicts(folder, second),
         ["counts", folder] => counts(folder),
@@ -72,6 +75,33 @@ fn answers(folder: &str) -> Result<bool, String> {
         }
     }
     Ok(true)
+}
+
+/// How many cases each of the other calls has, by number, and the sum of their answers, if the second program says of every case by hand
+/// what is told of it.
+fn calls() -> Result<bool, String> {
+    let mut is_right = true;
+    for call in CALLS {
+        is_right &= call.agrees();
+        println!("{}\n{}", call.summary("by hand", &call.by_hand()), call.summary("by the generator", &call.generated()));
+    }
+    Ok(is_right)
+}
+
+/// Writes the cases of each of the other calls as a pack, those by hand first, and beside it the answers by the second program.
+fn write_calls(folder: &str) -> Result<bool, String> {
+    fs::create_dir_all(folder).map_err(|e| format!("{folder}: {e}"))?;
+    for call in CALLS {
+        let cases = [call.by_hand(), call.generated()].concat();
+        let answers: String = cases.iter().map(|case| call.line(case) + "\n").collect();
+        save(folder, call.name, &pack::write(&cases))?;
+        save(folder, &format!("{}.answers", call.name), answers.as_bytes())?;
+    }
+    Ok(true)
+}
+
+fn save(folder: &str, name: &str, bytes: &[u8]) -> Result<(), String> {
+    fs::write(format!("{folder}/{name}"), bytes).map_err(|e| format!("{folder}/{name}: {e}"))
 }
 
 /// How many cases each pack has, in all and by number.

@@ -2,14 +2,15 @@
 // what is nearly the same and refused. Here are the relatives, the rooms, and narrower lists; documents.rs and lists.rs make what is sound,
 // limits.rs what is near a size, damage.rs the damage, random.rs the draws.
 
-mod damage;
-mod documents;
-mod limits;
-mod lists;
+pub(crate) mod damage;
+pub(crate) mod documents;
+pub(crate) mod limits;
+pub(crate) mod lists;
 mod random;
 
 pub use random::Random;
 
+#[derive(Clone)]
 pub struct Case {
     pub list: Vec<u8>,
     pub doc: Vec<u8>,
