@@ -3,7 +3,9 @@
 //! characters in `chars`, the productions in `declaration`, `markup`, `reference` and `tag` over `reader`, the items in
 //! `items`, their faults in `faults`, the tree in `tree` and `document`, the choice of places in `select`, the name tests in
 //! `tried`, what an attribute's value means in `value`, the bytes in `write`, what the program prints in `program`.
+//! The other calls of document 02 are in files of their own: Q-2 in `batch`.
 
+mod batch;
 mod chars;
 mod declaration;
 mod document;
@@ -24,6 +26,8 @@ mod tree;
 mod tried;
 mod value;
 mod write;
+
+pub use batch::batch;
 
 /// Document 01's answer: the number, the second number and the third; and as the fourth, how many name tests were tried, which
 /// Q-13 of document 02 adds.

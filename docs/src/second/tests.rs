@@ -5,6 +5,7 @@
 
 mod attributes;
 mod axes;
+mod batch;
 mod characters;
 mod declaration;
 mod encoding;

@@ -3,6 +3,7 @@
 // is told by hand, the cases of a call as a pack and its answers, and the second program held against another on them.
 
 use crate::asked::{fresh, Four, Program};
+use crate::batch::BATCH;
 use crate::crc::crc32;
 use crate::made::{Case, Random};
 
@@ -21,7 +22,7 @@ pub struct Call {
 }
 
 /// Every call that has cases.
-pub const CALLS: &[&Call] = &[];
+pub const CALLS: &[&Call] = &[&BATCH];
 
 /// A case, and by hand: its numbers, and the bytes written under 0.
 pub struct Told {

@@ -3,6 +3,7 @@
 //! Those of the other calls are under their names, by hand and by a generator, and `calls` has what these share.
 
 pub mod asked;
+pub mod batch;
 pub mod calls;
 pub mod crc;
 pub mod made;
