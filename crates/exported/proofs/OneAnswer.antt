@@ -9,6 +9,8 @@ use Rattle.exported.proofs.choughbell_judge.Reads as judge
 use Rattle.exported.proofs.numbers_of.Reads as numbers
 use Rattle.exported.proofs.choughbell_cut.Reads as cut
 use Rattle.exported.proofs.choughbell_cut_with.Reads as cut-with
+use Rattle.exported.proofs.batch_numbers_of.Reads as batch-numbers
+use Rattle.exported.proofs.choughbell_batch.Reads as batch
 
 pub characters-one : OneResult characters.Asked characters.Learnt
 characters-one κs a z z′ e e′ x p q = p ∙ sym q
@@ -24,3 +26,10 @@ cut-one κs a z z′ e e′ x p q = (p .0 ∙ sym (q .0), p .1 ∙ sym (q .1))
 
 pub cut-with-one : OneOutcome cut-with.Asked cut-with.Learnt (λ κs e. now (e .1 .1 .0))
 cut-with-one κs a z z′ e e′ x p q = (p .0 ∙ sym (q .0), p .1 ∙ sym (q .1))
+
+-- a batch: its numbers, and what is left in the buffer
+pub batch-numbers-one : OneResult batch-numbers.Asked batch-numbers.Learnt
+batch-numbers-one κs a z z′ e e′ x p q = p ∙ sym q
+
+pub batch-one : OneOutcome batch.Asked batch.Learnt (λ κs e. now (e .1 .1 .0))
+batch-one κs a z z′ e e′ x p q = (p .0 ∙ sym (q .0), p .1 ∙ sym (q .1))
