@@ -27,10 +27,11 @@ pub fn length_at(batch: &[u8], at: usize) -> usize
     requires { ⌜ at + 4 ≤ length (now batch) ⌝ }
     ensures { λ r. ⌜ r ≡ numberAt (drop at (now (batch .entry))) ⌝ }
 {
-    let a = wide(batch[at]) * 16777216;
-    let b = wide(batch[at + 1]) * 65536;
-    let c = wide(batch[at + 2]) * 256;
-    a + b + c + wide(batch[at + 3])
+    let a = wide(batch[at]);
+    let b = wide(batch[at + 1]);
+    let c = wide(batch[at + 2]);
+    let d = wide(batch[at + 3]);
+    a * 16777216 + b * 65536 + c * 256 + d
 }
 
 // A length is laid at the front: four bytes, the first the highest.

@@ -34,7 +34,7 @@ sub-if4 : tie.Need-sub-if4 Inv-loop μ-loop
 sub-if4 c = search needs
 
 returns-4 : tie.Need-returns-4 Inv-loop μ-loop
-returns-4 c = judge-short _ (c .before .before .loop .inv) (c .before .loop-test .taken) (c .if4 .taken)
+returns-4 c = judge-short _ (c .before .before .loop .inv) (c .before .loop-test .taken) (omega arith)
 
 length-at-requires : tie.Need-length-at-requires Inv-loop μ-loop
 length-at-requires c κs = search needs
@@ -48,7 +48,7 @@ sub-if5 c = search needs
 returns-5 : tie.Need-returns-5 Inv-loop μ-loop
 returns-5 c =
     judge-past _ (c .before .before .before .before .loop .inv) (c .before .length-at .ensures) (c .before .before .if4 .left)
-    (c .before .before .before .loop-test .taken) (c .if5 .taken)
+    (c .before .before .before .loop-test .taken) (omega arith)
 
 add-at : tie.Need-add-at Inv-loop μ-loop
 add-at c = search needs

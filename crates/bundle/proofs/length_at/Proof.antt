@@ -11,9 +11,6 @@ shared-slice-read-wide c = search needs
 wide-requires : tie.Need-wide-requires
 wide-requires c κs = search needs
 
-mul-a : tie.Need-mul-a
-mul-a c = search needs
-
 add-wide : tie.Need-add-wide
 add-wide c = search needs
 
@@ -22,9 +19,6 @@ shared-slice-read-wide-2 c = search needs
 
 wide-requires-2 : tie.Need-wide-requires-2
 wide-requires-2 c κs = search needs
-
-mul-b : tie.Need-mul-b
-mul-b c = search needs
 
 add-wide-2 : tie.Need-add-wide-2
 add-wide-2 c = search needs
@@ -35,15 +29,6 @@ shared-slice-read-wide-3 c = search needs
 wide-requires-3 : tie.Need-wide-requires-3
 wide-requires-3 c κs = search needs
 
-mul-c : tie.Need-mul-c
-mul-c c = search needs
-
-add-result : tie.Need-add-result
-add-result c = search needs
-
-add-result-2 : tie.Need-add-result-2
-add-result-2 c = search needs
-
 add-wide-3 : tie.Need-add-wide-3
 add-wide-3 c = search needs
 
@@ -52,6 +37,21 @@ shared-slice-read-wide-4 c = search needs
 
 wide-requires-4 : tie.Need-wide-requires-4
 wide-requires-4 c κs = search needs
+
+mul-result : tie.Need-mul-result
+mul-result c = search needs
+
+mul-result-2 : tie.Need-mul-result-2
+mul-result-2 c = search needs
+
+add-result : tie.Need-add-result
+add-result c = search needs
+
+mul-result-3 : tie.Need-mul-result-3
+mul-result-3 c = search needs
+
+add-result-2 : tie.Need-add-result-2
+add-result-2 c = search needs
 
 add-result-3 : tie.Need-add-result-3
 add-result-3 c = search needs
@@ -65,19 +65,19 @@ length-at-spec =
     (tie.spec
     shared-slice-read-wide
     wide-requires
-    mul-a
     add-wide
     shared-slice-read-wide-2
     wide-requires-2
-    mul-b
     add-wide-2
     shared-slice-read-wide-3
     wide-requires-3
-    mul-c
-    add-result
-    add-result-2
     add-wide-3
     shared-slice-read-wide-4
     wide-requires-4
+    mul-result
+    mul-result-2
+    add-result
+    mul-result-3
+    add-result-2
     add-result-3
     returns)
