@@ -6,11 +6,14 @@
 /* What each function hands back. */
 typedef struct choughbell_four_numbers cut_numbers;
 typedef struct choughbell_numbers judge_numbers;
+typedef struct choughbell_numbers batch_numbers;
 
 void *rattle_choughbell_cut(cut_numbers *result, const uint8_t *list, size_t list_len, const uint8_t *doc, size_t doc_len, uint8_t *out,
                             size_t out_len);
 void *rattle_choughbell_cut_with(cut_numbers *result, const uint8_t *list, size_t list_len, const uint8_t *doc, size_t doc_len,
                                  uint8_t *out, size_t out_len, uint64_t *log, size_t log_len);
+void *rattle_choughbell_batch(batch_numbers *result, const uint8_t *list, size_t list_len, const uint8_t *batch, size_t batch_len,
+                              uint8_t *out, size_t out_len);
 void *rattle_choughbell_judge(judge_numbers *result, const uint8_t *doc, size_t doc_len);
 size_t rattle_choughbell_characters(const uint8_t *s, size_t s_len);
 
@@ -26,6 +29,13 @@ cut_numbers choughbell_cut_with(const uint8_t *list, size_t list_len, const uint
 {
     cut_numbers result;
     rattle_choughbell_cut_with(&result, list, list_len, doc, doc_len, out, out_len, log, log_len);
+    return result;
+}
+
+batch_numbers choughbell_batch(const uint8_t *list, size_t list_len, const uint8_t *batch, size_t batch_len, uint8_t *out, size_t out_len)
+{
+    batch_numbers result;
+    rattle_choughbell_batch(&result, list, list_len, batch, batch_len, out, out_len);
     return result;
 }
 
