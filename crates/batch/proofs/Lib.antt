@@ -5,6 +5,7 @@ pub mod Entering
 pub mod Walking
 pub mod Answering
 pub mod Alone
+pub mod Saying
 pub mod Promised
 pub mod Examples
 pub mod OneAnswer

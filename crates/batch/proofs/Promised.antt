@@ -6,7 +6,7 @@ use mathlib.Core.List.{List, [], _∷_, _++_, map}
 use mathlib.Core.Logic.{_⊎_, inl, inr}
 use Prim.Native.Nat.{ℕ, _+_, _*_, _≤_, _<_}
 use native.Mathlib.Omega.{arith}
-use borrow.Author.Tests.{le-ltb, ltb-true, ltb-false}
+use borrow.Author.Tests.{le-ltb}
 use lib.Dec.{ltb}
 use mathlib.Core.Bool.{Bool, true, false, cond}
 use lib.ListN.{length, getD, take, drop}
@@ -24,15 +24,17 @@ use Rattle.demands.specs.Within.{Within}
 use Rattle.demands.proofs.Demands.{Answered, demand-1}
 use Rattle.demands.proofs.Demand3.{cut-accepted, cut-again, count-again}
 use Rattle.bundle.specs.Batch.{printBatch, entriesOf, layoutOf}
-use Rattle.bundle.specs.Layout.{Bytes, LayoutSays, sound}
+use Rattle.bundle.specs.Layout.{Bytes, sound}
 use Rattle.bundle.specs.declared.Layout.{Layout}
 use Rattle.bundle.specs.declared.Layout.the-variants as layout
-use Rattle.bundle.proofs.Layouts.{says-layout, only-layout}
+use Rattle.bundle.proofs.Layouts.{only-layout}
 use Rattle.batch.specs.Answer.{ofSound, entryOf, selectedOf, resultOf, sum, selectedIn, byList, byLayout, byRoom, batchBy, batchOf}
 use Rattle.batch.specs.Answer.{after, batchBytes, numberOf, secondOf, thirdOf}
+use Rattle.batch.specs.Says.{BatchSays}
 use Rattle.batch.specs.declared.BatchAnswer.{BatchAnswer}
 use Rattle.batch.specs.declared.BatchAnswer.the-variants.{Written, ListTooLong, ListMalformed, ListTooLarge, BadBatch, Short}
 use Rattle.batch.proofs.Bounds.{selected-under}
+use Rattle.batch.proofs.Saying.{says-batch, only-batch}
 use Rattle.batch.proofs.Alone.{Alone, entry-alone, empty-entry, entries-result, entry-at}
 
 -- ---- "Each entry must equal what a single call with room enough gives"
@@ -62,56 +64,52 @@ entry-i list b i o p e =
 
 -- ---- demand 1: every list, batch and buffer gets an answer, and a refusal of the whole changes no byte
 
--- the place of a refusal: a length at fault begins in the batch, or the batch is empty; what is needed is more than the room
-abbrev pub Placed : List ℕ → ℕ → BatchAnswer → Type 0
-Placed b room (Written n c) = n ≤ room
-Placed b room ListTooLong = Unit {0}
-Placed b room (ListMalformed n) = Unit {0}
-Placed b room (ListTooLarge n) = Unit {0}
-Placed b room (BadBatch n) = LayoutSays b (layout.AtFault n)
-Placed b room (Short n) = room < n
-
 pub record BatchAnswered (list b o : List ℕ) (a : BatchAnswer) (o′ : List ℕ) : Type 0 where
+  -- the answer that document 02 says, with its place, and the only one
+  pub says : BatchSays list b (length o) a
+  pub only : (x : BatchAnswer) → BatchSays list b (length o) x → x ≡ a
   -- under 0 the numbers are the result's own, and it stands at the front of the buffer; the bytes after it stay
   pub written : numberOf a ≡ 0
       → (secondOf a ≡ length (resultOf list b)) × (thirdOf a ≡ selectedIn list b) × (o′ ≡ resultOf list b ++ drop (secondOf a) o)
   -- under any other the third number is 0, and the buffer is untouched
   pub refused : (numberOf a ≡ 0 → ⊥) → (thirdOf a ≡ 0) × (o′ ≡ o)
-  pub placed : Placed b (length o) a
 
-room-answered : (list b o : List ℕ) (x : Bool) → ltb (length o) (length (resultOf list b)) ≡ x
-    → let a = cond x (Short (length (resultOf list b))) (Written (length (resultOf list b)) (selectedIn list b)) in
-    BatchAnswered list b o a (after a (resultOf list b) o)
-room-answered list b o true e =
-    record {
-      written = λ z. absurd (omega (arith, z));
-      refused = λ h. (refl, refl);
-      placed = ltb-true (length o) (length (resultOf list b)) e;
-    }
-room-answered list b o false e =
-    record {
-      written = λ z. (refl, refl, refl);
-      refused = λ h. absurd (h refl);
-      placed = ltb-false (length o) (length (resultOf list b)) e;
-    }
+written-is : (list b o : List ℕ) → numberOf (batchOf list b (length o)) ≡ 0
+    → (secondOf (batchOf list b (length o)) ≡ length (resultOf list b)) × (thirdOf (batchOf list b (length o)) ≡ selectedIn list b)
+    × (batchBytes list b o ≡ resultOf list b ++ drop (secondOf (batchOf list b (length o))) o)
+unfolding batchOf batchBytes
+written-is list b o = go (listAnswer list) (layoutOf b) (ltb (length o) (length (resultOf list b)))
+  where
+    said : ListAnswer → Layout → Bool → BatchAnswer
+    said l y x = byList l (byLayout y (cond x (Short (length (resultOf list b))) (Written (length (resultOf list b)) (selectedIn list b))))
 
-layout-answered : (list b o : List ℕ) → Bytes b → (l : Layout) → layoutOf b ≡ l
-    → let a = byLayout l (byRoom (length o) (resultOf list b) (selectedIn list b)) in
-    BatchAnswered list b o a (after a (resultOf list b) o)
-layout-answered list b o h layout.Sound e = room-answered list b o (ltb (length o) (length (resultOf list b))) refl
-layout-answered list b o h (layout.AtFault n) e =
-    record { written = λ z. absurd (omega (arith, z)); refused = λ k. (refl, refl); placed = rw e at (says-layout b h) }
+    go : (l : ListAnswer) (y : Layout) (x : Bool) → numberOf (said l y x) ≡ 0
+        → (secondOf (said l y x) ≡ length (resultOf list b)) × (thirdOf (said l y x) ≡ selectedIn list b)
+        × (after (said l y x) (resultOf list b) o ≡ resultOf list b ++ drop (secondOf (said l y x)) o)
+    go lists.Sound layout.Sound false z = (refl, refl, refl)
+    go lists.Sound layout.Sound true z = absurd (omega (arith, z))
+    go lists.Sound (layout.AtFault k) x z = absurd (omega (arith, z))
+    go lists.TooLong y x z = absurd (omega (arith, z))
+    go (lists.Malformed k) y x z = absurd (omega (arith, z))
+    go (lists.TooLarge k) y x z = absurd (omega (arith, z))
+
+refused-is : (a : BatchAnswer) (w o : List ℕ) → (numberOf a ≡ 0 → ⊥) → (thirdOf a ≡ 0) × (after a w o ≡ o)
+refused-is (Written n c) w o h = absurd (h refl)
+refused-is ListTooLong w o h = (refl, refl)
+refused-is (ListMalformed n) w o h = (refl, refl)
+refused-is (ListTooLarge n) w o h = (refl, refl)
+refused-is (BadBatch n) w o h = (refl, refl)
+refused-is (Short n) w o h = (refl, refl)
 
 pub batch-demand-1 : (list b o : List ℕ) → Bytes b → BatchAnswered list b o (batchOf list b (length o)) (batchBytes list b o)
-unfolding batchOf batchBytes
-batch-demand-1 list b o h = go (listAnswer list)
-  where
-    go : (l : ListAnswer) → BatchAnswered list b o (byList l (batchBy list b (length o))) (after (byList l (batchBy list b (length o)))
-        (resultOf list b) o)
-    go lists.Sound = layout-answered list b o h (layoutOf b) refl
-    go lists.TooLong = record { written = λ z. absurd (omega (arith, z)); refused = λ k. (refl, refl); placed = tt }
-    go (lists.Malformed n) = record { written = λ z. absurd (omega (arith, z)); refused = λ k. (refl, refl); placed = tt }
-    go (lists.TooLarge n) = record { written = λ z. absurd (omega (arith, z)); refused = λ k. (refl, refl); placed = tt }
+unfolding batchBytes
+batch-demand-1 list b o h =
+    record {
+      says = says-batch list b (length o) h;
+      only = λ x s. only-batch list b (length o) s;
+      written = written-is list b o;
+      refused = refused-is (batchOf list b (length o)) (resultOf list b) o;
+    }
 
 -- ---- demand 3, per document inside, and so of whole batches: batch(narrow, batch(wide, B)) = batch(narrow, B)
 
@@ -169,10 +167,10 @@ module _ (narrow wide : List ℕ) (within : Within (listPaths narrow) (listPaths
     sum-again =
         ap (λ (ds : List (List ℕ)). sum (map (selectedOf narrow) ds)) (entries-result wide b e) ∙ sums-again (entriesOf b) sizes
 
-    -- a result is a sound batch itself, where it is not too long for one
-    pub result-sound : length (resultOf wide b) ≤ 67108864 → layoutOf (resultOf wide b) ≡ layout.Sound
-    unfolding resultOf
-    result-sound l = sym (only-layout (resultOf wide b) (sound (map (entryOf wide) (entriesOf b)) refl l))
+-- a result is a sound batch itself, where it is not too long for one
+pub result-sound : (list b : List ℕ) → length (resultOf list b) ≤ 67108864 → layoutOf (resultOf list b) ≡ layout.Sound
+unfolding resultOf
+result-sound list b l = sym (only-layout (resultOf list b) (sound (map (entryOf list) (entriesOf b)) refl l))
 
 -- what is answered and left by a sound list, of a sound batch and with room enough
 batch-answers : (list b o : List ℕ) → listAnswer list ≡ lists.Sound → layoutOf b ≡ layout.Sound → length (resultOf list b) ≤ length o
@@ -180,26 +178,6 @@ batch-answers : (list b o : List ℕ) → listAnswer list ≡ lists.Sound → la
     × (batchBytes list b o ≡ resultOf list b ++ drop (length (resultOf list b)) o)
 unfolding batchOf batchBytes
 batch-answers list b o p e l = rw (p, e, le-ltb (length o) (length (resultOf list b)) l) (refl, refl)
-
--- where a result is written, it stands at the front
-written-front : (list b o : List ℕ) → numberOf (batchOf list b (length o)) ≡ 0
-    → (secondOf (batchOf list b (length o)) ≡ length (resultOf list b))
-    × (batchBytes list b o ≡ resultOf list b ++ drop (secondOf (batchOf list b (length o))) o)
-unfolding batchOf batchBytes
-written-front list b o = go (listAnswer list) (layoutOf b) (ltb (length o) (length (resultOf list b)))
-  where
-    said : ListAnswer → Layout → Bool → BatchAnswer
-    said l y x = byList l (byLayout y (cond x (Short (length (resultOf list b))) (Written (length (resultOf list b)) (selectedIn list b))))
-
-    go : (l : ListAnswer) (y : Layout) (x : Bool) → numberOf (said l y x) ≡ 0
-        → (secondOf (said l y x) ≡ length (resultOf list b))
-        × (after (said l y x) (resultOf list b) o ≡ resultOf list b ++ drop (secondOf (said l y x)) o)
-    go lists.Sound layout.Sound false z = (refl, refl)
-    go lists.Sound layout.Sound true z = absurd (omega (arith, z))
-    go lists.Sound (layout.AtFault k) x z = absurd (omega (arith, z))
-    go lists.TooLong y x z = absurd (omega (arith, z))
-    go (lists.Malformed k) y x z = absurd (omega (arith, z))
-    go (lists.TooLarge k) y x z = absurd (omega (arith, z))
 
 -- Of two calls: the first writes the wide result, n bytes, at the front of the buffer o; the second takes these bytes as a batch, into the
 -- buffer o′. "as long as the wide result is within the batch size and its cuts within the document size".
@@ -209,11 +187,11 @@ pub batch-demand-3 : (narrow wide b o o′ : List ℕ) (n k : ℕ) → listAnswe
     → (batchOf narrow (take n (batchBytes wide b o)) (length o′) ≡ Written (length (resultOf narrow b)) (selectedIn narrow b))
     × (batchBytes narrow (take n (batchBytes wide b o)) o′ ≡ resultOf narrow b ++ drop (length (resultOf narrow b)) o′)
 batch-demand-3 narrow wide b o o′ n k p q within e a size sizes room =
-    let z = written-front wide b o (ap numberOf a) in
+    let z = written-is wide b o (ap numberOf a) in
     let m : n ≡ length (resultOf wide b) = sym (ap secondOf a) ∙ z .0 in
     let t : take n (batchBytes wide b o) ≡ resultOf wide b =
-    ap (take n) (z .1) ∙ take-at (resultOf wide b) (drop (secondOf (batchOf wide b (length o))) o) n (sym m) in
-    let s = result-sound narrow wide within b e sizes (omega (arith, m)) in
+    ap (take n) (z .2) ∙ take-at (resultOf wide b) (drop (secondOf (batchOf wide b (length o))) o) n (sym m) in
+    let s = result-sound wide b (omega (arith, m)) in
     let r = result-again narrow wide within b e sizes in
     let y = batch-answers narrow (resultOf wide b) o′ p s (rw r room) in
     rw t (rw (r, sum-again narrow wide within b e sizes) at y)
