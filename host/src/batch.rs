@@ -70,12 +70,11 @@ fn documents_to(post: &Post, list: &Read, documents: &[(PathBuf, OsString)], fol
             Err(refusal) => return Ok(refused(post, refusal, list, &Read { name: String::new(), bytes: batch })),
         };
         for ((document, name), entry) in group.iter().zip(choughbell::entries(&result.bytes)) {
-            match choughbell::check(&document.bytes) {
-                Err(refusal) if entry.is_empty() => {
-                    progress.clear();
-                    first(&mut status, refused(post, refusal, list, document));
-                }
-                _ => Sink::File(folder.join(name)).write(entry)?,
+            if !entry.is_empty() {
+                Sink::File(folder.join(name)).write(entry)?;
+            } else if let Err(refusal) = choughbell::check(&document.bytes) {
+                progress.clear();
+                first(&mut status, refused(post, refusal, list, document));
             }
         }
         progress.say(documents.len() - rest.len());
@@ -127,7 +126,10 @@ fn batch_to(post: &Post, list: &Read, source: &Source, sink: &Sink) -> Result<u8
     let mut status = 0;
     let cuts = choughbell::entries(&result.bytes);
     for (i, (document, entry)) in choughbell::entries(&batch.bytes).into_iter().zip(cuts).enumerate() {
-        if let (true, Err(refusal)) = (entry.is_empty(), choughbell::check(document)) {
+        if !entry.is_empty() {
+            continue;
+        }
+        if let Err(refusal) = choughbell::check(document) {
             let document = Read { name: format!("{}, document {}", batch.name, i + 1), bytes: document.to_vec() };
             first(&mut status, refused(post, refusal, list, &document));
         }
