@@ -272,6 +272,20 @@ mod tests {
     }
 
     #[test]
+    fn limits_of_a_batch() {
+        let cuts = |batch: &[u8]| entries(&batch_of(b"", batch).unwrap().bytes).iter().map(|cut| cut.to_vec()).collect::<Vec<_>>();
+        let expected = [b"".to_vec(), b"<g></g>".to_vec()];
+        // A document over its limit is refused, and the batch goes on.
+        assert_eq!(cuts(&bundle([&vec![b' '; DOCUMENT_LIMIT + 1][..], b"<g/>"])), expected);
+        // A batch of exactly the limit: the version, two lengths, a long document and one of four bytes.
+        let mut full = bundle([&vec![b' '; BATCH_LIMIT - 13][..], b"<g/>"]);
+        assert_eq!(full.len(), BATCH_LIMIT);
+        assert_eq!(cuts(&full), expected);
+        full.push(0);
+        assert_eq!(batch_of(b"", &full), Err(Refusal::BadBatch { offset: 0 }));
+    }
+
+    #[test]
     fn room_short_of_twice_the_batch_is_measured() {
         let bytes = bundle([&b"<g/>"[..], b"<g><v/></g>", b"x"]);
         let whole = batch_of(b"//v\n", &bytes).unwrap();
