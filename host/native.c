@@ -5,16 +5,17 @@
 
 /* What each function hands back. */
 typedef struct choughbell_four_numbers cut_numbers;
-typedef struct choughbell_numbers judge_numbers;
-typedef struct choughbell_numbers plain_numbers;
+typedef struct choughbell_numbers three_numbers;
 
 void *rattle_choughbell_cut(cut_numbers *result, const uint8_t *list, size_t list_len, const uint8_t *doc, size_t doc_len, uint8_t *out,
                             size_t out_len);
 void *rattle_choughbell_cut_with(cut_numbers *result, const uint8_t *list, size_t list_len, const uint8_t *doc, size_t doc_len,
                                  uint8_t *out, size_t out_len, uint64_t *log, size_t log_len);
-void *rattle_choughbell_plain(plain_numbers *result, const uint8_t *list, size_t list_len, const uint8_t *doc, size_t doc_len,
+void *rattle_choughbell_plain(three_numbers *result, const uint8_t *list, size_t list_len, const uint8_t *doc, size_t doc_len,
                               uint8_t *out, size_t out_len);
-void *rattle_choughbell_judge(judge_numbers *result, const uint8_t *doc, size_t doc_len);
+void *rattle_choughbell_batch(three_numbers *result, const uint8_t *list, size_t list_len, const uint8_t *batch, size_t batch_len,
+                              uint8_t *out, size_t out_len);
+void *rattle_choughbell_judge(three_numbers *result, const uint8_t *doc, size_t doc_len);
 size_t rattle_choughbell_characters(const uint8_t *s, size_t s_len);
 
 cut_numbers choughbell_cut(const uint8_t *list, size_t list_len, const uint8_t *doc, size_t doc_len, uint8_t *out, size_t out_len)
@@ -32,16 +33,23 @@ cut_numbers choughbell_cut_with(const uint8_t *list, size_t list_len, const uint
     return result;
 }
 
-plain_numbers choughbell_plain(const uint8_t *list, size_t list_len, const uint8_t *doc, size_t doc_len, uint8_t *out, size_t out_len)
+three_numbers choughbell_plain(const uint8_t *list, size_t list_len, const uint8_t *doc, size_t doc_len, uint8_t *out, size_t out_len)
 {
-    plain_numbers result;
+    three_numbers result;
     rattle_choughbell_plain(&result, list, list_len, doc, doc_len, out, out_len);
     return result;
 }
 
-judge_numbers choughbell_judge(const uint8_t *doc, size_t doc_len)
+three_numbers choughbell_batch(const uint8_t *list, size_t list_len, const uint8_t *batch, size_t batch_len, uint8_t *out, size_t out_len)
 {
-    judge_numbers result;
+    three_numbers result;
+    rattle_choughbell_batch(&result, list, list_len, batch, batch_len, out, out_len);
+    return result;
+}
+
+three_numbers choughbell_judge(const uint8_t *doc, size_t doc_len)
+{
+    three_numbers result;
     rattle_choughbell_judge(&result, doc, doc_len);
     return result;
 }

@@ -1,4 +1,4 @@
-/* The proved filter, for callers in C: five functions of a static library, choughbell 0.3.0. Link with -lchoughbell, or with
+/* The proved filter, for callers in C: six functions of a static library, choughbell 0.3.0. Link with -lchoughbell, or with
  * target/native/libexported.a as `make library` leaves it. They allocate nothing, keep nothing between calls and call nothing but memset
  * and memcpy, so threads may call them at once. A call takes less than 96 KiB of stack; one with a log that is lent less than 64.
  *
@@ -36,6 +36,7 @@ extern "C" {
  *   8  over a size                          offset of the item
  *   9  output shorter than the cut          length needed
  *   10 another encoding is declared         offset of the declaration: 0, or 3 behind EF BB BF
+ *   11 not a batch                          offset of the version byte or length at fault (choughbell_batch alone)
  *
  * They apply in the order 1; 2 and 3 by line; 4; 10; 5; 6 to 8 by item; 9. The third number and the fourth are 0 except under 0.
  *
@@ -72,6 +73,18 @@ struct choughbell_four_numbers choughbell_cut_with(const uint8_t *list, size_t l
  * top. It is proved that for every list, document and room its three numbers are the first three of choughbell_cut, and `out` is the same
  * in every byte. It counts no name tests, and takes longer. A call takes less than 192 KiB of stack. */
 struct choughbell_numbers choughbell_plain(const uint8_t *list, size_t list_len, const uint8_t *doc, size_t doc_len, uint8_t *out,
+                                           size_t out_len);
+
+/* Cuts each document of a batch by one list, and writes the result to the front of `out`. A batch is the byte 1, then for each document its
+ * length, four bytes with the highest first, and its bytes. The result has the same layout, with the cut of each document, or length 0
+ * where the document is refused by 4 to 8 or 10 (a cut is never empty): an entry is what choughbell_cut writes for the document alone.
+ *
+ * Under 0 the second number is the length of the whole result and the third the sum of elements selected; the bytes after the result stay
+ * as they were. Else the batch as a whole is refused and the whole of `out` stays: 1 to 3; 11, for an empty batch, one over 67,108,864
+ * bytes (both offset 0), another version, or the first length that is cut short or runs past the end; 9 with the length of the whole
+ * result; in this order. A result has at most twice the bytes of its batch, which is proved: where out_len is as much, the number is never
+ * 9, and each document is gone through once; else a second time, to measure. `out` overlaps neither `list` nor `batch`. */
+struct choughbell_numbers choughbell_batch(const uint8_t *list, size_t list_len, const uint8_t *batch, size_t batch_len, uint8_t *out,
                                            size_t out_len);
 
 /* The numbers of a document alone, as above: 4 to 8 or 10 with the second number, or 0 where the document is sound, and then the second

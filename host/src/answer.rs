@@ -15,7 +15,7 @@ pub struct Written {
     pub name_tests: u64,
 }
 
-/// Answers 1 to 10. A line counts from 1, an offset from 0.
+/// Answers 1 to 11. A line counts from 1, an offset from 0.
 #[derive(Clone, Copy, PartialEq, Eq, Debug)]
 pub enum Refusal {
     /// 1: the list has over 8,192 bytes.
@@ -38,10 +38,12 @@ pub enum Refusal {
     Short { needed: u64 },
     /// 10: the declaration names another encoding than UTF-8. It is looked at after 4 and before 5.
     OtherEncoding { offset: u64 },
+    /// 11: bytes that are no batch. The version byte or a length, at an offset in the batch, is at fault. It is looked at after 3.
+    BadBatch { offset: u64 },
 }
 
 impl FourNumbers {
-    /// The answer that the numbers stand for. Panics on a number over 10, which the library never gives.
+    /// The answer that the numbers stand for. Panics on a number over 11, which the library never gives.
     pub fn answer(self) -> Result<Written, Refusal> {
         let written = Written { length: self.second, selected: self.third, name_tests: self.fourth };
         Refusal::of(self.number, self.second).map_or(Ok(written), Err)
@@ -49,7 +51,7 @@ impl FourNumbers {
 }
 
 impl Refusal {
-    /// The refusal that a number and the second one stand for; under 0 there is none. Panics on a number over 10.
+    /// The refusal that a number and the second one stand for; under 0 there is none. Panics on a number over 11.
     pub(crate) fn of(number: u64, second: u64) -> Option<Refusal> {
         Some(match number {
             0 => return None,
@@ -63,11 +65,12 @@ impl Refusal {
             8 => Refusal::OverSize { offset: second },
             9 => Refusal::Short { needed: second },
             10 => Refusal::OtherEncoding { offset: second },
+            11 => Refusal::BadBatch { offset: second },
             number => panic!("{number} is no answer of the library"),
         })
     }
 
-    /// The number, 1 to 10.
+    /// The number, 1 to 11.
     pub fn number(self) -> u64 {
         match self {
             Refusal::ListTooLong => 1,
@@ -80,6 +83,7 @@ impl Refusal {
             Refusal::OverSize { .. } => 8,
             Refusal::Short { .. } => 9,
             Refusal::OtherEncoding { .. } => 10,
+            Refusal::BadBatch { .. } => 11,
         }
     }
 
@@ -96,6 +100,7 @@ impl Refusal {
             Refusal::OverSize { .. } => "over a size",
             Refusal::Short { .. } => "output shorter than the cut",
             Refusal::OtherEncoding { .. } => "another encoding",
+            Refusal::BadBatch { .. } => "not a batch",
         }
     }
 
@@ -121,6 +126,7 @@ impl Refusal {
     pub fn second(self) -> u64 {
         match self {
             Refusal::Short { needed } => needed,
+            Refusal::BadBatch { offset } => offset,
             _ => self.line().or_else(|| self.offset()).unwrap_or(0),
         }
     }
@@ -131,6 +137,7 @@ impl fmt::Display for Refusal {
         write!(f, "{}: {}", self.number(), self.meaning())?;
         match *self {
             Refusal::Short { needed } => write!(f, ", which has {needed} bytes"),
+            Refusal::BadBatch { offset } => write!(f, ", at offset {offset} of the batch"),
             Refusal::ListMalformed { line } | Refusal::ListTooLarge { line } => write!(f, ", line {line} of the list"),
             _ => self.offset().map_or(Ok(()), |offset| write!(f, ", at offset {offset}")),
         }
@@ -145,7 +152,7 @@ mod tests {
 
     #[test]
     fn numbers_come_back_as_they_were() {
-        for number in 1..=10 {
+        for number in 1..=11 {
             let second = if number == 1 || number == 4 { 0 } else { 12 };
             let refusal = FourNumbers { number, second, third: 0, fourth: 0 }.answer().unwrap_err();
             assert_eq!((refusal.number(), refusal.second()), (number, second));
@@ -159,5 +166,6 @@ mod tests {
         assert_eq!(Refusal::OverSize { offset: 17 }.to_string(), "8: over a size, at offset 17");
         assert_eq!(Refusal::Short { needed: 21 }.to_string(), "9: output shorter than the cut, which has 21 bytes");
         assert_eq!(Refusal::OtherEncoding { offset: 3 }.to_string(), "10: another encoding, at offset 3");
+        assert_eq!(Refusal::BadBatch { offset: 6 }.to_string(), "11: not a batch, at offset 6 of the batch");
     }
 }

@@ -1,11 +1,11 @@
-//! What each number means and what to do about it: the answers 0 to 10, and the exit statuses from 64 on.
+//! What each number means and what to do about it: the answers 0 to 11, and the exit statuses from 64 on.
 
 /// The text on a number, as it is written on the command line.
 pub fn text(number: &[u8]) -> Option<&'static str> {
     TEXTS.iter().find(|(name, _)| name.as_bytes() == number).map(|&(_, text)| text)
 }
 
-const TEXTS: [(&str, &str); 15] = [
+const TEXTS: [(&str, &str); 16] = [
     ("0", ZERO),
     ("1", ONE),
     ("2", TWO),
@@ -17,6 +17,7 @@ const TEXTS: [(&str, &str); 15] = [
     ("8", EIGHT),
     ("9", NINE),
     ("10", TEN),
+    ("11", ELEVEN),
     ("64", USAGE),
     ("66", NO_INPUT),
     ("73", CANT_CREATE),
@@ -98,6 +99,13 @@ Convert it so that its declaration says UTF-8 too: xmllint --encode UTF-8 does b
 iconv leaves the declaration as it is: then write UTF-8 there, or take the encoding out.
 Do only that where the bytes are UTF-8 already and the declaration alone is wrong, as
 they seem to be behind a byte order mark.
+";
+
+const ELEVEN: &str = "\
+11: the bytes are no batch; the second number is the offset of what is at fault: 0, the
+version byte, which must be 1, or the batch is empty or has over 67,108,864 bytes; else a
+length that is cut short or runs past the end. A length has four bytes, the highest first.
+Nothing was cut. See that the file is a batch and whole; with -d, batch takes documents.
 ";
 
 const USAGE: &str = "\

@@ -1,6 +1,6 @@
 //! The proved filter, for callers in Rust: functions on byte slices. `cut` writes into a lent buffer, as the library does; `cut_of` brings
 //! a buffer of its own; `check` judges a document alone. `plain` and `plain_of` cut by the plain engine, a second one to be read,
-//! and give the same numbers and bytes; they count no name tests.
+//! and give the same numbers and bytes; they count no name tests. `batch` and `batch_of` cut many documents in one call.
 //!
 //! The static library comes from Rattle. Its contract asks nothing of the lists and documents that it is given, and says of every byte of
 //! the buffer what it is afterwards. What a caller of the library's own function owes is that the buffer overlaps neither the list nor the
@@ -16,13 +16,17 @@
 //! ```
 
 mod answer;
+mod bundle;
 
 pub use answer::{Refusal, Written};
+pub use bundle::{bundle, entries};
 
 /// A longer list is answer 1.
 pub const LIST_LIMIT: usize = 8_192;
 /// A longer document is answer 4.
 pub const DOCUMENT_LIMIT: usize = 16_777_216;
+/// A longer batch is answer 11.
+pub const BATCH_LIMIT: usize = 67_108_864;
 
 /// The numbers that a cut hands back: which answer it is, and what goes with it.
 #[repr(C)]
@@ -38,15 +42,16 @@ pub struct FourNumbers {
     pub fourth: u64,
 }
 
-/// The numbers that a cut by the plain engine hands back: those of `FourNumbers` but for the name tests.
+/// The numbers that a call hands back which counts no name tests: a cut by the plain engine, a batch; and a document alone, whose third is
+/// always 0.
 #[repr(C)]
 #[derive(Clone, Copy, PartialEq, Eq, Debug)]
 pub struct Numbers {
-    /// 0 where the cut is written, else why it is refused.
+    /// 0 where what is asked for is written, else why it is refused.
     pub number: u64,
     /// Under 0 the length written, under 9 the length needed, else the line or the offset at fault, or 0.
     pub second: u64,
-    /// Under 0 how many elements are selected, else 0. Of a document alone it is always 0.
+    /// Under 0 how many elements are selected, in a batch in all documents, else 0.
     pub third: u64,
 }
 
@@ -55,6 +60,7 @@ extern "C" {
     // Nothing checks these against the Rattle source, crates/exported/src/lib.rt: a slice is its pointer and then its length.
     fn choughbell_judge(doc: *const u8, doc_len: usize) -> Numbers;
     fn choughbell_plain(list: *const u8, list_len: usize, doc: *const u8, doc_len: usize, out: *mut u8, out_len: usize) -> Numbers;
+    fn choughbell_batch(list: *const u8, list_len: usize, batch: *const u8, batch_len: usize, out: *mut u8, out_len: usize) -> Numbers;
     fn choughbell_cut(list: *const u8, list_len: usize, doc: *const u8, doc_len: usize, out: *mut u8, out_len: usize) -> FourNumbers;
     fn choughbell_cut_with(
         list: *const u8,
@@ -95,16 +101,7 @@ pub fn cut(list: &[u8], doc: &[u8], out: &mut [u8]) -> FourNumbers {
 /// ```
 pub fn cut_with(list: &[u8], doc: &[u8], out: &mut [u8], log: &mut [u64]) -> FourNumbers {
     unsafe {
-        choughbell_cut_with(
-            list.as_ptr(),
-            list.len(),
-            doc.as_ptr(),
-            doc.len(),
-            out.as_mut_ptr(),
-            out.len(),
-            log.as_mut_ptr(),
-            log.len(),
-        )
+        choughbell_cut_with(list.as_ptr(), list.len(), doc.as_ptr(), doc.len(), out.as_mut_ptr(), out.len(), log.as_mut_ptr(), log.len())
     }
 }
 
@@ -170,6 +167,45 @@ pub fn plain_of(list: &[u8], doc: &[u8]) -> Result<Plain, Refusal> {
 pub fn check(doc: &[u8]) -> Result<(), Refusal> {
     let numbers = unsafe { choughbell_judge(doc.as_ptr(), doc.len()) };
     Refusal::of(numbers.number, numbers.second).map_or(Ok(()), Err)
+}
+
+/// Cuts each document of a batch by one list and writes the result to the front of `out`, or refuses the batch as a whole and leaves all of
+/// `out` as it was. A batch is the byte 1, then for each document its length, four bytes with the highest first, and its bytes; `bundle`
+/// makes one. The result has the same layout, with the cut of each document, or length 0 where the document is refused by 4 to 8 or 10;
+/// `check` says by which. A buffer of twice the bytes of the batch always suffices, and then each document is gone through once.
+///
+/// ```
+/// let batch = choughbell::bundle([&b"<g><v/></g>"[..], b"<g>"]);
+/// let mut out = [b'+'; 24];
+/// let numbers = choughbell::batch(b"//v\n", &batch, &mut out);
+/// assert_eq!((numbers.number, numbers.second, numbers.third), (0, 23, 1));
+/// assert_eq!(&out, b"\x01\0\0\0\x0E<g><v></v></g>\0\0\0\0+");
+/// ```
+pub fn batch(list: &[u8], batch: &[u8], out: &mut [u8]) -> Numbers {
+    unsafe { choughbell_batch(list.as_ptr(), list.len(), batch.as_ptr(), batch.len(), out.as_mut_ptr(), out.len()) }
+}
+
+/// The result of a batch with its bytes.
+#[derive(Clone, PartialEq, Eq, Debug)]
+pub struct Batch {
+    /// A batch itself: an entry for each document, in their order. `entries` takes it apart.
+    pub bytes: Vec<u8>,
+    /// How many elements the list selects in all documents.
+    pub selected: u64,
+}
+
+/// The result of a batch by a list, in a buffer that suffices: `Refusal::Short` is never the answer.
+pub fn batch_of(list: &[u8], bytes: &[u8]) -> Result<Batch, Refusal> {
+    // No result has more bytes: `result-under` in crates/batch/proofs/Bounds.antt. A batch over the limit is refused unread.
+    let mut room = vec![0; 2 * bytes.len().min(BATCH_LIMIT)];
+    let Numbers { number, second, third } = batch(list, bytes, &mut room);
+    match Refusal::of(number, second) {
+        Some(refusal) => Err(refusal),
+        None => {
+            room.truncate(second as usize);
+            Ok(Batch { bytes: room, selected: third })
+        }
+    }
 }
 
 #[cfg(test)]
@@ -246,6 +282,78 @@ mod tests {
         assert_eq!(plain_of(b"/g\n", b"<g/>"), Ok(Plain { bytes: b"<g></g>".to_vec(), selected: 1 }));
         assert_eq!(plain_of(b"v\n", b"<g/>"), Err(Refusal::ListMalformed { line: 1 }));
         assert_eq!(plain_of(b"", b"<g><v></g>"), Err(Refusal::NotWellFormed { offset: 6 }));
+    }
+
+    #[test]
+    fn entries_are_what_single_calls_give() {
+        let deep = "<g>".repeat(65);
+        let documents = [
+            "<g><v/></g>",
+            "",
+            "<g>",
+            "<!DOCTYPE g><g/>",
+            "<g/>",
+            deep.as_str(),
+            "<v><v k='1'/>a</v>",
+            "<?xml version='1.0' encoding='x'?><g/>",
+        ];
+        for list in [&b"//v\n"[..], b"//v #\n/g\n", b""] {
+            let result = batch_of(list, &bundle(documents.map(str::as_bytes))).unwrap();
+            let single = documents.map(|doc| cut_of(list, doc.as_bytes()));
+            let expected = single.iter().map(|cut| cut.as_ref().map_or(&b""[..], |cut| &cut.bytes));
+            assert_eq!(entries(&result.bytes), expected.collect::<Vec<_>>());
+            assert_eq!(result.selected, single.iter().flatten().map(|cut| cut.selected).sum::<u64>());
+        }
+    }
+
+    #[test]
+    fn batches_are_refused_as_a_whole_and_the_buffer_is_left_alone() {
+        let batch_into = |list: &[u8], bytes: &[u8], room: usize| {
+            let mut out = vec![b'+'; room];
+            let numbers = batch(list, bytes, &mut out);
+            assert!(out.iter().all(|&b| b == b'+'));
+            assert_eq!(numbers.third, 0);
+            (numbers.number, numbers.second)
+        };
+        assert_eq!(batch_into(b"v\n", b"", 9), (2, 1));
+        assert_eq!(batch_into(b"", b"", 9), (11, 0));
+        assert_eq!(batch_into(b"", b"\x02", 9), (11, 0));
+        assert_eq!(batch_into(b"", b"\x01\0\0\0", 9), (11, 1));
+        assert_eq!(batch_into(b"", b"\x01\0\0\0\x01<\0\0\0\x02<", 9), (11, 6));
+        assert_eq!(batch_into(b"", &vec![1; BATCH_LIMIT + 1], 9), (11, 0));
+        assert_eq!(batch_into(b"", &bundle([&b"<g/>"[..]]), 11), (9, 12));
+        assert_eq!(batch_into(b"", b"\x01", 0), (9, 1));
+    }
+
+    #[test]
+    fn limits_of_a_batch() {
+        let cuts = |batch: &[u8]| entries(&batch_of(b"", batch).unwrap().bytes).iter().map(|cut| cut.to_vec()).collect::<Vec<_>>();
+        let expected = [b"".to_vec(), b"<g></g>".to_vec()];
+        // A document over its limit is refused, and the batch goes on.
+        assert_eq!(cuts(&bundle([&vec![b' '; DOCUMENT_LIMIT + 1][..], b"<g/>"])), expected);
+        // A batch of exactly the limit: the version, two lengths, a long document and one of four bytes.
+        let mut full = bundle([&vec![b' '; BATCH_LIMIT - 13][..], b"<g/>"]);
+        assert_eq!(full.len(), BATCH_LIMIT);
+        assert_eq!(cuts(&full), expected);
+        full.push(0);
+        assert_eq!(batch_of(b"", &full), Err(Refusal::BadBatch { offset: 0 }));
+    }
+
+    #[test]
+    fn room_short_of_twice_the_batch_is_measured() {
+        let bytes = bundle([&b"<g/>"[..], b"<g><v/></g>", b"x"]);
+        let whole = batch_of(b"//v\n", &bytes).unwrap();
+        for room in 0..2 * bytes.len() + 2 {
+            let mut out = vec![b'+'; room];
+            let numbers = batch(b"//v\n", &bytes, &mut out);
+            if room < whole.bytes.len() {
+                assert_eq!((numbers.number, numbers.second), (9, whole.bytes.len() as u64));
+                assert!(out.iter().all(|&b| b == b'+'));
+            } else {
+                assert_eq!((numbers.number, numbers.second, numbers.third), (0, whole.bytes.len() as u64, 1));
+                assert!(out.starts_with(&whole.bytes) && out[whole.bytes.len()..].iter().all(|&b| b == b'+'));
+            }
+        }
     }
 
     #[test]

@@ -3,6 +3,7 @@
 #![forbid(unsafe_code)]
 mod advice;
 mod attribute;
+mod batch;
 mod caret;
 mod explain;
 mod help;
@@ -33,7 +34,7 @@ fn main() -> ExitCode {
             return ExitCode::from(trouble::USAGE);
         }
     };
-    let quiet = matches!(&request, Request::Task(task) if task.quiet);
+    let quiet = matches!(&request, Request::Task(task) if task.quiet) || matches!(&request, Request::Batch(post) if post.quiet);
     match answer(&request) {
         Ok(status) => ExitCode::from(status),
         Err(Trouble { status, message }) => {
@@ -49,6 +50,7 @@ fn main() -> ExitCode {
 fn answer(request: &Request) -> Result<u8, Trouble> {
     match request {
         Request::Task(task) => return task::run(task),
+        Request::Batch(post) => return batch::run(post),
         Request::Explain(text) => output::print(text)?,
         Request::Help => output::print(help::HELP)?,
         Request::Version => output::print(help::VERSION)?,

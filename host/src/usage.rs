@@ -1,16 +1,20 @@
 //! The words of the command line: which command it is and what it is to do; or, where they are wrong, a line that says why. File names are
 //! bytes of any kind and stay as they are.
+use crate::batch::{Post, Way};
 use crate::explain;
 use crate::input::Source;
 use crate::output::Sink;
 use crate::shown;
 use crate::task::Task;
+use std::collections::HashSet;
 use std::ffi::{OsStr, OsString};
 use std::os::unix::ffi::{OsStrExt, OsStringExt};
+use std::path::PathBuf;
 
 #[derive(PartialEq, Eq, Debug)]
 pub enum Request {
     Task(Task),
+    Batch(Post),
     /// The text on a number.
     Explain(&'static str),
     Help,
@@ -22,6 +26,7 @@ pub enum Request {
 struct Given {
     list: Option<OsString>,
     output: Option<OsString>,
+    folder: Option<OsString>,
     count: bool,
     plain: bool,
     quiet: bool,
@@ -32,16 +37,20 @@ struct Given {
 
 /// What the words ask for. The first is the command.
 pub fn read(mut words: impl Iterator<Item = OsString>) -> Result<Request, String> {
-    let command = words.next().ok_or("there is no command: it is cut, check or explain")?;
+    let command = words.next().ok_or("there is no command: it is cut, check, batch or explain")?;
     match command.as_bytes() {
         b"help" | b"--help" | b"-h" => return Ok(Request::Help),
         b"--version" | b"version" | b"-V" => return Ok(Request::Version),
-        b"cut" | b"check" | b"explain" => {}
-        _ => return Err(format!("there is no command {}: it is cut, check or explain", word(&command))),
+        b"cut" | b"check" | b"batch" | b"explain" => {}
+        _ => return Err(format!("there is no command {}: it is cut, check, batch or explain", word(&command))),
     }
     let given = given(words)?;
+    if given.folder.is_some() && command != "batch" && !given.help {
+        return Err("--folder is for batch alone".to_string());
+    }
     match command.as_bytes() {
         _ if given.help => Ok(Request::Help),
+        b"batch" => batch(given),
         b"cut" => cut(given),
         _ if given.plain => Err("--plain goes with cut alone".to_string()),
         b"check" => check(given),
@@ -73,6 +82,7 @@ impl Given {
         match (name, &joined) {
             (b"--list" | b"-l", _) => value("--list", &mut self.list, joined, words),
             (b"--output" | b"-o", _) => value("--output", &mut self.output, joined, words),
+            (b"--folder" | b"-d", _) => value("--folder", &mut self.folder, joined, words),
             (b"--count", None) => flag(&mut self.count),
             (b"--plain", None) => flag(&mut self.plain),
             (b"--quiet" | b"-q", None) => flag(&mut self.quiet),
@@ -140,6 +150,43 @@ fn check(given: Given) -> Result<Request, String> {
     Ok(Request::Task(Task { list: None, document, output: None, plain: false, quiet: given.quiet, json: given.json }))
 }
 
+fn batch(given: Given) -> Result<Request, String> {
+    let list = given.list.as_deref().ok_or("batch wants a list: -l LIST")?;
+    let list = Source::named(list);
+    if given.count || given.json {
+        return Err("batch takes no --count or --json".to_string());
+    }
+    let way = match (given.folder, given.names.as_slice()) {
+        (Some(_), _) if given.output.is_some() => return Err("--folder and --output don't go together".to_string()),
+        (Some(_), []) => return Err("batch with --folder wants documents".to_string()),
+        (Some(folder), names) => Way::Documents(documents(names)?, folder.into()),
+        (None, [] | [_]) => {
+            let batch = given.names.first().map_or(Source::Standard, |name| Source::named(name));
+            if list == Source::Standard && batch == Source::Standard {
+                return Err("the list and the batch can't both come from the standard input".to_string());
+            }
+            Way::Batch(batch, given.output.map_or(Sink::Standard, |output| Sink::named(&output)))
+        }
+        (None, _) => return Err("batch takes one batch, or with -d FOLDER documents".to_string()),
+    };
+    Ok(Request::Batch(Post { list, way, quiet: given.quiet }))
+}
+
+/// Documents with the names of their cuts, of which no two are the same.
+fn documents(names: &[OsString]) -> Result<Vec<(PathBuf, OsString)>, String> {
+    let mut seen = HashSet::new();
+    let mut documents = Vec::new();
+    for name in names {
+        let path = PathBuf::from(name);
+        let last = path.file_name().filter(|_| name != "-").ok_or(format!("{} is no name for a document of a batch", word(name)))?;
+        if !seen.insert(last.to_owned()) {
+            return Err(format!("two documents have the name {}", word(last)));
+        }
+        documents.push((path.clone(), last.to_owned()));
+    }
+    Ok(documents)
+}
+
 /// The document of either command, and what both ask of options.
 fn document(command: &str, given: &Given) -> Result<Source, String> {
     if given.quiet && given.json {
@@ -159,7 +206,7 @@ fn explain(given: Given) -> Result<Request, String> {
     match given.names.as_slice() {
         [number] => match explain::text(number.as_bytes()) {
             Some(text) => Ok(Request::Explain(text)),
-            None => Err(format!("{} is no number that is explained: 0 to 10, 64, 66, 73 or 74", word(number))),
+            None => Err(format!("{} is no number that is explained: 0 to 11, 64, 66, 73 or 74", word(number))),
         },
         _ => Err("explain wants one number".to_string()),
     }

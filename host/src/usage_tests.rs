@@ -56,7 +56,7 @@ fn the_plain_engine_is_asked_for() {
 #[test]
 fn wrong_words_are_told() {
     let wrong = |words: &[&str]| asked(words).unwrap_err();
-    assert_eq!(wrong(&[]), "there is no command: it is cut, check or explain");
+    assert_eq!(wrong(&[]), "there is no command: it is cut, check, batch or explain");
     assert_eq!(wrong(&["cut", "m"]), "cut wants a list: -l LIST; by /dev/null the root alone is kept");
     assert_eq!(wrong(&["cut", "-l"]), "--list wants a file's name");
     assert_eq!(wrong(&["cut", "-la", "-lb"]), "--list is given twice");
@@ -64,4 +64,24 @@ fn wrong_words_are_told() {
     assert_eq!(wrong(&["cut", "-qx"]), "there is no option -qx");
     assert_eq!(wrong(&["check", "a\n", "b"]), "check takes one document, and b is a second");
     assert_eq!(wrong(&["explain"]), "explain wants one number");
+}
+
+#[test]
+fn batch_goes_two_ways() {
+    let way = |words: &[&str]| match asked(words) {
+        Ok(Request::Batch(Post { way, .. })) => way,
+        other => panic!("{other:?}"),
+    };
+    let documents = vec![(PathBuf::from("x/a.xml"), OsString::from("a.xml")), (PathBuf::from("b.xml"), OsString::from("b.xml"))];
+    assert_eq!(way(&["batch", "-la", "-d", "cuts", "x/a.xml", "b.xml"]), Way::Documents(documents, PathBuf::from("cuts")));
+    assert_eq!(way(&["batch", "-la"]), Way::Batch(Source::Standard, Sink::Standard));
+    assert_eq!(way(&["batch", "-la", "n.post", "-oo"]), Way::Batch(file("n.post"), Sink::File(PathBuf::from("o"))));
+    let wrong = |words: &[&str]| asked(words).unwrap_err();
+    assert_eq!(wrong(&["batch", "a.xml"]), "batch wants a list: -l LIST");
+    assert_eq!(wrong(&["batch", "-la", "-dc", "x/a.xml", "a.xml"]), "two documents have the name a.xml");
+    assert_eq!(wrong(&["batch", "-la", "-dc", ".."]), ".. is no name for a document of a batch");
+    assert_eq!(wrong(&["batch", "-la", "-dc", "-"]), "- is no name for a document of a batch");
+    assert_eq!(wrong(&["batch", "-la", "-dc"]), "batch with --folder wants documents");
+    assert_eq!(wrong(&["batch", "-la", "x", "y"]), "batch takes one batch, or with -d FOLDER documents");
+    assert_eq!(wrong(&["cut", "-la", "-dc"]), "--folder is for batch alone");
 }

@@ -1,6 +1,6 @@
-/* stack LIST DOCUMENT: whether a cut, one with a log that is lent and one by the plain engine take less stack than the header says. Each
- * call runs on a stack of its own, which is painted before; afterwards the paint that is left tells how deep it went. Prints the number and
- * that it was less; the exit status is 0 where all were. */
+/* stack LIST DOCUMENT: whether a cut, one with a log that is lent, one by the plain engine and a batch of that document take less stack than
+ * the header says. Each call runs on a stack of its own, which is painted before; afterwards the paint that is left tells how deep it went.
+ * Prints the number and that it was less; the exit status is 0 where all were. */
 #define _GNU_SOURCE
 #include "choughbell.h"
 
@@ -14,7 +14,7 @@
 #define SAID_PLAIN (192 * 1024)
 #define PAINTED (1024 * 1024)
 
-static uint8_t stack[PAINTED], list[8193], doc[32768], out[2 * sizeof doc];
+static uint8_t stack[PAINTED], list[8193], doc[32768], batch[sizeof doc + 5], out[2 * sizeof batch];
 static size_t list_len, doc_len;
 static uint64_t log_lent[1024];
 static struct choughbell_four_numbers numbers;
@@ -47,6 +47,13 @@ static void call_plain(void)
     numbers.number = three.number;
 }
 
+/* Into a buffer that is shorter than twice the batch, so that it is measured too. */
+static void call_batch(void)
+{
+    struct choughbell_numbers three = choughbell_batch(list, list_len, batch, doc_len + 5, out, 2 * doc_len + 8);
+    numbers.number = three.number;
+}
+
 static int takes(void (*called)(void), size_t said)
 {
     memset(stack, 0xA5, PAINTED);
@@ -76,7 +83,12 @@ int main(int argc, char **argv)
         return 64;
     list_len = file(argv[1], list, sizeof list);
     doc_len = file(argv[2], doc, sizeof doc);
+    batch[0] = 1;
+    for (int i = 0; i < 4; i++)
+        batch[1 + i] = (uint8_t)(doc_len >> (24 - 8 * i));
+    memcpy(batch + 5, doc, doc_len);
     int wrong = takes(call, SAID);
     wrong |= takes(call_with, SAID_WITH);
-    return takes(call_plain, SAID_PLAIN) || wrong;
+    wrong = takes(call_plain, SAID_PLAIN) || wrong;
+    return takes(call_batch, SAID) || wrong;
 }

@@ -3,3 +3,4 @@
 pub mod Numbering
 pub mod Plainly
 pub mod OneAnswer
+pub mod Batching

@@ -1,11 +1,14 @@
 // What callers in Rust and C can call: numbers pass as themselves, a slice as a pointer and then a length. An answer that is an enum in the
-// library is a number here, or three: document 01's "Numbers handed back", and 10 for another encoding. A cut has a fourth, document 02's
-// number of name tests.
+// library is a number here, or three: document 01's "Numbers handed back", 10 for another encoding and 11 for a batch. A cut has a fourth,
+// document 02's number of name tests.
 ghost use mathlib.Core.Path.{_≡_};
 ghost use lib.ListN.{length};
 ghost use Rattle.document.specs.Judge.{whyNumber, judgeOf};
 ghost use Rattle.cutter.specs.Answer.{answerOf, bytesAfter};
+ghost use Rattle.batch.specs.Answer.{batchOf, batchBytes};
+ghost use Rattle.exported.specs.Batch.{batchNumbersOf};
 ghost use Rattle.exported.specs.Numbers.{charactersEnd, refusalOf, refusedOf, judgedOf, numbersOf};
+use batch::BatchAnswer;
 use chars::whole::Checked;
 use cutter::Answer;
 use document::Why;
@@ -142,4 +145,32 @@ pub extern "C" fn choughbell_cut_with(
 {
     let a = cutter::cut_with(list, doc, out, log);
     numbers_of(a)
+}
+
+// The numbers of the answer on a batch.
+pub fn batch_numbers_of(a: BatchAnswer) -> Numbers
+    ensures { λ r. ⌜ r ≡ batchNumbersOf a ⌝ }
+{
+    match a {
+        BatchAnswer::Written { length, selected } => Numbers {
+            number: 0,
+            second: length as u64,
+            third: selected as u64,
+        },
+        BatchAnswer::ListTooLong => refusal(1, 0),
+        BatchAnswer::ListMalformed(line) => refusal(2, line),
+        BatchAnswer::ListTooLarge(line) => refusal(3, line),
+        BatchAnswer::BadBatch(o) => refusal(11, o),
+        BatchAnswer::Short(needed) => refusal(9, needed),
+    }
+}
+
+// Writes the result of a batch by a list into a buffer, and gives the numbers of the answer.
+#[no_mangle]
+pub extern "C" fn choughbell_batch(list: &[u8], batch: &[u8], out: &mut [u8]) -> Numbers
+    ensures { λ r. ⌜ r ≡ batchNumbersOf (batchOf (now (list .entry)) (now (batch .entry)) (length (now (out .entry)))) ⌝ }
+    ensures { λ r. ⌜ now (out .exit) ≡ batchBytes (now (list .entry)) (now (batch .entry)) (now (out .entry)) ⌝ }
+{
+    let a = batch::cut_all(list, batch, out);
+    batch_numbers_of(a)
 }
