@@ -10,6 +10,7 @@
 //
 // `big` and `fuzz` try demand 3 as well, and that the longest cut for its document is reached. The first difference ends the run, and is
 // shown.
+mod batch;
 mod big;
 mod fuzz;
 #[path = "../speed/gazetteer.rs"]
@@ -30,7 +31,7 @@ use vectors::suite::verdicts;
 
 /// The other calls: the name, a run on all its cases, and one on so many of its generator from a seed.
 type Trial = (&'static str, fn(), fn(usize, u64));
-const CALLS: &[Trial] = &[];
+const CALLS: &[Trial] = &[("batch", batch::packs, batch::fuzz)];
 
 fn main() {
     let args: Vec<String> = std::env::args().skip(1).collect();
