@@ -17,6 +17,7 @@ mod markup;
 mod name_tests;
 mod names;
 mod order;
+mod packed;
 mod passing;
 mod program;
 mod readings;

@@ -6,6 +6,7 @@ use crate::asked::{fresh, Four, Program};
 use crate::batch::BATCH;
 use crate::crc::crc32;
 use crate::made::{Case, Random};
+use crate::packed::{PACK, UNPACK};
 
 /// A call, and all that it is tried on.
 pub struct Call {
@@ -22,7 +23,7 @@ pub struct Call {
 }
 
 /// Every call that has cases.
-pub const CALLS: &[&Call] = &[&BATCH];
+pub const CALLS: &[&Call] = &[&BATCH, &PACK, &UNPACK];
 
 /// A case, and by hand: its numbers, and the bytes written under 0.
 pub struct Told {

@@ -8,4 +8,5 @@ pub mod calls;
 pub mod crc;
 pub mod made;
 pub mod pack;
+pub mod packed;
 pub mod suite;
