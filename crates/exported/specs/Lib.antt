@@ -1,3 +1,4 @@
 -- Definitions:
--- the numbers that callers in Rust and C get.
+-- the numbers that callers in Rust and C get, and those of a packed list.
 pub mod Numbers
+pub mod Packing

@@ -1,7 +1,7 @@
 -- The answers and what stands in the buffers afterwards. In order: two texts compared; the writer; whether an input is the packed form of a
 -- text; the reader; and the two round trips of whole calls.
 use mathlib.Core.Path.{_≡_, refl, sym, ap, _∙_}
-use mathlib.Core.Bool.{Bool, true, false, not, cond, _&&_}
+use mathlib.Core.Bool.{Bool, true, false, not, cond, _&&_, and-false}
 use mathlib.Core.List.{List, [], _∷_, _++_}
 use mathlib.Core.Option.{Option, none, some}
 use Prim.Native.Nat.{ℕ, _+_, _-_, _≤_, _<_}
@@ -12,6 +12,7 @@ use lib.Dec.{ltb, eqb}
 use lib.ListN.{length, take, drop, length-append}
 use lib.Seq.{take-append-seam}
 use Rattle.xml.specs.Character.{begins}
+use Rattle.xml.proofs.Character.{begins-split}
 use Rattle.paths.specs.Judge.{listAnswer}
 use Rattle.paths.specs.declared.ListAnswer.{ListAnswer}
 use Rattle.paths.specs.declared.ListAnswer.the-variants as list
@@ -28,13 +29,19 @@ use Rattle.packed.proofs.Meaning.{packs-form, text-packed-text, packed-
 -- ---- two texts
 
 module _ (a b : List ℕ) where
-  pub equal-long : (length a ≡ length b → ⊥) → false ≡ same a b
+  pub equal-long : length a < length b → false ≡ same a b
   unfolding same
-  equal-long h = rw (ne-eqb (length a) (length b) h)
+  equal-long h = let n : length a ≡ length b → ⊥ = λ e. omega arith in rw (ne-eqb (length a) (length b) n)
 
-  pub equal-bytes : {x : Bool} → length a ≡ length b → x ≡ begins b a → x ≡ same a b
+  pub equal-bytes : {x : Bool} → length b ≤ length a → x ≡ begins a b → x ≡ same a b
   unfolding same
-  equal-bytes e h = rw (eq-eqb (length a) (length b) e) h
+  equal-bytes l h = h ∙ go (begins a b) refl
+    where
+      go : (y : Bool) → begins a b ≡ y → y ≡ eqb (length a) (length b) && y
+      go true e =
+          let z = ap length (begins-split a b e) ∙ length-append a (drop (length a) b) in
+          sym (rw (eq-eqb (length a) (length b) (omega arith)))
+      go false e = sym (and-false (eqb (length a) (length b)))
 
 pub ruleset equating = (equal-long, equal-bytes, needs)
 

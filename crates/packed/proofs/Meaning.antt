@@ -179,11 +179,11 @@ spelled-pack ps g l = lines-spelt 32 ps g l
 same-true : (a b : List ℕ) → same a b ≡ true → a ≡ b
 unfolding same
 same-true a b h =
-    let l : length a ≡ length b = eqb-true (length a) (length b) (and-left (eqb (length a) (length b)) (begins b a) h) in
-    let e = begins-split b a (and-right (eqb (length a) (length b)) (begins b a) h) in
-    let k : length a ≤ length b = omega arith in
-    let z : drop (length b) a ≡ [] = drop-of-length-le a k in
-    e ∙ ap (λ (y : List ℕ). b ++ y) z ∙ append-nil b
+    let l : length a ≡ length b = eqb-true (length a) (length b) (and-left (eqb (length a) (length b)) (begins a b) h) in
+    let e = begins-split a b (and-right (eqb (length a) (length b)) (begins a b) h) in
+    let k : length b ≤ length a = omega arith in
+    let z : drop (length a) b ≡ [] = drop-of-length-le b k in
+    sym (e ∙ ap (λ (y : List ℕ). a ++ y) z ∙ append-nil a)
 
 same-refl : (a : List ℕ) → same a a ≡ true
 unfolding same

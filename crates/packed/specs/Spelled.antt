@@ -90,7 +90,7 @@ isSound (TooLarge n) = false
 
 -- the same bytes
 unfoldable pub same : List ℕ → List ℕ → Bool
-same a b = eqb (length a) (length b) && begins b a
+same a b = eqb (length a) (length b) && begins a b
 
 -- s is a sound list, and d its packed form
 unfoldable pub packs : List ℕ → List ℕ → Bool

@@ -54,14 +54,14 @@ pub fn pack(text: &[u8], out: &mut [u8]) -> Answer
     }
 }
 
-// Whether two texts are the same bytes.
+// Whether two texts are the same bytes: one stands at the front of the other, which is no longer.
 fn equal(a: &[u8], b: &[u8]) -> bool
     ensures { λ r. ⌜ r ≡ same (now (a .entry)) (now (b .entry)) ⌝ }
 {
-    if a.len() != b.len() {
+    if a.len() < b.len() {
         return false;
     }
-    stands(a, 0, b)
+    stands(b, 0, a)
 }
 
 // Whether an input is the packed form of a text, which has to be a sound list.
