@@ -1,11 +1,11 @@
-//! What each number means and what to do about it: the answers 0 to 10, and the exit statuses from 64 on.
+//! What each number means and what to do about it: the answers 0 to 10 and 13, and the exit statuses from 64 on.
 
 /// The text on a number, as it is written on the command line.
 pub fn text(number: &[u8]) -> Option<&'static str> {
     TEXTS.iter().find(|(name, _)| name.as_bytes() == number).map(|&(_, text)| text)
 }
 
-const TEXTS: [(&str, &str); 15] = [
+const TEXTS: [(&str, &str); 16] = [
     ("0", ZERO),
     ("1", ONE),
     ("2", TWO),
@@ -17,6 +17,7 @@ const TEXTS: [(&str, &str); 15] = [
     ("8", EIGHT),
     ("9", NINE),
     ("10", TEN),
+    ("13", THIRTEEN),
     ("64", USAGE),
     ("66", NO_INPUT),
     ("73", CANT_CREATE),
@@ -98,6 +99,14 @@ Convert it so that its declaration says UTF-8 too: xmllint --encode UTF-8 does b
 iconv leaves the declaration as it is: then write UTF-8 there, or take the encoding out.
 Do only that where the bytes are UTF-8 already and the declaration alone is wrong, as
 they seem to be behind a byte order mark.
+";
+
+const THIRTEEN: &str = "\
+13: the input is not the packed form of a sound list; the second number is 0.
+There is one packed form of each list, and every byte of it is looked at: the version 1,
+each line's length, its mark, kinds, names and tests, and that nothing follows. A list
+that could not be written as text, as one over 8,192 bytes, has none. See that the file
+is a packed list and came over whole; choughbell pack makes it anew from the text.
 ";
 
 const USAGE: &str = "\

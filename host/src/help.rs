@@ -7,6 +7,8 @@ choughbell cuts XML by a list of paths, by a filter that is proved.
 
   choughbell cut -l LIST [DOCUMENT] [-o OUTPUT]   the cut of a document by a list
   choughbell check [DOCUMENT]                     whether a document would be taken
+  choughbell pack [LIST] [-o OUTPUT]              a list from text to its packed form
+  choughbell unpack [LIST] [-o OUTPUT]            and from the packed form back to text
   choughbell explain NUMBER                       what an answer or an exit status means
 
 A file that is not named, or named -, is the standard input or output.
@@ -16,6 +18,7 @@ A file that is not named, or named -, is the standard input or output.
                        then * or a name, again and again; behind the last of them perhaps
                        a test of an attribute, [@name=\"value\"]; one space and # at the end
                        keep the whole entry
+      --packed         LIST is in its packed form
   -o, --output OUTPUT  is replaced when the cut is there, and else stays as it was
       --count          print only: kept, the elements selected, the length of the cut; and
                        on a second line: name tests, how many were tried
@@ -26,8 +29,8 @@ A file that is not named, or named -, is the standard input or output.
       --version        the version
       --               what follows is no option
 
-Exit status: 0 written, or sound; 1 to 3 the list is refused, 4 to 8 and 10 the document;
-64 wrong usage; 66 no input; 73 no output; 74 reading or writing failed.
+Exit status: 0 written, or sound; 1 to 3 the list is refused, 13 a packed list, 4 to 8 and
+10 the document; 64 wrong usage; 66 no input; 73 no output; 74 reading or writing failed.
 
 For example, with `//commune/hamlet #` and `//place[@type=\"village\"]` as lines of atlas.lst:
 

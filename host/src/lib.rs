@@ -1,5 +1,5 @@
 //! The proved filter, for callers in Rust: functions on byte slices. `cut` writes into a lent buffer, as the library does; `cut_of` brings
-//! a buffer of its own; `check` judges a document alone.
+//! a buffer of its own; `check` judges a document alone. `pack` and `unpack` bring a list into its packed form and back.
 //!
 //! The static library comes from Rattle. Its contract asks nothing of the lists and documents that it is given, and says of every byte of
 //! the buffer what it is afterwards. What a caller of the library's own function owes is that the buffer overlaps neither the list nor the
@@ -15,8 +15,10 @@
 //! ```
 
 mod answer;
+mod packed;
 
 pub use answer::{Refusal, Written};
+pub use packed::{pack, pack_of, unpack, unpack_of, PACKED_LIMIT};
 
 /// A longer list is answer 1.
 pub const LIST_LIMIT: usize = 8_192;
@@ -37,12 +39,16 @@ pub struct FourNumbers {
     pub fourth: u64,
 }
 
-/// The numbers that are handed back of a document alone. The third is always 0.
+/// The numbers that are handed back of a document alone, and of a packed list. The third is always 0.
 #[repr(C)]
-struct Numbers {
-    number: u64,
-    second: u64,
-    _third: u64,
+#[derive(Clone, Copy, PartialEq, Eq, Debug)]
+pub struct Numbers {
+    /// 0 where it is sound or written, else why it is refused.
+    pub number: u64,
+    /// The length written, under 9 the length needed, else the line or the offset at fault, or 0.
+    pub second: u64,
+    /// Always 0.
+    pub third: u64,
 }
 
 #[link(name = "exported", kind = "static")]

@@ -12,6 +12,7 @@ mod json;
 mod names;
 mod outline;
 mod output;
+mod packing;
 mod places;
 mod report;
 mod shown;
@@ -33,7 +34,11 @@ fn main() -> ExitCode {
             return ExitCode::from(trouble::USAGE);
         }
     };
-    let quiet = matches!(&request, Request::Task(task) if task.quiet);
+    let quiet = match &request {
+        Request::Task(task) => task.quiet,
+        Request::Packing(packing) => packing.quiet,
+        _ => false,
+    };
     match answer(&request) {
         Ok(status) => ExitCode::from(status),
         Err(Trouble { status, message }) => {
@@ -49,6 +54,7 @@ fn main() -> ExitCode {
 fn answer(request: &Request) -> Result<u8, Trouble> {
     match request {
         Request::Task(task) => return task::run(task),
+        Request::Packing(packing) => return packing::run(packing),
         Request::Explain(text) => output::print(text)?,
         Request::Help => output::print(help::HELP)?,
         Request::Version => output::print(help::VERSION)?,
