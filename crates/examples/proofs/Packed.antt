@@ -3,7 +3,7 @@
 -- of no list.
 use mathlib.Core.Path.{_≡_, refl}
 use mathlib.Core.List.{List, [], _∷_, _++_, map}
-use mathlib.Core.Option.{Option, none, some}
+use mathlib.Core.Option.{none, some}
 use Prim.Native.Nat.{ℕ, zero, suc}
 use Rattle.xml.specs.Utf8.{utf8, isScalar}
 use Rattle.xml.specs.Notation.{bytes}
@@ -16,7 +16,6 @@ use Rattle.paths.specs.Judge.{within, soundAt, lines, judge, listAnswer, listPa
 use Rattle.packed.specs.Packed.{packStep, packRecord, packLine, packList, packOf}
 use Rattle.packed.specs.Spelled.{kindOf, spellStep, spellSteps, spellAttribute, spellLine, spellLines, spelled, same, packs, textOf}
 use Rattle.packed.specs.Answer.{packAnswer, unpackAnswer}
-use Rattle.packed.specs.declared.Answer.{Answer}
 use Rattle.packed.specs.declared.Answer.the-variants.{Written, TooLong, Malformed, TooLarge, NotPacked, Short}
 
 -- ---- how they are written
@@ -163,3 +162,22 @@ unfolding textOf packs same spelled spellLines spellLine spellAttribute spellSte
     packStep listPaths listAnswer judge lines soundAt within lineAt steps readAll endAt markAt attributeAt stepAt testAt kindAt printStep
     printLine nameOf run starts character guess valueOf utf8 isScalar isNameStart isNameMore isName isValue except isChar
 largest-computed = refl
+
+-- ---- answers: in a room one byte too short, and in one that suffices; 1 to 3 and 13 come before 9
+
+pub answers-computed :
+    packAnswer [] 0 ∷ packAnswer [] 1 ∷ packAnswer (bytes "/a\n") 8 ∷ packAnswer (bytes "/a\n") 9 ∷ packAnswer (bytes "/a\n/a") 0
+    ∷ packAnswer (times 33 (bytes "/a\n")) 0 ∷ packAnswer (times 8193 (bytes "/")) 0 ∷ []
+    ≡ Short 1 ∷ Written 1 ∷ Short 9 ∷ Written 9 ∷ Malformed 2 ∷ TooLarge 33 ∷ TooLong ∷ []
+unfolding packAnswer unpackAnswer textOf packs same spelled spellLines spellLine spellAttribute spellSteps spellStep kindOf packOf packList
+    packLine packRecord packStep listPaths listAnswer judge lines soundAt within lineAt steps readAll endAt markAt attributeAt stepAt testAt
+    kindAt printStep printLine nameOf run starts character guess valueOf utf8 isScalar isNameStart isNameMore isName isValue except isChar
+answers-computed = refl
+
+pub back-computed :
+    unpackAnswer (1 ∷ []) 0 ∷ unpackAnswer (1 ∷ lineA) 2 ∷ unpackAnswer (1 ∷ lineA) 3 ∷ unpackAnswer (2 ∷ lineA) 0 ∷ []
+    ≡ Written 0 ∷ Short 3 ∷ Written 3 ∷ NotPacked ∷ []
+unfolding packAnswer unpackAnswer textOf packs same spelled spellLines spellLine spellAttribute spellSteps spellStep kindOf packOf packList
+    packLine packRecord packStep listPaths listAnswer judge lines soundAt within lineAt steps readAll endAt markAt attributeAt stepAt testAt
+    kindAt printStep printLine nameOf run starts character guess valueOf utf8 isScalar isNameStart isNameMore isName isValue except isChar
+back-computed = refl

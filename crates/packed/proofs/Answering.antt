@@ -1,14 +1,14 @@
 -- The answers and what stands in the buffers afterwards. In order: two texts compared; the writer; whether an input is the packed form of a
 -- text; the reader; and the two round trips of whole calls.
 use mathlib.Core.Path.{_≡_, refl, sym, ap, _∙_}
-use mathlib.Core.Bool.{Bool, true, false, not, cond, _&&_, and-false}
-use mathlib.Core.List.{List, [], _∷_, _++_}
-use mathlib.Core.Option.{Option, none, some}
+use mathlib.Core.Bool.{Bool, true, false, not, _&&_, and-false}
+use mathlib.Core.List.{List, _++_}
+use mathlib.Core.Option.{none, some}
 use Prim.Native.Nat.{ℕ, _+_, _-_, _≤_, _<_}
 use native.Mathlib.Omega.{arith}
 use borrow.Author.Needs.{needs}
-use borrow.Author.Tests.{eq-eqb, ne-eqb, lt-ltb, le-ltb, ltb-false, not-true, not-false}
-use lib.Dec.{ltb, eqb}
+use borrow.Author.Tests.{eq-eqb, ne-eqb, lt-ltb, le-ltb, not-true, not-false}
+use lib.Dec.{eqb}
 use lib.ListN.{length, take, drop, length-append}
 use lib.Seq.{take-append-seam}
 use Rattle.xml.specs.Character.{begins}
@@ -20,7 +20,7 @@ use Rattle.writer.specs.Wrote.{Wrote}
 use Rattle.writer.proofs.Laying.{laid-whole}
 use Rattle.packed.specs.Packed.{packOf}
 use Rattle.packed.specs.Spelled.{spelled, isSound, same, packs, textOf}
-use Rattle.packed.specs.Answer.{byRoom, after, byList, packAnswer, packBytes, byText, laidText, unpackAnswer, unpackBytes}
+use Rattle.packed.specs.Answer.{byRoom, after, byList, packAnswer, packBytes, unpackAnswer, unpackBytes}
 use Rattle.packed.specs.declared.Answer.{Answer}
 use Rattle.packed.specs.declared.Answer.the-variants.{Written, TooLong, Malformed, TooLarge, NotPacked, Short}
 use Rattle.packed.proofs.Bound.{sound-short, pack-bound}

@@ -1,9 +1,9 @@
 -- How long a packed form can be: at most one byte more for each step than the text, four for each line, and the version. So the packed form
 -- of a sound list has at most 8,833 bytes, and the length of a line fits its two bytes.
-use mathlib.Core.Path.{_≡_, sym, ap, _∙_}
+use mathlib.Core.Path.{_≡_, ap}
 use mathlib.Core.List.{List, [], _∷_, _++_}
 use mathlib.Core.Option.{Option, none as nothing, some}
-use Prim.Native.Nat.{ℕ, _+_, _*_, _≤_, _<_}
+use Prim.Native.Nat.{ℕ, _+_, _*_, _≤_}
 use native.Mathlib.Omega.{arith}
 use lib.ListN.{length, length-append}
 use Rattle.paths.specs.Path.{Test, any, named, Step, AttributeTest, Path, printAll, printKind, printTest, printStep, printAttribute}
@@ -14,9 +14,9 @@ use Rattle.paths.specs.declared.Kind.{Kind}
 use Rattle.paths.specs.declared.ListAnswer.the-variants.{Sound}
 use Rattle.paths.proofs.Steps.{kind-slash}
 use Rattle.paths.proofs.Meaning.{says, paths-print}
-use Rattle.packed.specs.Packed.{packKind, packTest, packStep, packAttribute, packRecord, packLine, packList, packOf}
+use Rattle.packed.specs.Packed.{packTest, packStep, packAttribute, packRecord, packLine, packList, packOf}
 
-kind-some : (k : Kind) → 1 ≤ length (printKind k)
+pub kind-some : (k : Kind) → 1 ≤ length (printKind k)
 kind-some k = rw (ap length (kind-slash k)) (omega arith)
 
 test-bound : (t : Test) → length (packTest t) ≤ length (printTest t) + 1

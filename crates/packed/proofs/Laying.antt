@@ -1,20 +1,20 @@
 -- The laws of laying a sound list in the packed form. In order: a test; what stands before a line's steps; the steps, one by one; a line;
 -- all lines. The invariants say: what is laid so far is the packed form of what was read, and the rest is read from here on.
 use mathlib.Core.Path.{_≡_, refl, sym, ap, _∙_}
-use mathlib.Core.Bool.{Bool, true, false, cond, _&&_}
+use mathlib.Core.Bool.{Bool, true, _&&_}
 use mathlib.Core.List.{List, [], _∷_, _++_, append-assoc, append-nil}
 use mathlib.Core.Option.{Option, none, some, Option·none-ne-some, Option·some-injective}
-use Prim.Native.Nat.{ℕ, suc, _+_, _-_, _*_, _/_, _%_, _≤_, _<_}
+use Prim.Native.Nat.{ℕ, _+_, _-_, _*_, _/_, _%_, _≤_, _<_}
 use native.Mathlib.Omega.{arith}
 use borrow.Author.Needs.{needs}
 use borrow.Author.Tests.{leb-true, ne-eqb}
-use lib.Dec.{leb, eqb}
-use lib.ListN.{length, take, drop, length-append, length-take, length-drop, drop-of-length-le}
+use lib.Dec.{leb}
+use lib.ListN.{length, take, drop, length-append, length-drop, drop-of-length-le}
 use lib.Seq.{length-take-le}
 use Rattle.xml.proofs.Bools.{and-left, and-right}
 use Rattle.paths.specs.Path.{Test, any, named, Step, AttributeTest, Path, testSize, printAll, printKind, printTest, printStep}
-use Rattle.paths.specs.Path.{printMark, printLine, ProperAttribute, IfAny, Good}
-use Rattle.paths.specs.Reader.{Run, cons, stepAt, steps, Ending, endingOf, printEnd, endAt, pathOf}
+use Rattle.paths.specs.Path.{printMark, printLine}
+use Rattle.paths.specs.Reader.{Run, steps, Ending, endingOf, printEnd, endAt, pathOf}
 use Rattle.paths.specs.Judge.{smallNames, smallTest, within, lines, listAnswer, listPaths}
 use Rattle.paths.specs.Place.{stepPlaced, stepEndAt, endPlaced, lineEndAt}
 use Rattle.paths.specs.declared.Kind.{Kind}
@@ -23,7 +23,7 @@ use Rattle.paths.specs.declared.StepEnd.{StepEnd}
 use Rattle.paths.specs.declared.StepEnd.the-variants.{Step as StepTo, Fault as NoStep}
 use Rattle.paths.specs.declared.LineEnd.{LineEnd}
 use Rattle.paths.specs.declared.LineEnd.the-variants.{Ends as LineEnds, Fault as NoEnd}
-use Rattle.paths.proofs.Steps.{kind-slash, steps-none}
+use Rattle.paths.proofs.Steps.{steps-none}
 use Rattle.paths.proofs.Lines.{within-test, line-long, sound-nil, lines-none}
 use Rattle.paths.proofs.Here.{StepHere, step-none, step-here, TestHere, EndHere, end-none, end-here}
 use Rattle.paths.proofs.Here.{line-ends, LineHere, line-here, sound-lines}
@@ -33,7 +33,8 @@ use Rattle.packed.specs.Packed.{packKind, packTest, packStep, packAttrib
 use Rattle.packed.specs.Laid.{LaidSteps, packHead, testLength, packPlaced, SoundLine, LaidLine}
 use Rattle.packed.specs.declared.lay.Steps.{Steps}
 use Rattle.packed.specs.declared.lay.Line.{Line}
-use Rattle.packed.proofs.Bound.{line-bound, sound-short}
+use Rattle.packed.proofs.Bound.{kind-some, line-bound, sound-short}
+use Rattle.packed.proofs.Spelling.{take-short}
 
 -- ---- a test
 
@@ -118,12 +119,6 @@ step-packed {d} {k = k} {name} {len} h = go (h .step .test) refl (h .size)
 test-size : (t : Test) → testSize t ≤ length (printTest t)
 test-size any = omega arith
 test-size (named n) = omega arith
-
-kind-some : (k : Kind) → 1 ≤ length (printKind k)
-kind-some k = rw (ap length (kind-slash k)) (omega arith)
-
-pub take-short : (n : ℕ) (s : List ℕ) → length (take n s) ≤ n
-take-short n s = rw length-take (omega arith)
 
 module _ (d : List ℕ) (at : ℕ) {r : StepEnd} (q : r ≡ stepEndAt d at) {k : Kind} {name len next : ℕ} (f : r ≡ StepTo k name len next) where
   here : StepHere d at k name len next

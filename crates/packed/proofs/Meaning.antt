@@ -1,7 +1,7 @@
 -- The packed form and its text undo each other. In order: a packed step, test, line and list spelled as text give back what was packed; a
 -- text that packs to an input; `textOf` is `PackedForm`, both ways; the two round trips; one text and one packed form.
 use mathlib.Core.Path.{_≡_, refl, sym, ap, _∙_}
-use mathlib.Core.Bool.{Bool, true, false, cond, _&&_, false≢true}
+use mathlib.Core.Bool.{Bool, true, false, cond, false≢true}
 use mathlib.Core.List.{List, [], _∷_, _++_, append-assoc, append-nil}
 use mathlib.Core.Option.{Option, none as nothing, some, Option·none-ne-some, Option·some-injective}
 use Prim.Native.Nat.{ℕ, zero, suc, _+_, _/_, _%_, _≤_, _<_}
@@ -25,7 +25,7 @@ use Rattle.paths.proofs.Names.{name-long}
 use Rattle.paths.proofs.Meaning.{paths-print}
 use Rattle.packed.specs.Packed.{packKind, packTest, packStep, packAttribute, packMark, packRecord, packLine, packList, packOf}
 use Rattle.packed.specs.Packed.{PackedForm, NoPackedForm}
-use Rattle.packed.specs.Spelled.{Piece, kindOf, spellName, spellStep, spellSteps, spellAttribute, spellEnd, spellLine, spellLines}
+use Rattle.packed.specs.Spelled.{Piece, kindOf, spellStep, spellSteps, spellAttribute, spellEnd, spellLine, spellLines}
 use Rattle.packed.specs.Spelled.{spelled, isSound, same, packs, textOf}
 use Rattle.packed.proofs.Spelling.{lines-none, lines-more}
 

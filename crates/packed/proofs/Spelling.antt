@@ -1,14 +1,12 @@
 -- The laws of spelling a packed form as text. In order: a byte and a part of the input; a step, and so many steps; a test; a line; all
 -- lines. The invariants say: what is laid so far, and behind it what is spelled from here on, are what is spelled from the start.
 use mathlib.Core.Path.{_≡_, refl, sym, ap, _∙_}
-use mathlib.Core.Bool.{Bool, true, false, cond}
 use mathlib.Core.List.{List, [], _∷_, _++_, append-assoc, append-nil}
 use Prim.Native.Nat.{ℕ, zero, suc, _+_, _-_, _*_, _≤_, _<_}
 use native.Mathlib.Omega.{arith}
 use borrow.Author.Needs.{needs}
 use borrow.Author.Tests.{ne-eqb}
-use lib.Dec.{eqb}
-use lib.ListN.{length, take, drop, getD, length-append, length-take, length-drop, drop-of-length-le, List·getD-eq-default}
+use lib.ListN.{length, take, drop, getD, length-take, length-drop, drop-of-length-le, List·getD-eq-default}
 use lib.Seq.{take-nil, take-all, drop-drop, getD-drop}
 use Rattle.xml.specs.Notation.{bytes}
 use Rattle.paths.specs.Path.{printKind}
@@ -16,7 +14,7 @@ use Rattle.paths.specs.declared.Kind.{Kind}
 use Rattle.paths.specs.declared.Kind.the-variants.{Child, Descendant, SelfStep, DescendantOrSelf}
 use Rattle.writer.specs.Wrote.{Wrote}
 use Rattle.writer.proofs.Laying.{wrote-none, wrote-more, wrote-long}
-use Rattle.packed.specs.Spelled.{Piece, kindOf, spellName, spellStep, spellSteps, spellTested, spellAttribute, spellEnd, stepsIn}
+use Rattle.packed.specs.Spelled.{kindOf, spellName, spellStep, spellSteps, spellTested, spellAttribute, spellEnd}
 use Rattle.packed.specs.Spelled.{spellLine, spellLines, spelled}
 use Rattle.packed.specs.Laid.{ByteAt, Lays, Spells}
 use Rattle.packed.specs.declared.spell.Part.{Part}
@@ -39,7 +37,7 @@ byte-behind d at k n e b = getD-drop at d k 0 ∙ ap (λ (i : ℕ). getD d i 0) 
 drop-behind : (d : List ℕ) (at k : ℕ) {p : ℕ} → at + k ≡ p → drop k (drop at d) ≡ drop p d
 drop-behind d at k e = drop-drop k at d ∙ ap (λ (i : ℕ). drop i d) e
 
-take-short : (n : ℕ) (s : List ℕ) → length (take n s) ≤ n
+pub take-short : (n : ℕ) (s : List ℕ) → length (take n s) ≤ n
 take-short n s = rw length-take (omega arith)
 
 lays-part : {o o′ : List ℕ} {to r : ℕ} (n : ℕ) (s : List ℕ) → Wrote o to (take n s) r o′ → Lays n o to (take n s) r o′
@@ -212,9 +210,6 @@ module _ {d o o₁ : List ℕ} {from count to left at place : ℕ} (v : Stepping
         near = omega arith;
         low = omega arith;
       }
-
-  pub steps-near : (at ≤ from + 70380) × (place ≤ to + 70380)
-  steps-near = let m = v .most in let a = v .near in let g = v .low in (omega arith, omega arith)
 
 pub ruleset steps-spelled = (steps-start, steps-on, steps-done, needs)
 

@@ -3,7 +3,7 @@
 ghost use mathlib.Core.Path.{_≡_};
 ghost use mathlib.Core.Bool.{true};
 ghost use Prim.Native.Nat.{_+_, _≤_, _<_};
-ghost use lib.ListN.{length, drop, take};
+ghost use lib.ListN.{length, drop};
 ghost use Rattle.paths.specs.Path.{printAll};
 ghost use Rattle.paths.specs.Reader.{steps};
 ghost use Rattle.paths.specs.Judge.{smallNames, listAnswer, listPaths};

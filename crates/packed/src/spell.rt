@@ -2,7 +2,7 @@
 // buffer as text, and its bytes are passed: a step, a test, a line, at most 32 lines.
 ghost use mathlib.Core.Path.{_≡_};
 ghost use Prim.Native.Nat.{_+_, _≤_, _<_};
-ghost use lib.ListN.{length, drop, take, getD};
+ghost use lib.ListN.{length, drop, take};
 ghost use Rattle.paths.specs.Path.{printKind};
 ghost use Rattle.writer.specs.Wrote.{Wrote};
 ghost use Rattle.packed.specs.Spelled.{kindOf, spellName, spellStep, spellSteps, spellTested, spellAttribute};

@@ -1,6 +1,6 @@
 -- `unpack` meets its contract: one law for each answer.
 -- proofs/Answering.antt has them.
-use lib.ListN.{replicate, length-replicate}
+use lib.ListN.{length-replicate}
 use Prim.Native.Nat.{ℕ}
 use Rattle.packed.proofs.Answering.{unpack-long, unpack-none, unpack-short, unpack-written}
 use borrow.Author.Needs.{needs}

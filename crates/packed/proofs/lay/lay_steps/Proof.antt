@@ -4,7 +4,8 @@ use Prim.Native.Nat.{_+_, _-_}
 use lib.ListN.{length, drop}
 use Rattle.packed.proofs.Laying.{Stepped}
 use native.Mathlib.Omega.{arith}
-use Rattle.packed.proofs.Laying.{take-short, step-inside, step-small, stepping}
+use Rattle.packed.proofs.Spelling.{take-short}
+use Rattle.packed.proofs.Laying.{step-inside, step-small, stepping}
 use Rattle.packed.proofs.lay.lay_steps.Statement.{statement}
 use Rattle.packed.proofs.lay.lay_steps.Tie as tie
 
