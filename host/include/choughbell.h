@@ -1,4 +1,4 @@
-/* The proved filter, for callers in C: six functions of a static library, choughbell 0.3.0. Link with -lchoughbell, or with
+/* The proved filter, for callers in C: eight functions of a static library, choughbell 0.3.0. Link with -lchoughbell, or with
  * target/native/libexported.a as `make library` leaves it. They allocate nothing, keep nothing between calls and call nothing but memset
  * and memcpy, so threads may call them at once. A call takes less than 96 KiB of stack; one with a log that is lent less than 64.
  *
@@ -37,6 +37,7 @@ extern "C" {
  *   9  output shorter than the cut          length needed
  *   10 another encoding is declared         offset of the declaration: 0, or 3 behind EF BB BF
  *   11 not a batch                          offset of the version byte or length at fault (choughbell_batch alone)
+ *   13 not the packed form of a list        0
  *
  * They apply in the order 1; 2 and 3 by line; 4; 10; 5; 6 to 8 by item; 9. The third number and the fourth are 0 except under 0.
  *
@@ -94,6 +95,19 @@ struct choughbell_numbers choughbell_judge(const uint8_t *doc, size_t doc_len);
 /* How many bytes at the front are characters that XML allows, in UTF-8: `s_len`, or the offset of the first bad sequence. There is no limit
  * to the length. */
 size_t choughbell_characters(const uint8_t *s, size_t s_len);
+
+/* The packed form of a list, for loaders that exchange lists: the byte 1; then for each line two bytes, big-endian, the length of what
+ * follows; a mark byte, 0 or 1; the number of steps; for each step its kind (0 child, 1 descendant, 2 self, 3 descendant-or-self), a name
+ * length where 0 means `*`, and the name; last the length of the attribute's name, 0 for no test, and if not 0 the name, the value's length
+ * and the value. A sound list has one packed form, of at most 8,833 bytes, which is proved.
+ *
+ * choughbell_pack writes the packed form of a text list to the front of `out`, or refuses by 1 to 3, then 9. choughbell_unpack writes the
+ * text back, or refuses by 13, exactly when the input is the packed form of no sound list, then by 9: a text has at most 8,192 bytes. Text
+ * to packed to text gives the same bytes, and so does packed to text to packed. Under 0 the second number is the length written and the
+ * bytes after it stay as they were; under any other number the whole of `out` does. The third number is always 0. `out` overlaps nothing
+ * else. */
+struct choughbell_numbers choughbell_pack(const uint8_t *text, size_t text_len, uint8_t *out, size_t out_len);
+struct choughbell_numbers choughbell_unpack(const uint8_t *packed, size_t packed_len, uint8_t *out, size_t out_len);
 
 #ifdef __cplusplus
 }

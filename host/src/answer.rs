@@ -15,7 +15,7 @@ pub struct Written {
     pub name_tests: u64,
 }
 
-/// Answers 1 to 11. A line counts from 1, an offset from 0.
+/// Answers 1 to 11 and 13. A line counts from 1, an offset from 0.
 #[derive(Clone, Copy, PartialEq, Eq, Debug)]
 pub enum Refusal {
     /// 1: the list has over 8,192 bytes.
@@ -40,10 +40,12 @@ pub enum Refusal {
     OtherEncoding { offset: u64 },
     /// 11: bytes that are no batch. The version byte or a length, at an offset in the batch, is at fault. It is looked at after 3.
     BadBatch { offset: u64 },
+    /// 13: the input is the packed form of no sound list.
+    NotPacked,
 }
 
 impl FourNumbers {
-    /// The answer that the numbers stand for. Panics on a number over 11, which the library never gives.
+    /// The answer that the numbers stand for. Panics on a number that the library never gives.
     pub fn answer(self) -> Result<Written, Refusal> {
         let written = Written { length: self.second, selected: self.third, name_tests: self.fourth };
         Refusal::of(self.number, self.second).map_or(Ok(written), Err)
@@ -51,7 +53,7 @@ impl FourNumbers {
 }
 
 impl Refusal {
-    /// The refusal that a number and the second one stand for; under 0 there is none. Panics on a number over 11.
+    /// The refusal that a number and the second one stand for; under 0 there is none. Panics on another number.
     pub(crate) fn of(number: u64, second: u64) -> Option<Refusal> {
         Some(match number {
             0 => return None,
@@ -66,11 +68,12 @@ impl Refusal {
             9 => Refusal::Short { needed: second },
             10 => Refusal::OtherEncoding { offset: second },
             11 => Refusal::BadBatch { offset: second },
+            13 => Refusal::NotPacked,
             number => panic!("{number} is no answer of the library"),
         })
     }
 
-    /// The number, 1 to 11.
+    /// The number, 1 to 11 or 13.
     pub fn number(self) -> u64 {
         match self {
             Refusal::ListTooLong => 1,
@@ -84,6 +87,7 @@ impl Refusal {
             Refusal::Short { .. } => 9,
             Refusal::OtherEncoding { .. } => 10,
             Refusal::BadBatch { .. } => 11,
+            Refusal::NotPacked => 13,
         }
     }
 
@@ -101,6 +105,7 @@ impl Refusal {
             Refusal::Short { .. } => "output shorter than the cut",
             Refusal::OtherEncoding { .. } => "another encoding",
             Refusal::BadBatch { .. } => "not a batch",
+            Refusal::NotPacked => "not the packed form of a list",
         }
     }
 
@@ -152,8 +157,8 @@ mod tests {
 
     #[test]
     fn numbers_come_back_as_they_were() {
-        for number in 1..=11 {
-            let second = if number == 1 || number == 4 { 0 } else { 12 };
+        for number in (1..=11).chain([13]) {
+            let second = if [1, 4, 13].contains(&number) { 0 } else { 12 };
             let refusal = FourNumbers { number, second, third: 0, fourth: 0 }.answer().unwrap_err();
             assert_eq!((refusal.number(), refusal.second()), (number, second));
         }
@@ -167,5 +172,6 @@ mod tests {
         assert_eq!(Refusal::Short { needed: 21 }.to_string(), "9: output shorter than the cut, which has 21 bytes");
         assert_eq!(Refusal::OtherEncoding { offset: 3 }.to_string(), "10: another encoding, at offset 3");
         assert_eq!(Refusal::BadBatch { offset: 6 }.to_string(), "11: not a batch, at offset 6 of the batch");
+        assert_eq!(Refusal::NotPacked.to_string(), "13: not the packed form of a list");
     }
 }

@@ -1,11 +1,11 @@
-//! What each number means and what to do about it: the answers 0 to 11, and the exit statuses from 64 on.
+//! What each number means and what to do about it: the answers 0 to 11 and 13, and the exit statuses from 64 on.
 
 /// The text on a number, as it is written on the command line.
 pub fn text(number: &[u8]) -> Option<&'static str> {
     TEXTS.iter().find(|(name, _)| name.as_bytes() == number).map(|&(_, text)| text)
 }
 
-const TEXTS: [(&str, &str); 16] = [
+const TEXTS: [(&str, &str); 17] = [
     ("0", ZERO),
     ("1", ONE),
     ("2", TWO),
@@ -18,6 +18,7 @@ const TEXTS: [(&str, &str); 16] = [
     ("9", NINE),
     ("10", TEN),
     ("11", ELEVEN),
+    ("13", THIRTEEN),
     ("64", USAGE),
     ("66", NO_INPUT),
     ("73", CANT_CREATE),
@@ -106,6 +107,14 @@ const ELEVEN: &str = "\
 version byte, which must be 1, or the batch is empty or has over 67,108,864 bytes; else a
 length that is cut short or runs past the end. A length has four bytes, the highest first.
 Nothing was cut. See that the file is a batch and whole; with -d, batch takes documents.
+";
+
+const THIRTEEN: &str = "\
+13: the input is not the packed form of a sound list; the second number is 0.
+There is one packed form of each list, and every byte of it is looked at: the version 1,
+each line's length, its mark, kinds, names and tests, and that nothing follows. A list
+that could not be written as text, as one over 8,192 bytes, has none. See that the file
+is a packed list and came over whole; choughbell pack makes it anew from the text.
 ";
 
 const USAGE: &str = "\

@@ -9,6 +9,8 @@ choughbell cuts XML by a list of paths, by a filter that is proved.
   choughbell check [DOCUMENT]                     whether a document would be taken
   choughbell batch -l LIST -d FOLDER DOCUMENT..   the cuts of many documents, into a folder
   choughbell batch -l LIST [BATCH] [-o OUTPUT]    the same from a batch file to another
+  choughbell pack [LIST] [-o OUTPUT]              a list from text to its packed form
+  choughbell unpack [LIST] [-o OUTPUT]            and from the packed form back to text
   choughbell explain NUMBER                       what an answer or an exit status means
 
 A file that is not named, or named -, is the standard input or output.
@@ -18,6 +20,7 @@ A file that is not named, or named -, is the standard input or output.
                        then * or a name, again and again; behind the last of them perhaps
                        a test of an attribute, [@name=\"value\"]; one space and # at the end
                        keep the whole entry
+      --packed         LIST is in its packed form
   -o, --output OUTPUT  is replaced when the cut is there, and else stays as it was
   -d, --folder FOLDER  where the cuts of a batch go, under the names of the documents
       --count          print only: kept, the elements selected, the length of the cut; and
@@ -31,9 +34,9 @@ A file that is not named, or named -, is the standard input or output.
       --version        the version
       --               what follows is no option
 
-Exit status: 0 written, or sound; 1 to 3 the list is refused, 4 to 8 and 10 the document
-(of a batch, the first that is), 11 the batch;
-64 wrong usage; 66 no input; 73 no output; 74 reading or writing failed.
+Exit status: 0 written, or sound; 1 to 3 the list is refused, 13 a packed list, 4 to 8 and
+10 the document (of a batch, the first that is), 11 the batch; 64 wrong usage; 66 no input;
+73 no output; 74 reading or writing failed.
 
 For example, with `//commune/hamlet #` and `//place[@type=\"village\"]` as lines of atlas.lst:
 

@@ -1,6 +1,7 @@
 //! The proved filter, for callers in Rust: functions on byte slices. `cut` writes into a lent buffer, as the library does; `cut_of` brings
 //! a buffer of its own; `check` judges a document alone. `plain` and `plain_of` cut by the plain engine, a second one to be read,
-//! and give the same numbers and bytes; they count no name tests. `batch` and `batch_of` cut many documents in one call.
+//! and give the same numbers and bytes; they count no name tests. `batch` and `batch_of` cut many documents in one call. `pack` and
+//! `unpack` bring a list into its packed form and back.
 //!
 //! The static library comes from Rattle. Its contract asks nothing of the lists and documents that it is given, and says of every byte of
 //! the buffer what it is afterwards. What a caller of the library's own function owes is that the buffer overlaps neither the list nor the
@@ -17,9 +18,11 @@
 
 mod answer;
 mod bundle;
+mod packed;
 
 pub use answer::{Refusal, Written};
 pub use bundle::{bundle, entries};
+pub use packed::{pack, pack_of, unpack, unpack_of, PACKED_LIMIT};
 
 /// A longer list is answer 1.
 pub const LIST_LIMIT: usize = 8_192;
@@ -42,12 +45,12 @@ pub struct FourNumbers {
     pub fourth: u64,
 }
 
-/// The numbers that a call hands back which counts no name tests: a cut by the plain engine, a batch; and a document alone, whose third is
-/// always 0.
+/// The numbers that a call hands back which counts no name tests: a cut by the plain engine, a batch; and a document alone and a packed
+/// list, whose third is always 0.
 #[repr(C)]
 #[derive(Clone, Copy, PartialEq, Eq, Debug)]
 pub struct Numbers {
-    /// 0 where what is asked for is written, else why it is refused.
+    /// 0 where what is asked for is sound or written, else why it is refused.
     pub number: u64,
     /// Under 0 the length written, under 9 the length needed, else the line or the offset at fault, or 0.
     pub second: u64,

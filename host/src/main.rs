@@ -13,6 +13,7 @@ mod json;
 mod names;
 mod outline;
 mod output;
+mod packing;
 mod places;
 mod report;
 mod shown;
@@ -34,7 +35,12 @@ fn main() -> ExitCode {
             return ExitCode::from(trouble::USAGE);
         }
     };
-    let quiet = matches!(&request, Request::Task(task) if task.quiet) || matches!(&request, Request::Batch(post) if post.quiet);
+    let quiet = match &request {
+        Request::Task(task) => task.quiet,
+        Request::Batch(post) => post.quiet,
+        Request::Packing(packing) => packing.quiet,
+        _ => false,
+    };
     match answer(&request) {
         Ok(status) => ExitCode::from(status),
         Err(Trouble { status, message }) => {
@@ -51,6 +57,7 @@ fn answer(request: &Request) -> Result<u8, Trouble> {
     match request {
         Request::Task(task) => return task::run(task),
         Request::Batch(post) => return batch::run(post),
+        Request::Packing(packing) => return packing::run(packing),
         Request::Explain(text) => output::print(text)?,
         Request::Help => output::print(help::HELP)?,
         Request::Version => output::print(help::VERSION)?,

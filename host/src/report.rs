@@ -45,7 +45,7 @@ pub fn report(refusal: Refusal, list: &Read, document: &Read) -> Report {
     if let Some(offset) = refusal.offset() {
         return Report { refusal, file: document.name.clone(), place: in_document(refusal, offset, &document.bytes) };
     }
-    let file = if refusal == Refusal::ListTooLong { list } else { document };
+    let file = if matches!(refusal, Refusal::ListTooLong | Refusal::NotPacked) { list } else { document };
     Report { refusal, file: file.name.clone(), place: Place::Whole }
 }
 

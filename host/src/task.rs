@@ -1,6 +1,7 @@
 //! A run of `cut` or `check`: reads, asks the library, and writes the cut or says why there is none. Gives the exit status.
 use crate::input::Source;
 use crate::output::{self, Sink};
+use crate::packing;
 use crate::report::{self, Read};
 use crate::say;
 use crate::trouble::Trouble;
@@ -11,6 +12,8 @@ use choughbell::{Refusal, DOCUMENT_LIMIT, LIST_LIMIT};
 pub struct Task {
     /// The list of `cut`; `check` has none.
     pub list: Option<Source>,
+    /// The list is in its packed form.
+    pub packed: bool,
     pub document: Source,
     /// Where the cut goes; nowhere under `check` and `--count`.
     pub output: Option<Sink>,
@@ -22,6 +25,10 @@ pub struct Task {
 
 pub fn run(task: &Task) -> Result<u8, Trouble> {
     let list = match &task.list {
+        Some(list) if task.packed => match packing::text(list)? {
+            Ok(text) => text,
+            Err((packed, refusal)) => return refused(task, refusal, &packed, &packed),
+        },
         Some(list) => Read { name: list.name(), bytes: list.read(LIST_LIMIT)? },
         None => Read { name: String::new(), bytes: Vec::new() },
     };

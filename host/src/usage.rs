@@ -4,6 +4,7 @@ use crate::batch::{Post, Way};
 use crate::explain;
 use crate::input::Source;
 use crate::output::Sink;
+use crate::packing::Packing;
 use crate::shown;
 use crate::task::Task;
 use std::collections::HashSet;
@@ -15,6 +16,7 @@ use std::path::PathBuf;
 pub enum Request {
     Task(Task),
     Batch(Post),
+    Packing(Packing),
     /// The text on a number.
     Explain(&'static str),
     Help,
@@ -29,6 +31,7 @@ struct Given {
     folder: Option<OsString>,
     count: bool,
     plain: bool,
+    packed: bool,
     quiet: bool,
     json: bool,
     help: bool,
@@ -37,12 +40,12 @@ struct Given {
 
 /// What the words ask for. The first is the command.
 pub fn read(mut words: impl Iterator<Item = OsString>) -> Result<Request, String> {
-    let command = words.next().ok_or("there is no command: it is cut, check, batch or explain")?;
+    let command = words.next().ok_or("there is no command: it is cut, check, batch, pack, unpack or explain")?;
     match command.as_bytes() {
         b"help" | b"--help" | b"-h" => return Ok(Request::Help),
         b"--version" | b"version" | b"-V" => return Ok(Request::Version),
-        b"cut" | b"check" | b"batch" | b"explain" => {}
-        _ => return Err(format!("there is no command {}: it is cut, check, batch or explain", word(&command))),
+        b"cut" | b"check" | b"batch" | b"pack" | b"unpack" | b"explain" => {}
+        _ => return Err(format!("there is no command {}: it is cut, check, batch, pack, unpack or explain", word(&command))),
     }
     let given = given(words)?;
     if given.folder.is_some() && command != "batch" && !given.help {
@@ -54,6 +57,8 @@ pub fn read(mut words: impl Iterator<Item = OsString>) -> Result<Request, String
         b"cut" => cut(given),
         _ if given.plain => Err("--plain goes with cut alone".to_string()),
         b"check" => check(given),
+        b"pack" => packing("pack", given),
+        b"unpack" => packing("unpack", given),
         _ => explain(given),
     }
 }
@@ -85,10 +90,13 @@ impl Given {
             (b"--folder" | b"-d", _) => value("--folder", &mut self.folder, joined, words),
             (b"--count", None) => flag(&mut self.count),
             (b"--plain", None) => flag(&mut self.plain),
+            (b"--packed", None) => flag(&mut self.packed),
             (b"--quiet" | b"-q", None) => flag(&mut self.quiet),
             (b"--json", None) => flag(&mut self.json),
             (b"--help" | b"-h", None) => flag(&mut self.help),
-            (b"--count" | b"--plain" | b"--quiet" | b"--json" | b"--help", Some(_)) => Err(format!("{} takes no value", shown::all(name))),
+            (b"--count" | b"--plain" | b"--packed" | b"--quiet" | b"--json" | b"--help", Some(_)) => {
+                Err(format!("{} takes no value", shown::all(name)))
+            }
             _ => Err(format!("there is no option {}", word(option))),
         }
     }
@@ -139,15 +147,16 @@ fn cut(given: Given) -> Result<Request, String> {
         Some(output) => Some(Sink::named(output)),
         None => Some(Sink::Standard),
     };
-    Ok(Request::Task(Task { list: Some(list), document, output, plain: given.plain, quiet: given.quiet, json: given.json }))
+    let Given { packed, plain, quiet, json, .. } = given;
+    Ok(Request::Task(Task { list: Some(list), packed, document, output, plain, quiet, json }))
 }
 
 fn check(given: Given) -> Result<Request, String> {
     let document = document("check", &given)?;
-    if given.list.is_some() || given.output.is_some() || given.count {
-        return Err("check takes no --list, --output or --count".to_string());
+    if given.list.is_some() || given.output.is_some() || given.count || given.packed {
+        return Err("check takes no --list, --packed, --output or --count".to_string());
     }
-    Ok(Request::Task(Task { list: None, document, output: None, plain: false, quiet: given.quiet, json: given.json }))
+    Ok(Request::Task(Task { list: None, packed: false, document, output: None, plain: false, quiet: given.quiet, json: given.json }))
 }
 
 fn batch(given: Given) -> Result<Request, String> {
@@ -199,14 +208,31 @@ fn document(command: &str, given: &Given) -> Result<Source, String> {
     }
 }
 
+/// `pack` and `unpack` take a list as their only name, and give its other form.
+fn packing(command: &str, given: Given) -> Result<Request, String> {
+    if given.list.is_some() || given.count || given.packed {
+        return Err(format!("{command} takes no --list, --packed or --count: the list is its only name"));
+    }
+    if given.quiet && given.json {
+        return Err("--quiet and --json don't go together".to_string());
+    }
+    let list = match given.names.as_slice() {
+        [] => Source::Standard,
+        [name] => Source::named(name),
+        [_, second, ..] => return Err(format!("{command} takes one list, and {} is a second", word(second))),
+    };
+    let output = given.output.as_deref().map_or(Sink::Standard, Sink::named);
+    Ok(Request::Packing(Packing { back: command == "unpack", list, output, quiet: given.quiet, json: given.json }))
+}
+
 fn explain(given: Given) -> Result<Request, String> {
-    if given.list.is_some() || given.output.is_some() || given.count || given.quiet || given.json {
+    if given.list.is_some() || given.output.is_some() || given.count || given.packed || given.quiet || given.json {
         return Err("explain takes no options".to_string());
     }
     match given.names.as_slice() {
         [number] => match explain::text(number.as_bytes()) {
             Some(text) => Ok(Request::Explain(text)),
-            None => Err(format!("{} is no number that is explained: 0 to 11, 64, 66, 73 or 74", word(number))),
+            None => Err(format!("{} is no number that is explained: 0 to 11, 13, 64, 66, 73 or 74", word(number))),
         },
         _ => Err("explain wants one number".to_string()),
     }

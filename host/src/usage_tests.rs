@@ -38,10 +38,24 @@ fn standard_input_and_output_have_names() {
 }
 
 #[test]
+fn a_list_is_packed_and_back() {
+    let packing = |words: &[&str]| match asked(words) {
+        Ok(Request::Packing(packing)) => packing,
+        other => panic!("{other:?}"),
+    };
+    let expected = Packing { back: false, list: file("a"), output: Sink::Standard, quiet: false, json: false };
+    assert_eq!(packing(&["pack", "a"]), expected);
+    let expected = Packing { back: true, list: Source::Standard, output: Sink::File(PathBuf::from("o")), quiet: true, json: false };
+    assert_eq!(packing(&["unpack", "-q", "-oo", "-"]), expected);
+    assert!(matches!(asked(&["cut", "--packed", "-la"]), Ok(Request::Task(Task { packed: true, .. }))));
+    assert!(matches!(asked(&["cut", "-la"]), Ok(Request::Task(Task { packed: false, .. }))));
+}
+
+#[test]
 fn names_are_bytes() {
     let words = [&b"check"[..], b"\xFF.xml"].map(|word| OsString::from_vec(word.to_vec()));
     let document = Source::File(PathBuf::from(OsString::from_vec(b"\xFF.xml".to_vec())));
-    let task = Task { list: None, document, output: None, plain: false, quiet: false, json: false };
+    let task = Task { list: None, packed: false, document, output: None, plain: false, quiet: false, json: false };
     assert_eq!(read(words.into_iter()), Ok(Request::Task(task)));
 }
 
@@ -56,13 +70,16 @@ fn the_plain_engine_is_asked_for() {
 #[test]
 fn wrong_words_are_told() {
     let wrong = |words: &[&str]| asked(words).unwrap_err();
-    assert_eq!(wrong(&[]), "there is no command: it is cut, check, batch or explain");
+    assert_eq!(wrong(&[]), "there is no command: it is cut, check, batch, pack, unpack or explain");
     assert_eq!(wrong(&["cut", "m"]), "cut wants a list: -l LIST; by /dev/null the root alone is kept");
     assert_eq!(wrong(&["cut", "-l"]), "--list wants a file's name");
     assert_eq!(wrong(&["cut", "-la", "-lb"]), "--list is given twice");
     assert_eq!(wrong(&["cut", "--count=1"]), "--count takes no value");
     assert_eq!(wrong(&["cut", "-qx"]), "there is no option -qx");
     assert_eq!(wrong(&["check", "a\n", "b"]), "check takes one document, and b is a second");
+    assert_eq!(wrong(&["check", "--packed"]), "check takes no --list, --packed, --output or --count");
+    assert_eq!(wrong(&["pack", "-la"]), "pack takes no --list, --packed or --count: the list is its only name");
+    assert_eq!(wrong(&["unpack", "a", "b"]), "unpack takes one list, and b is a second");
     assert_eq!(wrong(&["explain"]), "explain wants one number");
 }
 

@@ -7,7 +7,7 @@ wrong() {
     shift 2
     try "wrong usage: $name" 64 "$@"
 }
-commands='it is cut, check, batch or explain'
+commands='it is cut, check, batch, pack, unpack or explain'
 wrong 'nothing' "there is no command: $commands"
 wrong 'another command' "there is no command trim: $commands" trim b.xml
 wrong 'an option first' "there is no command --quiet: $commands" --quiet check b.xml
@@ -27,12 +27,14 @@ wrong 'two times standard input' "the list and the document can't both come from
 wrong 'two times standard input, by name' "the list and the document can't both come from the standard input" cut -l - /dev/stdin
 wrong 'count and output' '--count writes no cut, so it takes no --output' cut -l v.lst --count -o x b.xml
 wrong 'quiet and json' "--quiet and --json don't go together" check -q --json b.xml
-wrong 'check with a list' 'check takes no --list, --output or --count' check -l v.lst b.xml
-wrong 'check and count' 'check takes no --list, --output or --count' check --count b.xml
+wrong 'check with a list' 'check takes no --list, --packed, --output or --count' check -l v.lst b.xml
+wrong 'check and count' 'check takes no --list, --packed, --output or --count' check --count b.xml
+wrong 'pack with a list' 'pack takes no --list, --packed or --count: the list is its only name' pack -l v.lst
+wrong 'two lists to unpack' 'unpack takes one list, and w.bin is a second' unpack v.bin w.bin
 wrong 'explain nothing' 'explain wants one number' explain
 wrong 'explain two' 'explain wants one number' explain 1 2
-wrong 'explain 15' '15 is no number that is explained: 0 to 11, 64, 66, 73 or 74' explain 15
-wrong 'explain a word' 'two is no number that is explained: 0 to 11, 64, 66, 73 or 74' explain two
+wrong 'explain 15' '15 is no number that is explained: 0 to 11, 13, 64, 66, 73 or 74' explain 15
+wrong 'explain a word' 'two is no number that is explained: 0 to 11, 13, 64, 66, 73 or 74' explain two
 wrong 'explain with options' 'explain takes no options' explain --json 1
 [ ! -e x ] || fault 'wrong usage' 'a file is made'
 
@@ -63,6 +65,7 @@ explains 8 'the document is over a size;' 3
 explains 9 'the output is shorter than the cut;' 4
 explains 10 'the declaration of the document names another encoding than UTF-8;' 6
 explains 11 'the bytes are no batch;' 4
+explains 13 'the input is not the packed form of a sound list;' 5
 explains 64 'wrong usage.' 2
 explains 66 "the list or the document can't be opened, or is a directory." 2
 explains 73 "the output can't be created." 3

@@ -4,3 +4,4 @@ pub mod Numbering
 pub mod Plainly
 pub mod OneAnswer
 pub mod Batching
+pub mod PackingNumbers

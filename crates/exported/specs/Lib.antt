@@ -1,5 +1,6 @@
 -- Definitions:
--- the numbers that callers in Rust and C get, and those of the plain engine.
+-- the numbers that callers in Rust and C get, and those of the plain engine, of a batch and of a packed list.
 pub mod Numbers
 pub mod Plain
 pub mod Batch
+pub mod Packing

@@ -16,6 +16,7 @@ use document::judge::Judged;
 use document::judge::judge;
 
 pub mod engine; // the plain engine
+pub mod packing; // the packed list
 
 // The number, the second and the third.
 #[repr(C)]
