@@ -23,6 +23,7 @@ mod narrow;
 #[allow(dead_code)]
 #[path = "../speed/numbers.rs"]
 mod numbers;
+mod packed;
 mod same;
 
 use vectors::asked::Four;
@@ -31,7 +32,7 @@ use vectors::suite::verdicts;
 
 /// The other calls: the name, a run on all its cases, and one on so many of its generator from a seed.
 type Trial = (&'static str, fn(), fn(usize, u64));
-const CALLS: &[Trial] = &[("batch", batch::packs, batch::fuzz)];
+const CALLS: &[Trial] = &[("batch", batch::packs, batch::fuzz), ("packed", packed::packs, packed::fuzz)];
 
 fn main() {
     let args: Vec<String> = std::env::args().skip(1).collect();
