@@ -3,10 +3,11 @@
 //! characters in `chars`, the productions in `declaration`, `markup`, `reference` and `tag` over `reader`, the items in
 //! `items`, their faults in `faults`, the tree in `tree` and `document`, the choice of places in `select`, the name tests in
 //! `tried`, what an attribute's value means in `value`, the bytes in `write`, what the program prints in `program`.
-//! The other calls of document 02 are in files of their own: Q-2 in `batch`, Q-7 in `packed`.
+//! The other calls of document 02 are in files of their own: Q-2 in `batch`, Q-7 in `packed`, Q-12 in `covers`.
 
 mod batch;
 mod chars;
+mod covers;
 mod declaration;
 mod document;
 mod faults;
@@ -29,6 +30,7 @@ mod value;
 mod write;
 
 pub use batch::batch;
+pub use covers::covers;
 pub use packed::{pack, unpack};
 
 /// Document 01's answer: the number, the second number and the third; and as the fourth, how many name tests were tried, which

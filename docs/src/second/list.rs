@@ -7,6 +7,7 @@ use crate::limits::{LINE_STEPS, LIST_BYTES, LIST_LINES, NAME_BYTES, VALUE_BYTES}
 use crate::reader::Reader;
 use crate::{refusal, Numbers};
 
+#[derive(PartialEq, Eq)]
 pub enum Axis {
     Child,
     Descendant,
@@ -14,17 +15,20 @@ pub enum Axis {
     DescendantOrSelf,
 }
 
+#[derive(PartialEq, Eq)]
 pub enum Test<'a> {
     Any,
     Name(&'a str),
 }
 
+#[derive(PartialEq, Eq)]
 pub struct Step<'a> {
     pub axis: Axis,
     pub test: Test<'a>,
 }
 
 /// `[@name="value"]`
+#[derive(PartialEq, Eq)]
 pub struct AttributeTest<'a> {
     pub name: &'a str,
     pub value: &'a str,

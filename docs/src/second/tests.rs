@@ -7,6 +7,7 @@ mod attributes;
 mod axes;
 mod batch;
 mod characters;
+mod covers;
 mod declaration;
 mod encoding;
 mod examples;

@@ -4,6 +4,7 @@
 
 use crate::asked::{fresh, Four, Program};
 use crate::batch::BATCH;
+use crate::covers::COVERS;
 use crate::crc::crc32;
 use crate::made::{Case, Random};
 use crate::packed::{PACK, UNPACK};
@@ -23,9 +24,10 @@ pub struct Call {
 }
 
 /// Every call that has cases.
-pub const CALLS: &[&Call] = &[&BATCH, &PACK, &UNPACK];
+pub const CALLS: &[&Call] = &[&BATCH, &PACK, &UNPACK, &COVERS];
 
 /// A case, and by hand: its numbers, and the bytes written under 0.
+#[derive(Clone)]
 pub struct Told {
     pub case: Case,
     pub numbers: Four,

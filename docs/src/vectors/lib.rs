@@ -5,6 +5,7 @@
 pub mod asked;
 pub mod batch;
 pub mod calls;
+pub mod covers;
 pub mod crc;
 pub mod made;
 pub mod pack;
