@@ -4,12 +4,14 @@ use mathlib.Core.Path.{_≡_, refl, sym, ap, _∙_}
 use mathlib.Core.Bool.{Bool, true, false, true≢false}
 use mathlib.Core.List.{List}
 use Prim.Native.Nat.{ℕ}
+use native.Mathlib.Omega.{arith}
 use Rattle.paths.specs.Judge.{listAnswer, listPaths}
 use Rattle.paths.specs.declared.ListAnswer.{ListAnswer}
 use Rattle.paths.specs.declared.ListAnswer.the-variants as lists
 use Rattle.covers.specs.Cover.{Covered}
 use Rattle.covers.specs.Test.{covered}
-use Rattle.covers.specs.Answer.{Refused, long, malformed, large, Says, narrow-refused, wide-refused, yes, no, saidOf, refusalOr, coverAnswer}
+use Rattle.covers.specs.Answer.{Refused, long, malformed, large, Says, narrow-refused, wide-refused, yes, no}
+use Rattle.covers.specs.Answer.{saidOf, refusalOr, coverAnswer, numberOf}
 use Rattle.covers.specs.declared.Which.{Which}
 use Rattle.covers.specs.declared.Which.the-variants.{Narrow, Wide}
 use Rattle.covers.specs.declared.CoverAnswer.{CoverAnswer}
@@ -56,3 +58,19 @@ module _ (narrow wide : List ℕ) where
   says-only a (wide-refused p r) = rw p (refused-only Wide _ r)
   says-only answers.Covered (yes p q c) = rw (p, q, covered-iff (listPaths narrow) (listPaths wide) .0 c) refl
   says-only answers.Uncovered (no p q c) = rw (p, q, not-covered (covered (listPaths narrow) (listPaths wide)) refl c) refl
+
+  -- where the answer is yes, both lists are sound, and every narrow path is covered
+  pub said-yes : coverAnswer narrow wide ≡ answers.Covered
+      → (listAnswer narrow ≡ lists.Sound) × (listAnswer wide ≡ lists.Sound) × Covered (listPaths narrow) (listPaths wide)
+  said-yes e = go (rw e at says)
+    where
+      no-refusal : {w : Which} {l : ListAnswer} {a : CoverAnswer} → Refused w l a → numberOf a ≡ 0 → ⊥
+      no-refusal long e = omega arith
+      no-refusal (malformed n) e = omega arith
+      no-refusal (large n) e = omega arith
+
+      go : Says narrow wide answers.Covered
+          → (listAnswer narrow ≡ lists.Sound) × (listAnswer wide ≡ lists.Sound) × Covered (listPaths narrow) (listPaths wide)
+      go (narrow-refused r) = absurd (no-refusal r refl)
+      go (wide-refused p r) = absurd (no-refusal r refl)
+      go (yes p q c) = (p, q, c)

@@ -151,8 +151,9 @@ computed = map (λ r. coverAnswer (r .narrow) (r .wide))
 abbrev expected : List Row → List CoverAnswer
 expected = map (λ r. r .answer)
 
-pub lists-are-answered : (computed ofDocument02 ≡ expected ofDocument02) × (computed otherWay ≡ expected otherWay) × (computed names ≡ expected names)
-    × (computed order ≡ expected order) × (computed ends ≡ expected ends) × (computed tests ≡ expected tests)
+pub lists-are-answered : (computed ofDocument02 ≡ expected ofDocument02) × (computed otherWay ≡ expected otherWay)
+    × (computed names ≡ expected names) × (computed order ≡ expected order) × (computed ends ≡ expected ends)
+    × (computed tests ≡ expected tests)
     × (computed others ≡ expected others) × (computed marks ≡ expected marks) × (computed refusals ≡ expected refusals)
 unfolding coverAnswer covered standsFor covers listPaths listAnswer lines judge soundAt within lineAt endAt markAt attributeAt steps stepAt
     testAt kindAt readAll printStep printLine isValue nameOf run character starts utf8 valueOf guess isScalar isChar isNameStart isNameMore
