@@ -1,6 +1,6 @@
 -- The answer computed is the one that is said, `says`, and no other is, `says-only`.
 -- Each goes by the answers on the two lists.
-use mathlib.Core.Path.{_≡_, refl, sym, ap, _∙_}
+use mathlib.Core.Path.{_≡_, refl, sym, _∙_}
 use mathlib.Core.Bool.{Bool, true, false, true≢false}
 use mathlib.Core.List.{List}
 use Prim.Native.Nat.{ℕ}

@@ -1,7 +1,7 @@
 -- What a path that covers another picks, `covers-picks`: whatever the other picks. And every path stands for itself, `stands-self`. In
 -- order: plain steps; one name; all names; attribute tests; a path itself.
 use mathlib.Core.Path.{_≡_, refl, sym, ap, _∙_, subst}
-use mathlib.Core.Bool.{Bool, true, false, not, false≢true, true≢false, _&&_, _||_}
+use mathlib.Core.Bool.{Bool, true, false, not, false≢true, _&&_, _||_}
 use mathlib.Core.List.{List, [], _∷_}
 use mathlib.Core.Logic.{_⊎_, inl, inr}
 use mathlib.Core.Option.{Option, none, some}

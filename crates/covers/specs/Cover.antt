@@ -2,7 +2,7 @@
 -- to a's steps as the steps of a path are laid on names: step i of a is place i. In order: where one step may go; a sending; attribute
 -- tests; covering; lists.
 use mathlib.Core.Path.{_≡_}
-use mathlib.Core.Bool.{Bool, true, false, not, _&&_}
+use mathlib.Core.Bool.{Bool, true, false, _&&_}
 use mathlib.Core.List.{List, [], _∷_}
 use mathlib.Core.Option.{Option, none, some}
 use lib.ListN.{length}

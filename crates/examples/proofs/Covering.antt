@@ -12,11 +12,11 @@ use Rattle.chars.specs.Name.{nameOf}
 use Rattle.paths.specs.Path.{printStep, printLine, isValue}
 use Rattle.paths.specs.Reader.{readAll, kindAt, testAt, stepAt, steps, attributeAt, markAt, endAt, lineAt}
 use Rattle.paths.specs.Judge.{within, soundAt, lines, judge, listAnswer, listPaths}
 use Rattle.covers.specs.Test.{covers, standsFor, covered}
 use Rattle.covers.specs.Answer.{coverAnswer}
 use Rattle.covers.specs.declared.Which.the-variants.{Narrow, Wide}
 use Rattle.covers.specs.declared.CoverAnswer.{CoverAnswer}
-use Rattle.covers.specs.declared.CoverAnswer.the-variants.{Covered, Uncovered, TooLong, Malformed, TooLarge}
+use Rattle.covers.specs.declared.CoverAnswer.the-variants.{Covered, Uncovered, Malformed, TooLarge}
 
 pub record Row : Type 0 where
   pub narrow : List ℕ
