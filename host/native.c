@@ -12,6 +12,7 @@ void *rattle_choughbell_cut(cut_numbers *result, const uint8_t *list, size_t lis
 void *rattle_choughbell_cut_with(cut_numbers *result, const uint8_t *list, size_t list_len, const uint8_t *doc, size_t doc_len,
                                  uint8_t *out, size_t out_len, uint64_t *log, size_t log_len);
 void *rattle_choughbell_judge(judge_numbers *result, const uint8_t *doc, size_t doc_len);
+void *rattle_choughbell_covers(judge_numbers *result, const uint8_t *narrow, size_t narrow_len, const uint8_t *wide, size_t wide_len);
 size_t rattle_choughbell_characters(const uint8_t *s, size_t s_len);
 
 cut_numbers choughbell_cut(const uint8_t *list, size_t list_len, const uint8_t *doc, size_t doc_len, uint8_t *out, size_t out_len)
@@ -33,6 +34,13 @@ judge_numbers choughbell_judge(const uint8_t *doc, size_t doc_len)
 {
     judge_numbers result;
     rattle_choughbell_judge(&result, doc, doc_len);
+    return result;
+}
+
+judge_numbers choughbell_covers(const uint8_t *narrow, size_t narrow_len, const uint8_t *wide, size_t wide_len)
+{
+    judge_numbers result;
+    rattle_choughbell_covers(&result, narrow, narrow_len, wide, wide_len);
     return result;
 }
 

@@ -1,11 +1,11 @@
-//! What each number means and what to do about it: the answers 0 to 10, and the exit statuses from 64 on.
+//! What each number means and what to do about it: the answers 0 to 10, and the exit statuses from 20 on.
 
 /// The text on a number, as it is written on the command line.
 pub fn text(number: &[u8]) -> Option<&'static str> {
     TEXTS.iter().find(|(name, _)| name.as_bytes() == number).map(|&(_, text)| text)
 }
 
-const TEXTS: [(&str, &str); 15] = [
+const TEXTS: [(&str, &str); 16] = [
     ("0", ZERO),
     ("1", ONE),
     ("2", TWO),
@@ -17,6 +17,7 @@ const TEXTS: [(&str, &str); 15] = [
     ("8", EIGHT),
     ("9", NINE),
     ("10", TEN),
+    ("20", UNCOVERED),
     ("64", USAGE),
     ("66", NO_INPUT),
     ("73", CANT_CREATE),
@@ -98,6 +99,12 @@ Convert it so that its declaration says UTF-8 too: xmllint --encode UTF-8 does b
 iconv leaves the declaration as it is: then write UTF-8 there, or take the encoding out.
 Do only that where the bytes are UTF-8 already and the declaration alone is wrong, as
 they seem to be behind a byte order mark.
+";
+
+const UNCOVERED: &str = "\
+20: under `covers`: both lists are sound, and a path of the narrow list is covered by
+none of the wide list, or only by one without the mark that it has. The lines are named.
+Cut by the narrow list from the master, or add what covers these lines to the wide list.
 ";
 
 const USAGE: &str = "\

@@ -37,18 +37,19 @@ pub struct FourNumbers {
     pub fourth: u64,
 }
 
-/// The numbers that are handed back of a document alone. The third is always 0.
+/// The numbers that are handed back of a document alone, where the third is always 0, and of two lists.
 #[repr(C)]
 struct Numbers {
     number: u64,
     second: u64,
-    _third: u64,
+    third: u64,
 }
 
 #[link(name = "exported", kind = "static")]
 extern "C" {
     // Nothing checks these against the Rattle source, crates/exported/src/lib.rt: a slice is its pointer and then its length.
     fn choughbell_judge(doc: *const u8, doc_len: usize) -> Numbers;
+    fn choughbell_covers(narrow: *const u8, narrow_len: usize, wide: *const u8, wide_len: usize) -> Numbers;
     fn choughbell_cut(list: *const u8, list_len: usize, doc: *const u8, doc_len: usize, out: *mut u8, out_len: usize) -> FourNumbers;
     fn choughbell_cut_with(
         list: *const u8,
@@ -131,9 +132,69 @@ pub fn check(doc: &[u8]) -> Result<(), Refusal> {
     Refusal::of(numbers.number, numbers.second).map_or(Ok(()), Err)
 }
 
+/// Which of two lists is refused.
+#[derive(Clone, Copy, PartialEq, Eq, Debug)]
+pub enum Which {
+    Narrow,
+    Wide,
+}
+
+impl Which {
+    /// The third number of a refusal: 1 or 2.
+    pub fn number(self) -> u64 {
+        match self {
+            Which::Narrow => 1,
+            Which::Wide => 2,
+        }
+    }
+}
+
+/// Whether every path of a narrow list is covered by a path of a wide list, marked if it is; or which list is refused, the narrow one
+/// first, by 1 to 3. Where it is so, cutting the wide list's cut of a document by the narrow list gives what cutting the document gives:
+/// `demand-3-checked` in crates/demands/proofs/Demands.antt.
+///
+/// ```
+/// assert_eq!(choughbell::covers(b"/g/p/v\n", b"//v\n"), Ok(true));
+/// assert_eq!(choughbell::covers(b"//v\n", b"/g/p/v\n"), Ok(false));
+/// ```
+pub fn covers(narrow: &[u8], wide: &[u8]) -> Result<bool, (Which, Refusal)> {
+    let numbers = unsafe { choughbell_covers(narrow.as_ptr(), narrow.len(), wide.as_ptr(), wide.len()) };
+    let which = if numbers.third == 1 { Which::Narrow } else { Which::Wide };
+    Refusal::of(numbers.number, numbers.second).map_or(Ok(numbers.second == 1), |refusal| Err((which, refusal)))
+}
+
 #[cfg(test)]
 mod tests {
     use super::*;
+
+    #[test]
+    fn covering_takes_the_narrow_list_first() {
+        let long = vec![b'/'; LIST_LIMIT + 1];
+        assert_eq!(covers(&long, &long), Err((Which::Narrow, Refusal::ListTooLong)));
+        assert_eq!(covers(b"", &long), Err((Which::Wide, Refusal::ListTooLong)));
+        assert_eq!(covers(b"/v\nv\n", &long), Err((Which::Narrow, Refusal::ListMalformed { line: 2 })));
+        assert_eq!(covers(b"", &b"/v\n".repeat(33)), Err((Which::Wide, Refusal::ListTooLarge { line: 33 })));
+        assert_eq!((Which::Narrow.number(), Which::Wide.number()), (1, 2));
+        assert_eq!(covers(b"", b""), Ok(true));
+    }
+
+    #[test]
+    fn covering_goes_by_steps_tests_and_marks() {
+        for (narrow, wide, is) in [
+            ("/g/p/v\n", "/g//v\n", true),
+            ("/g/p/v\n", "//p/v\n", true),
+            ("/g/p/v\n", "/g/v\n", false),
+            ("/a/*//b\n", "/a//*/b\n", false),
+            ("/a//*/b\n", "/a/*//b\n", false),
+            ("/v[@k=\"x\"]\n", "//v\n", true),
+            ("/v[@k=\"x\"]\n", "//v[@k=\"y\"]\n", false),
+            ("/g/self::g\n", "/g/self::g #\n", true),
+            ("/g/self::g #\n", "/g/self::g\n", false),
+            ("/g\n", "/g/self::g\n", false),
+        ] {
+            assert_eq!(covers(narrow.as_bytes(), wide.as_bytes()), Ok(is), "{narrow}{wide}");
+        }
+    }
 
     #[test]
     fn short_buffer_is_refused_and_left_alone() {

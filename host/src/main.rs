@@ -4,6 +4,7 @@
 mod advice;
 mod attribute;
 mod caret;
+mod covers;
 mod explain;
 mod help;
 mod hints;
@@ -33,7 +34,11 @@ fn main() -> ExitCode {
             return ExitCode::from(trouble::USAGE);
         }
     };
-    let quiet = matches!(&request, Request::Task(task) if task.quiet);
+    let quiet = match &request {
+        Request::Task(task) => task.quiet,
+        Request::Covers(asked) => asked.quiet,
+        _ => false,
+    };
     match answer(&request) {
         Ok(status) => ExitCode::from(status),
         Err(Trouble { status, message }) => {
@@ -49,6 +54,7 @@ fn main() -> ExitCode {
 fn answer(request: &Request) -> Result<u8, Trouble> {
     match request {
         Request::Task(task) => return task::run(task),
+        Request::Covers(asked) => return covers::run(asked),
         Request::Explain(text) => output::print(text)?,
         Request::Help => output::print(help::HELP)?,
         Request::Version => output::print(help::VERSION)?,

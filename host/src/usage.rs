@@ -1,5 +1,6 @@
 //! The words of the command line: which command it is and what it is to do; or, where they are wrong, a line that says why. File names are
 //! bytes of any kind and stay as they are.
+use crate::covers::Asked;
 use crate::explain;
 use crate::input::Source;
 use crate::output::Sink;
@@ -11,6 +12,7 @@ use std::os::unix::ffi::{OsStrExt, OsStringExt};
 #[derive(PartialEq, Eq, Debug)]
 pub enum Request {
     Task(Task),
+    Covers(Asked),
     /// The text on a number.
     Explain(&'static str),
     Help,
@@ -22,6 +24,8 @@ pub enum Request {
 struct Given {
     list: Option<OsString>,
     output: Option<OsString>,
+    narrow: Option<OsString>,
+    wide: Option<OsString>,
     count: bool,
     quiet: bool,
     json: bool,
@@ -31,18 +35,19 @@ struct Given {
 
 /// What the words ask for. The first is the command.
 pub fn read(mut words: impl Iterator<Item = OsString>) -> Result<Request, String> {
-    let command = words.next().ok_or("there is no command: it is cut, check or explain")?;
+    let command = words.next().ok_or("there is no command: it is cut, check, covers or explain")?;
     match command.as_bytes() {
         b"help" | b"--help" | b"-h" => return Ok(Request::Help),
         b"--version" | b"version" | b"-V" => return Ok(Request::Version),
-        b"cut" | b"check" | b"explain" => {}
-        _ => return Err(format!("there is no command {}: it is cut, check or explain", word(&command))),
+        b"cut" | b"check" | b"covers" | b"explain" => {}
+        _ => return Err(format!("there is no command {}: it is cut, check, covers or explain", word(&command))),
     }
     let given = given(words)?;
     match command.as_bytes() {
         _ if given.help => Ok(Request::Help),
         b"cut" => cut(given),
         b"check" => check(given),
+        b"covers" => covers(given),
         _ => explain(given),
     }
 }
@@ -71,12 +76,24 @@ impl Given {
         match (name, &joined) {
             (b"--list" | b"-l", _) => value("--list", &mut self.list, joined, words),
             (b"--output" | b"-o", _) => value("--output", &mut self.output, joined, words),
+            (b"--narrow", _) => value("--narrow", &mut self.narrow, joined, words),
+            (b"--wide", _) => value("--wide", &mut self.wide, joined, words),
             (b"--count", None) => flag(&mut self.count),
             (b"--quiet" | b"-q", None) => flag(&mut self.quiet),
             (b"--json", None) => flag(&mut self.json),
             (b"--help" | b"-h", None) => flag(&mut self.help),
             (b"--count" | b"--quiet" | b"--json" | b"--help", Some(_)) => Err(format!("{} takes no value", shown::all(name))),
             _ => Err(format!("there is no option {}", word(option))),
+        }
+    }
+}
+
+impl Given {
+    /// Only `covers` takes two lists.
+    fn no_two_lists(&self, command: &str) -> Result<(), String> {
+        match (&self.narrow, &self.wide) {
+            (None, None) => Ok(()),
+            _ => Err(format!("{command} takes no --narrow or --wide")),
         }
     }
 }
@@ -112,6 +129,7 @@ fn value(
 }
 
 fn cut(given: Given) -> Result<Request, String> {
+    given.no_two_lists("cut")?;
     let document = document("cut", &given)?;
     let list = given.list.as_deref().ok_or("cut wants a list: -l LIST; by /dev/null the root alone is kept")?;
     let list = Source::named(list);
@@ -130,6 +148,7 @@ fn cut(given: Given) -> Result<Request, String> {
 }
 
 fn check(given: Given) -> Result<Request, String> {
+    given.no_two_lists("check")?;
     let document = document("check", &given)?;
     if given.list.is_some() || given.output.is_some() || given.count {
         return Err("check takes no --list, --output or --count".to_string());
@@ -149,14 +168,34 @@ fn document(command: &str, given: &Given) -> Result<Source, String> {
     }
 }
 
+fn covers(given: Given) -> Result<Request, String> {
+    if given.list.is_some() || given.output.is_some() || given.count {
+        return Err("covers takes no --list, --output or --count".to_string());
+    }
+    if given.quiet && given.json {
+        return Err("--quiet and --json don't go together".to_string());
+    }
+    if let [name, ..] = given.names.as_slice() {
+        return Err(format!("covers takes two lists by their options, and {} is none", word(name)));
+    }
+    let wanted = "covers wants two lists: --narrow LIST --wide LIST";
+    let (narrow, wide) = given.narrow.as_deref().zip(given.wide.as_deref()).ok_or(wanted)?;
+    let (narrow, wide) = (Source::named(narrow), Source::named(wide));
+    if narrow == Source::Standard && wide == Source::Standard {
+        return Err("the two lists can't both come from the standard input".to_string());
+    }
+    Ok(Request::Covers(Asked { narrow, wide, quiet: given.quiet, json: given.json }))
+}
+
 fn explain(given: Given) -> Result<Request, String> {
+    given.no_two_lists("explain")?;
     if given.list.is_some() || given.output.is_some() || given.count || given.quiet || given.json {
         return Err("explain takes no options".to_string());
     }
     match given.names.as_slice() {
         [number] => match explain::text(number.as_bytes()) {
             Some(text) => Ok(Request::Explain(text)),
-            None => Err(format!("{} is no number that is explained: 0 to 10, 64, 66, 73 or 74", word(number))),
+            None => Err(format!("{} is no number that is explained: 0 to 10, 20, 64, 66, 73 or 74", word(number))),
         },
         _ => Err("explain wants one number".to_string()),
     }

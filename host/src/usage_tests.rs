@@ -47,7 +47,7 @@ fn names_are_bytes() {
 #[test]
 fn wrong_words_are_told() {
     let wrong = |words: &[&str]| asked(words).unwrap_err();
-    assert_eq!(wrong(&[]), "there is no command: it is cut, check or explain");
+    assert_eq!(wrong(&[]), "there is no command: it is cut, check, covers or explain");
     assert_eq!(wrong(&["cut", "m"]), "cut wants a list: -l LIST; by /dev/null the root alone is kept");
     assert_eq!(wrong(&["cut", "-l"]), "--list wants a file's name");
     assert_eq!(wrong(&["cut", "-la", "-lb"]), "--list is given twice");
@@ -55,4 +55,15 @@ fn wrong_words_are_told() {
     assert_eq!(wrong(&["cut", "-qx"]), "there is no option -qx");
     assert_eq!(wrong(&["check", "a\n", "b"]), "check takes one document, and b is a second");
     assert_eq!(wrong(&["explain"]), "explain wants one number");
+}
+
+#[test]
+fn covers_takes_two_lists() {
+    let asked_for = Asked { narrow: file("n"), wide: file("w"), quiet: true, json: false };
+    assert_eq!(asked(&["covers", "--narrow", "n", "--wide=w", "-q"]), Ok(Request::Covers(asked_for)));
+    let wrong = |words: &[&str]| asked(words).unwrap_err();
+    assert_eq!(wrong(&["covers", "--narrow", "n"]), "covers wants two lists: --narrow LIST --wide LIST");
+    assert_eq!(wrong(&["covers", "--narrow", "n", "--wide", "w", "m"]), "covers takes two lists by their options, and m is none");
+    assert_eq!(wrong(&["covers", "--narrow=-", "--wide=-"]), "the two lists can't both come from the standard input");
+    assert_eq!(wrong(&["cut", "-la", "--wide", "w"]), "cut takes no --narrow or --wide");
 }

@@ -1,6 +1,6 @@
-/* stack LIST DOCUMENT: whether a cut, and one with a log that is lent, take less stack than the header says. Each call runs on a stack of
- * its own, which is painted before; afterwards the paint that is left tells how deep it went. Prints the number and that it was less; the
- * exit status is 0 where both were. */
+/* stack LIST DOCUMENT: whether a cut, one with a log that is lent, and the check of two lists take less stack than the header says. Each
+ * call runs on a stack of its own, which is painted before; afterwards the paint that is left tells how deep it went. Prints the number and
+ * that it was less; the exit status is 0 where all were. */
 #define _GNU_SOURCE
 #include "choughbell.h"
 
@@ -40,6 +40,12 @@ static void call_with(void)
     numbers = choughbell_cut_with(list, list_len, doc, doc_len, out, sizeof out, log_lent, sizeof log_lent / sizeof log_lent[0]);
 }
 
+static void call_covers(void)
+{
+    struct choughbell_numbers said = choughbell_covers(list, list_len, list, list_len);
+    numbers.number = said.number;
+}
+
 static int takes(void (*called)(void), size_t said)
 {
     memset(stack, 0xA5, PAINTED);
@@ -70,5 +76,6 @@ int main(int argc, char **argv)
     list_len = file(argv[1], list, sizeof list);
     doc_len = file(argv[2], doc, sizeof doc);
     int wrong = takes(call, SAID);
-    return takes(call_with, SAID_WITH) || wrong;
+    wrong = takes(call_with, SAID_WITH) || wrong;
+    return takes(call_covers, SAID) || wrong;
 }
