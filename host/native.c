@@ -16,9 +16,10 @@ void *rattle_choughbell_plain(three_numbers *result, const uint8_t *list, size_t
 void *rattle_choughbell_batch(three_numbers *result, const uint8_t *list, size_t list_len, const uint8_t *batch, size_t batch_len,
                               uint8_t *out, size_t out_len);
 void *rattle_choughbell_judge(three_numbers *result, const uint8_t *doc, size_t doc_len);
+void *rattle_choughbell_covers(three_numbers *result, const uint8_t *narrow, size_t narrow_len, const uint8_t *wide, size_t wide_len);
 size_t rattle_choughbell_characters(const uint8_t *s, size_t s_len);
-void *rattle_choughbell_pack(judge_numbers *result, const uint8_t *text, size_t text_len, uint8_t *out, size_t out_len);
-void *rattle_choughbell_unpack(judge_numbers *result, const uint8_t *packed, size_t packed_len, uint8_t *out, size_t out_len);
+void *rattle_choughbell_pack(three_numbers *result, const uint8_t *text, size_t text_len, uint8_t *out, size_t out_len);
+void *rattle_choughbell_unpack(three_numbers *result, const uint8_t *packed, size_t packed_len, uint8_t *out, size_t out_len);
 
 cut_numbers choughbell_cut(const uint8_t *list, size_t list_len, const uint8_t *doc, size_t doc_len, uint8_t *out, size_t out_len)
 {
@@ -56,21 +57,28 @@ three_numbers choughbell_judge(const uint8_t *doc, size_t doc_len)
     return result;
 }
 
+three_numbers choughbell_covers(const uint8_t *narrow, size_t narrow_len, const uint8_t *wide, size_t wide_len)
+{
+    three_numbers result;
+    rattle_choughbell_covers(&result, narrow, narrow_len, wide, wide_len);
+    return result;
+}
+
 size_t choughbell_characters(const uint8_t *s, size_t s_len)
 {
     return rattle_choughbell_characters(s, s_len);
 }
 
-judge_numbers choughbell_pack(const uint8_t *text, size_t text_len, uint8_t *out, size_t out_len)
+three_numbers choughbell_pack(const uint8_t *text, size_t text_len, uint8_t *out, size_t out_len)
 {
-    judge_numbers result;
+    three_numbers result;
     rattle_choughbell_pack(&result, text, text_len, out, out_len);
     return result;
 }
 
-judge_numbers choughbell_unpack(const uint8_t *packed, size_t packed_len, uint8_t *out, size_t out_len)
+three_numbers choughbell_unpack(const uint8_t *packed, size_t packed_len, uint8_t *out, size_t out_len)
 {
-    judge_numbers result;
+    three_numbers result;
     rattle_choughbell_unpack(&result, packed, packed_len, out, out_len);
     return result;
 }

@@ -1,4 +1,4 @@
-/* The proved filter, for callers in C: eight functions of a static library, choughbell 0.3.0. Link with -lchoughbell, or with
+/* The proved filter, for callers in C: nine functions of a static library, choughbell 0.3.0. Link with -lchoughbell, or with
  * target/native/libexported.a as `make library` leaves it. They allocate nothing, keep nothing between calls and call nothing but memset
  * and memcpy, so threads may call them at once. A call takes less than 96 KiB of stack; one with a log that is lent less than 64.
  *
@@ -91,6 +91,12 @@ struct choughbell_numbers choughbell_batch(const uint8_t *list, size_t list_len,
 /* The numbers of a document alone, as above: 4 to 8 or 10 with the second number, or 0 where the document is sound, and then the second
  * number is 0 too. The third is 0. A sound document is cut by every sound list, in a room that suffices. */
 struct choughbell_numbers choughbell_judge(const uint8_t *doc, size_t doc_len);
+
+/* Whether every path of a narrow list is covered by a path of a wide list, marked if it is. Under 0 the second number is 1 if it is so and
+ * else 0, and the third is 0. A list is refused by 1 to 3 with the line, the narrow one first; the third number is then 1 for the narrow
+ * list and 2 for the wide one. The lists may be the same bytes. Where the second number is 1, cutting the wide list's cut of a document by
+ * the narrow list gives, byte for byte, what cutting the document by it gives. */
+struct choughbell_numbers choughbell_covers(const uint8_t *narrow, size_t narrow_len, const uint8_t *wide, size_t wide_len);
 
 /* How many bytes at the front are characters that XML allows, in UTF-8: `s_len`, or the offset of the first bad sequence. There is no limit
  * to the length. */

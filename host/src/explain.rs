@@ -1,11 +1,11 @@
-//! What each number means and what to do about it: the answers 0 to 11 and 13, and the exit statuses from 64 on.
+//! What each number means and what to do about it: the answers 0 to 11 and 13, and the exit statuses from 20 on.
 
 /// The text on a number, as it is written on the command line.
 pub fn text(number: &[u8]) -> Option<&'static str> {
     TEXTS.iter().find(|(name, _)| name.as_bytes() == number).map(|&(_, text)| text)
 }
 
-const TEXTS: [(&str, &str); 17] = [
+const TEXTS: [(&str, &str); 18] = [
     ("0", ZERO),
     ("1", ONE),
     ("2", TWO),
@@ -19,6 +19,7 @@ const TEXTS: [(&str, &str); 17] = [
     ("10", TEN),
     ("11", ELEVEN),
     ("13", THIRTEEN),
+    ("20", UNCOVERED),
     ("64", USAGE),
     ("66", NO_INPUT),
     ("73", CANT_CREATE),
@@ -115,6 +116,12 @@ There is one packed form of each list, and every byte of it is looked at: the ve
 each line's length, its mark, kinds, names and tests, and that nothing follows. A list
 that could not be written as text, as one over 8,192 bytes, has none. See that the file
 is a packed list and came over whole; choughbell pack makes it anew from the text.
+";
+
+const UNCOVERED: &str = "\
+20: under `covers`: both lists are sound, and a path of the narrow list is covered by
+none of the wide list, or only by one without the mark that it has. The lines are named.
+Cut by the narrow list from the master, or add what covers these lines to the wide list.
 ";
 
 const USAGE: &str = "\

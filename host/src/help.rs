@@ -11,6 +11,7 @@ choughbell cuts XML by a list of paths, by a filter that is proved.
   choughbell batch -l LIST [BATCH] [-o OUTPUT]    the same from a batch file to another
   choughbell pack [LIST] [-o OUTPUT]              a list from text to its packed form
   choughbell unpack [LIST] [-o OUTPUT]            and from the packed form back to text
+  choughbell covers --narrow LIST --wide LIST     whether one list is covered by another
   choughbell explain NUMBER                       what an answer or an exit status means
 
 A file that is not named, or named -, is the standard input or output.
@@ -27,6 +28,10 @@ A file that is not named, or named -, is the standard input or output.
                        on a second line: name tests, how many were tried
       --plain          cut by the plain engine: the same cut and the same numbers, slower,
                        and without name tests
+      --narrow LIST    of two lists, the one whose every path should be covered
+      --wide LIST      by a path of this one, marked if that is. Then the cut by the wide
+                       list serves the narrow list as the master does. Prints yes, or each
+                       narrow line that nothing covers
   -q, --quiet          no message, only the exit status
       --json           print the numbers as one line of JSON, on the standard output, or on
                        the standard error where the cut goes to the other
@@ -34,9 +39,9 @@ A file that is not named, or named -, is the standard input or output.
       --version        the version
       --               what follows is no option
 
-Exit status: 0 written, or sound; 1 to 3 the list is refused, 13 a packed list, 4 to 8 and
-10 the document (of a batch, the first that is), 11 the batch; 64 wrong usage; 66 no input;
-73 no output; 74 reading or writing failed.
+Exit status: 0 written, sound or covered; 1 to 3 a list is refused, 13 a packed list, 4 to 8
+and 10 the document (of a batch, the first that is), 11 the batch; 20 not covered; 64 wrong
+usage; 66 no input; 73 no output; 74 reading or writing failed.
 
 For example, with `//commune/hamlet #` and `//place[@type=\"village\"]` as lines of atlas.lst:
 

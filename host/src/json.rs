@@ -1,4 +1,4 @@
-//! One line of JSON: an object whose values are numbers and strings, in the order in which they are added.
+//! One line of JSON: an object whose values are numbers, strings and lists of numbers, in the order in which they are added.
 
 pub struct Object(String);
 
@@ -13,6 +13,11 @@ impl Object {
 
     pub fn string(&mut self, key: &str, value: &str) {
         self.member(key, &quoted(value));
+    }
+
+    pub fn numbers(&mut self, key: &str, values: &[u64]) {
+        let values: Vec<String> = values.iter().map(u64::to_string).collect();
+        self.member(key, &format!("[{}]", values.join(",")));
     }
 
     fn member(&mut self, key: &str, value: &str) {

@@ -45,16 +45,17 @@ pub struct FourNumbers {
     pub fourth: u64,
 }
 
-/// The numbers that a call hands back which counts no name tests: a cut by the plain engine, a batch; and a document alone and a packed
-/// list, whose third is always 0.
+/// The numbers that a call hands back which counts no name tests: a cut by the plain engine, a batch; a document alone and a packed list,
+/// whose third is always 0; and the check of two lists.
 #[repr(C)]
 #[derive(Clone, Copy, PartialEq, Eq, Debug)]
 pub struct Numbers {
     /// 0 where what is asked for is sound or written, else why it is refused.
     pub number: u64,
-    /// Under 0 the length written, under 9 the length needed, else the line or the offset at fault, or 0.
+    /// Under 0 the length written, or of two lists 1 if the narrow one is covered; under 9 the length needed, else the line or the offset at
+    /// fault, or 0.
     pub second: u64,
-    /// Under 0 how many elements are selected, in a batch in all documents, else 0.
+    /// Under 0 how many elements are selected, in a batch in all documents; of two lists, which is refused, 1 or 2; else 0.
     pub third: u64,
 }
 
@@ -64,6 +65,7 @@ extern "C" {
     fn choughbell_judge(doc: *const u8, doc_len: usize) -> Numbers;
     fn choughbell_plain(list: *const u8, list_len: usize, doc: *const u8, doc_len: usize, out: *mut u8, out_len: usize) -> Numbers;
     fn choughbell_batch(list: *const u8, list_len: usize, batch: *const u8, batch_len: usize, out: *mut u8, out_len: usize) -> Numbers;
+    fn choughbell_covers(narrow: *const u8, narrow_len: usize, wide: *const u8, wide_len: usize) -> Numbers;
     fn choughbell_cut(list: *const u8, list_len: usize, doc: *const u8, doc_len: usize, out: *mut u8, out_len: usize) -> FourNumbers;
     fn choughbell_cut_with(
         list: *const u8,
@@ -211,9 +213,75 @@ pub fn batch_of(list: &[u8], bytes: &[u8]) -> Result<Batch, Refusal> {
     }
 }
 
+/// Which of two lists is refused.
+#[derive(Clone, Copy, PartialEq, Eq, Debug)]
+pub enum Which {
+    Narrow,
+    Wide,
+}
+
+impl Which {
+    /// The third number of a refusal: 1 or 2.
+    pub fn number(self) -> u64 {
+        match self {
+            Which::Narrow => 1,
+            Which::Wide => 2,
+        }
+    }
+}
+
+/// The numbers of the check of two lists: under 0 the second is 1 if every path of the narrow list is covered by a path of the wide list,
+/// marked if it is, and else 0. Under 1 to 3 the third is 1 or 2 for the list, the narrow one first.
+pub fn covers(narrow: &[u8], wide: &[u8]) -> Numbers {
+    unsafe { choughbell_covers(narrow.as_ptr(), narrow.len(), wide.as_ptr(), wide.len()) }
+}
+
+/// Whether every path of a narrow list is covered by a path of a wide list, marked if it is; or which list is refused, the narrow one
+/// first, by 1 to 3. Where it is so, cutting the wide list's cut of a document by the narrow list gives what cutting the document gives:
+/// `demand-3-checked` in crates/demands/proofs/Demands.antt.
+///
+/// ```
+/// assert_eq!(choughbell::covers_of(b"/g/p/v\n", b"//v\n"), Ok(true));
+/// assert_eq!(choughbell::covers_of(b"//v\n", b"/g/p/v\n"), Ok(false));
+/// ```
+pub fn covers_of(narrow: &[u8], wide: &[u8]) -> Result<bool, (Which, Refusal)> {
+    let Numbers { number, second, third } = covers(narrow, wide);
+    let which = if third == 1 { Which::Narrow } else { Which::Wide };
+    Refusal::of(number, second).map_or(Ok(second == 1), |refusal| Err((which, refusal)))
+}
+
 #[cfg(test)]
 mod tests {
     use super::*;
+
+    #[test]
+    fn covering_takes_the_narrow_list_first() {
+        let long = vec![b'/'; LIST_LIMIT + 1];
+        assert_eq!(covers(&long, &long), Err((Which::Narrow, Refusal::ListTooLong)));
+        assert_eq!(covers(b"", &long), Err((Which::Wide, Refusal::ListTooLong)));
+        assert_eq!(covers(b"/v\nv\n", &long), Err((Which::Narrow, Refusal::ListMalformed { line: 2 })));
+        assert_eq!(covers(b"", &b"/v\n".repeat(33)), Err((Which::Wide, Refusal::ListTooLarge { line: 33 })));
+        assert_eq!((Which::Narrow.number(), Which::Wide.number()), (1, 2));
+        assert_eq!(covers(b"", b""), Ok(true));
+    }
+
+    #[test]
+    fn covering_goes_by_steps_tests_and_marks() {
+        for (narrow, wide, is) in [
+            ("/g/p/v\n", "/g//v\n", true),
+            ("/g/p/v\n", "//p/v\n", true),
+            ("/g/p/v\n", "/g/v\n", false),
+            ("/a/*//b\n", "/a//*/b\n", false),
+            ("/a//*/b\n", "/a/*//b\n", false),
+            ("/v[@k=\"x\"]\n", "//v\n", true),
+            ("/v[@k=\"x\"]\n", "//v[@k=\"y\"]\n", false),
+            ("/g/self::g\n", "/g/self::g #\n", true),
+            ("/g/self::g #\n", "/g/self::g\n", false),
+            ("/g\n", "/g/self::g\n", false),
+        ] {
+            assert_eq!(covers(narrow.as_bytes(), wide.as_bytes()), Ok(is), "{narrow}{wide}");
+        }
+    }
 
     #[test]
     fn short_buffer_is_refused_and_left_alone() {

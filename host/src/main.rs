@@ -5,6 +5,7 @@ mod advice;
 mod attribute;
 mod batch;
 mod caret;
+mod covers;
 mod explain;
 mod help;
 mod hints;
@@ -39,6 +40,7 @@ fn main() -> ExitCode {
         Request::Task(task) => task.quiet,
         Request::Batch(post) => post.quiet,
         Request::Packing(packing) => packing.quiet,
+        Request::Covers(asked) => asked.quiet,
         _ => false,
     };
     match answer(&request) {
@@ -58,6 +60,7 @@ fn answer(request: &Request) -> Result<u8, Trouble> {
         Request::Task(task) => return task::run(task),
         Request::Batch(post) => return batch::run(post),
         Request::Packing(packing) => return packing::run(packing),
+        Request::Covers(asked) => return covers::run(asked),
         Request::Explain(text) => output::print(text)?,
         Request::Help => output::print(help::HELP)?,
         Request::Version => output::print(help::VERSION)?,

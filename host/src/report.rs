@@ -86,7 +86,11 @@ impl Report {
 
     /// The numbers and the place, as one line of JSON.
     pub fn json(&self, name_tests: Option<u64>) -> String {
-        let mut object = numbers(self.refusal.number(), self.refusal.second(), 0, name_tests, self.refusal.meaning());
+        self.json_of(numbers(self.refusal.number(), self.refusal.second(), 0, name_tests, self.refusal.meaning()))
+    }
+
+    /// The same, with these numbers.
+    pub fn json_of(&self, mut object: Object) -> String {
         object.string("file", &self.file);
         match &self.place {
             Place::Whole => {}
@@ -116,6 +120,16 @@ pub fn numbers(number: u64, second: u64, third: u64, name_tests: Option<u64>, me
     if let Some(name_tests) = name_tests {
         object.number("name_tests", name_tests);
     }
+    object.string("meaning", meaning);
+    object
+}
+
+/// Those of an answer without name tests.
+pub fn three(number: u64, second: u64, third: u64, meaning: &str) -> Object {
+    let mut object = Object::new();
+    object.number("number", number);
+    object.number("second", second);
+    object.number("third", third);
     object.string("meaning", meaning);
     object
 }

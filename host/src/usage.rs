@@ -1,6 +1,7 @@
 //! The words of the command line: which command it is and what it is to do; or, where they are wrong, a line that says why. File names are
 //! bytes of any kind and stay as they are.
 use crate::batch::{Post, Way};
+use crate::covers::Asked;
 use crate::explain;
 use crate::input::Source;
 use crate::output::Sink;
@@ -17,6 +18,7 @@ pub enum Request {
     Task(Task),
     Batch(Post),
     Packing(Packing),
+    Covers(Asked),
     /// The text on a number.
     Explain(&'static str),
     Help,
@@ -29,6 +31,8 @@ struct Given {
     list: Option<OsString>,
     output: Option<OsString>,
     folder: Option<OsString>,
+    narrow: Option<OsString>,
+    wide: Option<OsString>,
     count: bool,
     plain: bool,
     packed: bool,
@@ -40,12 +44,12 @@ struct Given {
 
 /// What the words ask for. The first is the command.
 pub fn read(mut words: impl Iterator<Item = OsString>) -> Result<Request, String> {
-    let command = words.next().ok_or("there is no command: it is cut, check, batch, pack, unpack or explain")?;
+    let command = words.next().ok_or("there is no command: it is cut, check, batch, pack, unpack, covers or explain")?;
     match command.as_bytes() {
         b"help" | b"--help" | b"-h" => return Ok(Request::Help),
         b"--version" | b"version" | b"-V" => return Ok(Request::Version),
-        b"cut" | b"check" | b"batch" | b"pack" | b"unpack" | b"explain" => {}
-        _ => return Err(format!("there is no command {}: it is cut, check, batch, pack, unpack or explain", word(&command))),
+        b"cut" | b"check" | b"batch" | b"pack" | b"unpack" | b"covers" | b"explain" => {}
+        _ => return Err(format!("there is no command {}: it is cut, check, batch, pack, unpack, covers or explain", word(&command))),
     }
     let given = given(words)?;
     if given.folder.is_some() && command != "batch" && !given.help {
@@ -59,6 +63,7 @@ pub fn read(mut words: impl Iterator<Item = OsString>) -> Result<Request, String
         b"check" => check(given),
         b"pack" => packing("pack", given),
         b"unpack" => packing("unpack", given),
+        b"covers" => covers(given),
         _ => explain(given),
     }
 }
@@ -88,6 +93,8 @@ impl Given {
             (b"--list" | b"-l", _) => value("--list", &mut self.list, joined, words),
             (b"--output" | b"-o", _) => value("--output", &mut self.output, joined, words),
             (b"--folder" | b"-d", _) => value("--folder", &mut self.folder, joined, words),
+            (b"--narrow", _) => value("--narrow", &mut self.narrow, joined, words),
+            (b"--wide", _) => value("--wide", &mut self.wide, joined, words),
             (b"--count", None) => flag(&mut self.count),
             (b"--plain", None) => flag(&mut self.plain),
             (b"--packed", None) => flag(&mut self.packed),
@@ -98,6 +105,16 @@ impl Given {
                 Err(format!("{} takes no value", shown::all(name)))
             }
             _ => Err(format!("there is no option {}", word(option))),
+        }
+    }
+}
+
+impl Given {
+    /// Only `covers` takes two lists.
+    fn no_two_lists(&self, command: &str) -> Result<(), String> {
+        match (&self.narrow, &self.wide) {
+            (None, None) => Ok(()),
+            _ => Err(format!("{command} takes no --narrow or --wide")),
         }
     }
 }
@@ -133,6 +150,7 @@ fn value(
 }
 
 fn cut(given: Given) -> Result<Request, String> {
+    given.no_two_lists("cut")?;
     let document = document("cut", &given)?;
     let list = given.list.as_deref().ok_or("cut wants a list: -l LIST; by /dev/null the root alone is kept")?;
     let list = Source::named(list);
@@ -152,6 +170,7 @@ fn cut(given: Given) -> Result<Request, String> {
 }
 
 fn check(given: Given) -> Result<Request, String> {
+    given.no_two_lists("check")?;
     let document = document("check", &given)?;
     if given.list.is_some() || given.output.is_some() || given.count || given.packed {
         return Err("check takes no --list, --packed, --output or --count".to_string());
@@ -210,6 +229,7 @@ fn document(command: &str, given: &Given) -> Result<Source, String> {
 
 /// `pack` and `unpack` take a list as their only name, and give its other form.
 fn packing(command: &str, given: Given) -> Result<Request, String> {
+    given.no_two_lists(command)?;
     if given.list.is_some() || given.count || given.packed {
         return Err(format!("{command} takes no --list, --packed or --count: the list is its only name"));
     }
@@ -225,14 +245,34 @@ fn packing(command: &str, given: Given) -> Result<Request, String> {
     Ok(Request::Packing(Packing { back: command == "unpack", list, output, quiet: given.quiet, json: given.json }))
 }
 
+fn covers(given: Given) -> Result<Request, String> {
+    if given.list.is_some() || given.output.is_some() || given.count || given.packed {
+        return Err("covers takes no --list, --output, --packed or --count".to_string());
+    }
+    if given.quiet && given.json {
+        return Err("--quiet and --json don't go together".to_string());
+    }
+    if let [name, ..] = given.names.as_slice() {
+        return Err(format!("covers takes two lists by their options, and {} is none", word(name)));
+    }
+    let wanted = "covers wants two lists: --narrow LIST --wide LIST";
+    let (narrow, wide) = given.narrow.as_deref().zip(given.wide.as_deref()).ok_or(wanted)?;
+    let (narrow, wide) = (Source::named(narrow), Source::named(wide));
+    if narrow == Source::Standard && wide == Source::Standard {
+        return Err("the two lists can't both come from the standard input".to_string());
+    }
+    Ok(Request::Covers(Asked { narrow, wide, quiet: given.quiet, json: given.json }))
+}
+
 fn explain(given: Given) -> Result<Request, String> {
+    given.no_two_lists("explain")?;
     if given.list.is_some() || given.output.is_some() || given.count || given.packed || given.quiet || given.json {
         return Err("explain takes no options".to_string());
     }
     match given.names.as_slice() {
         [number] => match explain::text(number.as_bytes()) {
             Some(text) => Ok(Request::Explain(text)),
-            None => Err(format!("{} is no number that is explained: 0 to 11, 13, 64, 66, 73 or 74", word(number))),
+            None => Err(format!("{} is no number that is explained: 0 to 11, 13, 20, 64, 66, 73 or 74", word(number))),
         },
         _ => Err("explain wants one number".to_string()),
     }

@@ -70,7 +70,7 @@ fn the_plain_engine_is_asked_for() {
 #[test]
 fn wrong_words_are_told() {
     let wrong = |words: &[&str]| asked(words).unwrap_err();
-    assert_eq!(wrong(&[]), "there is no command: it is cut, check, batch, pack, unpack or explain");
+    assert_eq!(wrong(&[]), "there is no command: it is cut, check, batch, pack, unpack, covers or explain");
     assert_eq!(wrong(&["cut", "m"]), "cut wants a list: -l LIST; by /dev/null the root alone is kept");
     assert_eq!(wrong(&["cut", "-l"]), "--list wants a file's name");
     assert_eq!(wrong(&["cut", "-la", "-lb"]), "--list is given twice");
@@ -101,4 +101,15 @@ fn batch_goes_two_ways() {
     assert_eq!(wrong(&["batch", "-la", "-dc"]), "batch with --folder wants documents");
     assert_eq!(wrong(&["batch", "-la", "x", "y"]), "batch takes one batch, or with -d FOLDER documents");
     assert_eq!(wrong(&["cut", "-la", "-dc"]), "--folder is for batch alone");
+}
+
+#[test]
+fn covers_takes_two_lists() {
+    let asked_for = Asked { narrow: file("n"), wide: file("w"), quiet: true, json: false };
+    assert_eq!(asked(&["covers", "--narrow", "n", "--wide=w", "-q"]), Ok(Request::Covers(asked_for)));
+    let wrong = |words: &[&str]| asked(words).unwrap_err();
+    assert_eq!(wrong(&["covers", "--narrow", "n"]), "covers wants two lists: --narrow LIST --wide LIST");
+    assert_eq!(wrong(&["covers", "--narrow", "n", "--wide", "w", "m"]), "covers takes two lists by their options, and m is none");
+    assert_eq!(wrong(&["covers", "--narrow=-", "--wide=-"]), "the two lists can't both come from the standard input");
+    assert_eq!(wrong(&["cut", "-la", "--wide", "w"]), "cut takes no --narrow or --wide");
 }

@@ -82,8 +82,9 @@ repeat 32 "//*$(repeat 15 /self::*)[@k=\"x\"] #
 inner="<?p é?><![CDATA[é]]><g $value/><g $value>é</g>"
 { echo '<?xml version="1.0"?><!-- é -->' && repeat 63 "<g $value>é&amp;" && echo "$inner" && repeat 63 '</g>'; } > most.xml
 program_before=$program program=$room/c-stack
-lines 'answer 0: less than 98304 bytes of stack' 'answer 0: less than 65536 bytes of stack' \
-    'answer 0: less than 196608 bytes of stack' 'answer 0: less than 98304 bytes of stack'
+less='less than 98304 bytes of stack'
+lines "answer 0: $less" 'answer 0: less than 65536 bytes of stack' 'answer 0: less than 196608 bytes of stack' "answer 0: $less" \
+    "answer 0: $less"
 try 'C: the stack of a call' 0 most.lst most.xml
 program=$program_before
 

@@ -1,6 +1,6 @@
-/* stack LIST DOCUMENT: whether a cut, one with a log that is lent, one by the plain engine and a batch of that document take less stack than
- * the header says. Each call runs on a stack of its own, which is painted before; afterwards the paint that is left tells how deep it went.
- * Prints the number and that it was less; the exit status is 0 where all were. */
+/* stack LIST DOCUMENT: whether a cut, one with a log that is lent, one by the plain engine, a batch of that document and the check of two
+ * lists take less stack than the header says. Each call runs on a stack of its own, which is painted before; afterwards the paint that is
+ * left tells how deep it went. Prints the number and that it was less; the exit status is 0 where all were. */
 #define _GNU_SOURCE
 #include "choughbell.h"
 
@@ -54,6 +54,12 @@ static void call_batch(void)
     numbers.number = three.number;
 }
 
+static void call_covers(void)
+{
+    struct choughbell_numbers said = choughbell_covers(list, list_len, list, list_len);
+    numbers.number = said.number;
+}
+
 static int takes(void (*called)(void), size_t said)
 {
     memset(stack, 0xA5, PAINTED);
@@ -89,6 +95,8 @@ int main(int argc, char **argv)
     memcpy(batch + 5, doc, doc_len);
     int wrong = takes(call, SAID);
     wrong |= takes(call_with, SAID_WITH);
-    wrong = takes(call_plain, SAID_PLAIN) || wrong;
-    return takes(call_batch, SAID) || wrong;
+    wrong |= takes(call_plain, SAID_PLAIN);
+    wrong |= takes(call_batch, SAID);
+    wrong |= takes(call_covers, SAID);
+    return wrong;
 }

@@ -7,7 +7,7 @@ wrong() {
     shift 2
     try "wrong usage: $name" 64 "$@"
 }
-commands='it is cut, check, batch, pack, unpack or explain'
+commands='it is cut, check, batch, pack, unpack, covers or explain'
 wrong 'nothing' "there is no command: $commands"
 wrong 'another command' "there is no command trim: $commands" trim b.xml
 wrong 'an option first' "there is no command --quiet: $commands" --quiet check b.xml
@@ -33,8 +33,8 @@ wrong 'pack with a list' 'pack takes no --list, --packed or --count: the list is
 wrong 'two lists to unpack' 'unpack takes one list, and w.bin is a second' unpack v.bin w.bin
 wrong 'explain nothing' 'explain wants one number' explain
 wrong 'explain two' 'explain wants one number' explain 1 2
-wrong 'explain 15' '15 is no number that is explained: 0 to 11, 13, 64, 66, 73 or 74' explain 15
-wrong 'explain a word' 'two is no number that is explained: 0 to 11, 13, 64, 66, 73 or 74' explain two
+wrong 'explain 15' '15 is no number that is explained: 0 to 11, 13, 20, 64, 66, 73 or 74' explain 15
+wrong 'explain a word' 'two is no number that is explained: 0 to 11, 13, 20, 64, 66, 73 or 74' explain two
 wrong 'explain with options' 'explain takes no options' explain --json 1
 [ ! -e x ] || fault 'wrong usage' 'a file is made'
 
@@ -66,6 +66,7 @@ explains 9 'the output is shorter than the cut;' 4
 explains 10 'the declaration of the document names another encoding than UTF-8;' 6
 explains 11 'the bytes are no batch;' 4
 explains 13 'the input is not the packed form of a sound list;' 5
+explains 20 'under `covers`: both lists are sound,' 3
 explains 64 'wrong usage.' 2
 explains 66 "the list or the document can't be opened, or is a directory." 2
 explains 73 "the output can't be created." 3
@@ -79,7 +80,7 @@ grep -q '^\.TH CHOUGHBELL 1 [0-9-]* "choughbell 0\.3\.0"' "$root/host/man/chough
 head -n 1 "$root/host/include/choughbell.h" | grep -q 'choughbell 0\.3\.0' || fault 'version' 'of the header'
 start --help > help 2>&1 || fault 'help' 'status'
 [ "$(head -n 1 help)" = 'choughbell cuts XML by a list of paths, by a filter that is proved.' ] || fault 'help' "$(head -n 1 help)"
-for words in '--help' 'help' '-h' 'cut --help' 'check -h' 'batch -h' 'explain --help'; do
+for words in '--help' 'help' '-h' 'cut --help' 'check -h' 'batch -h' 'covers --help' 'explain --help'; do
     cp help "$notes/prints"
     # shellcheck disable=SC2086
     try "$words" 0 $words

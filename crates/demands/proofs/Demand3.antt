@@ -1,8 +1,8 @@
--- Demand 3: "Let two lists be accepted, and let every path of the narrow list stand in the wide list, marked there if it is marked in the
--- narrow one. If the wide cut was written and is itself within the document size, then cutting it by the narrow list, with room enough,
--- gives byte for byte the narrow cut of the master, and the same number of selected elements."
+-- Demand 3: "Let two lists be accepted", and let each path of the narrow list be "covered by a wide one, marked if the narrow is". "If the
+-- wide cut was written and is itself within the document size, then cutting it by the narrow list, with room enough, gives byte for byte
+-- the narrow cut of the master, and the same number of selected elements."
 -- In order: what a call writes; the wide cut as a document; its narrow cut and number; the answer and the buffer; two calls, `cut-of-cut`,
--- which is `demand-3` of Demands.antt.
+-- which is `demand-3-covered` of Demands.antt.
 use mathlib.Core.Path.{_≡_, refl, sym, ap, _∙_}
 use mathlib.Core.List.{List, [], _∷_, _++_}
 use Prim.Native.Nat.{ℕ, _≤_}
@@ -22,7 +22,7 @@ use Rattle.trees.specs.Grown.{forestOf}
 use Rattle.trees.specs.Written.{verdicts, cutOf, countOf, testsOf}
 use Rattle.cutter.specs.Answer.{answerOf, bytesAfter, numberOf, secondOf}
 use Rattle.cutter.specs.declared.Answer.the-variants.{Written}
-use Rattle.demands.specs.Within.{Within}
+use Rattle.covers.specs.Cover.{Covered}
 use Rattle.demands.specs.Repeated.{SameNumbers}
 use Rattle.demands.proofs.Tried.{numbers-same, bytes-same}
 use Rattle.demands.proofs.Answered.{written}
@@ -60,7 +60,7 @@ buffers list d o p q r = rw (answers list d (length o) p q r) refl
 
 -- ---- again
 
-module _ (narrow wide d : List ℕ) (within : Within (listPaths narrow) (listPaths wide)) (sound : judgeOf d ≡ Sound)
+module _ (narrow wide d : List ℕ) (all : Covered (listPaths narrow) (listPaths wide)) (sound : judgeOf d ≡ Sound)
     (size : length (cutOf wide d) ≤ 16777216) where
   derived : Document Small (drop (startOf d) d) (forestOf d)
   derived = sound-document d sound .2
@@ -90,13 +90,13 @@ module _ (narrow wide d : List ℕ) (within : Within (listPaths narrow) (listPat
   cut-again =
       ap render
       (ap (cut (verdicts (listPaths narrow)) []) (sym cut-forest)
-      ∙ narrow-cut (listPaths narrow) (listPaths wide) within (forestOf d))
+      ∙ narrow-cut (listPaths narrow) (listPaths wide) all (forestOf d))
 
   -- "the same number of selected elements"
   pub count-again : countOf narrow (cutOf wide d) ≡ countOf narrow d
   unfolding countOf
   count-again =
-      ap (count (verdicts (listPaths narrow)) []) (sym cut-forest) ∙ narrow-count (listPaths narrow) (listPaths wide) within (forestOf d)
+      ap (count (verdicts (listPaths narrow)) []) (sym cut-forest) ∙ narrow-count (listPaths narrow) (listPaths wide) all (forestOf d)
 
   -- the three numbers, and every byte of a buffer, whatever its room: too little is too little for both. Name tests are those of the
   -- document that is cut, and the wide cut may have fewer elements
@@ -114,16 +114,16 @@ module _ (narrow wide d : List ℕ) (within : Within (listPaths narrow) (listPat
 
 -- Of two calls. The wide cut was written: it is the first n bytes of the buffer o. Cutting it by the narrow list into a
 -- buffer o′ with room enough answers 0, with the length and the number of the master's narrow cut, and o′ then begins with that cut.
-pub cut-of-cut : (narrow wide d o o′ : List ℕ) (n k m : ℕ) → listAnswer narrow ≡ lists.Sound → Within (listPaths narrow) (listPaths wide)
+pub cut-of-cut : (narrow wide d o o′ : List ℕ) (n k m : ℕ) → listAnswer narrow ≡ lists.Sound → Covered (listPaths narrow) (listPaths wide)
     → answerOf wide d (length o) ≡ Written n k m → n ≤ 16777216 → length (cutOf narrow d) ≤ length o′
     → (answerOf narrow (take n (bytesAfter wide d o)) (length o′)
     ≡ Written (length (cutOf narrow d)) (countOf narrow d) (testsOf narrow (take n (bytesAfter wide d o))))
     × (bytesAfter narrow (take n (bytesAfter wide d o)) o′ ≡ cutOf narrow d ++ drop (length (cutOf narrow d)) o′)
-cut-of-cut narrow wide d o o′ n k m listed within e size room =
+cut-of-cut narrow wide d o o′ n k m listed all e size room =
     let z = written-says wide d (length o) n k m e in
     let w = written-first wide d o n k m e in
     let l : length (cutOf wide d) ≤ 16777216 = rw (sym (z .2)) size in
-    let c = cut-again narrow wide d within (z .1) l in
-    let b = count-again narrow wide d within (z .1) l in
-    let a = answers narrow (cutOf wide d) (length o′) listed (cut-accepted narrow wide d within (z .1) l) (rw c room) in
-    (rw w (rw (c, b) at a), rw w (buffer-again narrow wide d within (z .1) l o′ ∙ buffers narrow d o′ listed (z .1) room))
+    let c = cut-again narrow wide d all (z .1) l in
+    let b = count-again narrow wide d all (z .1) l in
+    let a = answers narrow (cutOf wide d) (length o′) listed (cut-accepted narrow wide d all (z .1) l) (rw c room) in
+    (rw w (rw (c, b) at a), rw w (buffer-again narrow wide d all (z .1) l o′ ∙ buffers narrow d o′ listed (z .1) room))

@@ -12,12 +12,17 @@ use Rattle.trees.specs.Written.{cutOf, countOf, testsOf}
 use Rattle.cutter.specs.Answer.{answerOf, bytesAfter, numberOf, secondOf, thirdOf, fourthOf}
 use Rattle.cutter.specs.declared.Answer.{Answer}
 use Rattle.cutter.specs.declared.Answer.the-variants.{Written}
+use Rattle.covers.specs.Cover.{Covered}
+use Rattle.covers.specs.Answer.{coverAnswer}
+use Rattle.covers.specs.declared.CoverAnswer.the-variants as covers
+use Rattle.covers.proofs.Answering.{said-yes}
 use Rattle.demands.specs.Within.{Within}
 use Rattle.demands.specs.Judged.{Accepted}
 use Rattle.demands.specs.Answers.{Cuts, AnswerSays, written, BufferSays, Placed}
 use Rattle.demands.proofs.Answered.{numbered, refused, third, fourth, written as cut-stands}
 use Rattle.demands.proofs.Refused.{Taken, taken-iff}
 use Rattle.demands.proofs.Borne.{Borne, EachTag, document-borne}
+use Rattle.demands.proofs.Narrow.{within-covered}
 use Rattle.demands.proofs.Demand3.{cut-of-cut}
 use Rattle.demands.proofs.Answers.{says-answer, only-answer, says-buffer, placed, cuts-only}
 
@@ -90,15 +95,35 @@ demand-2 list d o = record { accepted = accepts; attributes = λ f x. document-b
         found (written {w} x l) e =
             (w, x, refl, cut-stands list d o (ap numberOf e) ∙ rw (ap secondOf e, cuts-only x .bytes-are) refl)
 
--- 3. "Let two lists be accepted, and let every path of the narrow list stand in the wide list, marked there if it is marked in the narrow
--- one", "a path being the same only with the same test". "If the wide cut was written and is itself within the document size, then cutting
--- it by the narrow list, with room enough, gives byte for byte the narrow cut of the master, and the same number of selected elements." Of
--- two calls: the first writes the wide cut, n bytes, at the front of the buffer o; the second cuts these bytes into the buffer o′. The name
--- tests of the second call are those of the document that it cuts.
+-- 3. "Let two lists be accepted", and "it is enough that each narrow path is covered by a wide one, marked if the narrow is". "If the wide
+-- cut was written and is itself within the document size, then cutting it by the narrow list, with room enough, gives byte for byte the
+-- narrow cut of the master, and the same number of selected elements." Of two calls: the first writes the wide cut, n bytes, at the front
+-- of the buffer o; the second cuts these bytes into the buffer o′. The name tests of the second call are those of the document that it
+-- cuts.
+pub demand-3-covered : (narrow wide d o o′ : List ℕ) (n k m : ℕ) → listAnswer narrow ≡ lists.Sound → listAnswer wide ≡ lists.Sound
+    → Covered (listPaths narrow) (listPaths wide) → answerOf wide d (length o) ≡ Written n k m → n ≤ 16777216
+    → length (cutOf narrow d) ≤ length o′
+    → (answerOf narrow (take n (bytesAfter wide d o)) (length o′)
+    ≡ Written (length (cutOf narrow d)) (countOf narrow d) (testsOf narrow (take n (bytesAfter wide d o))))
+    × (bytesAfter narrow (take n (bytesAfter wide d o)) o′ ≡ cutOf narrow d ++ drop (length (cutOf narrow d)) o′)
+demand-3-covered narrow wide d o o′ n k m p q = cut-of-cut narrow wide d o o′ n k m p
+
+-- The same where "every path of the narrow list stand in the wide list, marked there if it is marked in the narrow one", "a path being the
+-- same only with the same test": a path covers itself.
 pub demand-3 : (narrow wide d o o′ : List ℕ) (n k m : ℕ) → listAnswer narrow ≡ lists.Sound → listAnswer wide ≡ lists.Sound
     → Within (listPaths narrow) (listPaths wide) → answerOf wide d (length o) ≡ Written n k m → n ≤ 16777216
     → length (cutOf narrow d) ≤ length o′
     → (answerOf narrow (take n (bytesAfter wide d o)) (length o′)
     ≡ Written (length (cutOf narrow d)) (countOf narrow d) (testsOf narrow (take n (bytesAfter wide d o))))
     × (bytesAfter narrow (take n (bytesAfter wide d o)) o′ ≡ cutOf narrow d ++ drop (length (cutOf narrow d)) o′)
-demand-3 narrow wide d o o′ n k m p q = cut-of-cut narrow wide d o o′ n k m p
+demand-3 narrow wide d o o′ n k m p q w = demand-3-covered narrow wide d o o′ n k m p q (within-covered w)
+
+-- And where the check of the two lists says yes, which takes in that both are accepted.
+pub demand-3-checked : (narrow wide d o o′ : List ℕ) (n k m : ℕ) → coverAnswer narrow wide ≡ covers.Covered
+    → answerOf wide d (length o) ≡ Written n k m → n ≤ 16777216 → length (cutOf narrow d) ≤ length o′
+    → (answerOf narrow (take n (bytesAfter wide d o)) (length o′)
+    ≡ Written (length (cutOf narrow d)) (countOf narrow d) (testsOf narrow (take n (bytesAfter wide d o))))
+    × (bytesAfter narrow (take n (bytesAfter wide d o)) o′ ≡ cutOf narrow d ++ drop (length (cutOf narrow d)) o′)
+demand-3-checked narrow wide d o o′ n k m e =
+    let (p, q, c) = said-yes narrow wide e in
+    demand-3-covered narrow wide d o o′ n k m p q c

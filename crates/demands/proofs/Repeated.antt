@@ -27,7 +27,7 @@ use Rattle.trees.specs.Written.{rootFirst, verdicts, cutOf, countOf, testsOf}
 use Rattle.trees.proofs.Same.{AtMost}
 use Rattle.cutter.specs.Answer.{answerOf, bytesAfter}
 use Rattle.demands.specs.Repeated.{Stands, AllStand, withLine, SameNumbers, SameOutcome}
-use Rattle.demands.specs.Within.{Covers, Within}
+use Rattle.demands.specs.Within.{StandsAs, Within}
 use Rattle.demands.proofs.Tried.{numbers-same, bytes-same}
 use Rattle.demands.proofs.Narrow.{within-most}
 
@@ -105,22 +105,22 @@ all-each : {A : Type 0} {P Q : A → Type 0} → ((x : A) → P x → Q x) → {
 all-each f none = none
 all-each f (more {x = x} h hs) = more (f x h) (all-each f hs)
 
-stands-covers : {p : Path} {ps : List Path} → Stands p ps → Some (λ q. Covers p q) ps
+stands-covers : {p : Path} {ps : List Path} → Stands p ps → Some (λ q. StandsAs p q) ps
 stands-covers {p} =
     some-each (λ q e.
     record { steps-same = ap (λ (r : Path). r .steps) e; test-same = ap (λ (r : Path). r .test) e; marked-too = λ m. rw e m })
 
-within-by : (ns ws : List Path) → ((p : Path) → Stands p ns → Some (λ q. Covers p q) ws) → Within ns ws
+within-by : (ns ws : List Path) → ((p : Path) → Stands p ns → Some (λ q. StandsAs p q) ws) → Within ns ws
 within-by [] ws f = none
 within-by (p ∷ ns) ws f = more (f p (this refl)) (within-by ns ws (λ q s. f q (later s)))
 
 within-put : (p : Path) (xs ys : List Path) → Within (xs ++ ys) (xs ++ p ∷ ys)
 within-put p xs ys = within-by (xs ++ ys) (xs ++ p ∷ ys) (λ r s. stands-covers (some-put _ p xs ys s))
 
-put-within : (p : Path) (xs ys : List Path) → Some (λ q. Covers p q) (xs ++ ys) → Within (xs ++ p ∷ ys) (xs ++ ys)
+put-within : (p : Path) (xs ys : List Path) → Some (λ q. StandsAs p q) (xs ++ ys) → Within (xs ++ p ∷ ys) (xs ++ ys)
 put-within p xs ys c = within-by (xs ++ p ∷ ys) (xs ++ ys) (λ r s. go r (some-taken _ p xs ys s))
   where
-    go : (r : Path) → (p ≡ r) ⊎ Stands r (xs ++ ys) → Some (λ q. Covers r q) (xs ++ ys)
+    go : (r : Path) → (p ≡ r) ⊎ Stands r (xs ++ ys) → Some (λ q. StandsAs r q) (xs ++ ys)
     go r (inl e) = rw e at c
     go r (inr s) = stands-covers s
 
@@ -130,7 +130,7 @@ pub repeated-verdict : (xs ys : List Path) (p : Path) → Stands p (xs ++ ys) �
 repeated-verdict xs ys p s = same-verdict (xs ++ p ∷ ys) (xs ++ ys) (put-within p xs ys (stands-covers s)) (within-put p xs ys)
 
 -- whether a path is good does not hang on its mark
-good-covered : {p : Path} {ps : List Path} → Some (λ q. Covers p q) ps → All Good ps → Good p
+good-covered : {p : Path} {ps : List Path} → Some (λ q. StandsAs p q) ps → All Good ps → Good p
 good-covered (this c) (more g gs) =
     record {
       path =
@@ -164,7 +164,7 @@ prints-put p (z ∷ xs) ys =
 
 -- the lines of the sound list are those of `xs` and then those of `ys`; between them a line is put that one of them covers
 module _ (list : List ℕ) (xs ys : List Path) (p : Path) (accepted : listAnswer list ≡ Sound) (lines : listPaths list ≡ xs ++ ys)
-    (covered : Some (λ q. Covers p q) (xs ++ ys)) where
+    (covered : Some (λ q. StandsAs p q) (xs ++ ys)) where
   all-good : All Good (xs ++ p ∷ ys)
   all-good =
       let g : All Good (xs ++ ys) = rw lines at (paths-print list accepted .1) in

@@ -5,3 +5,4 @@ pub mod Plainly
 pub mod OneAnswer
 pub mod Batching
 pub mod PackingNumbers
+pub mod CoverNumbers

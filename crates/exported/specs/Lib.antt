@@ -4,3 +4,4 @@ pub mod Numbers
 pub mod Plain
 pub mod Batch
 pub mod Packing
+pub mod Covers

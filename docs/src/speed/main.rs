@@ -5,6 +5,8 @@
 #[cfg(characters)]
 mod characters;
 #[cfg(cut)]
+mod covering;
+#[cfg(cut)]
 mod cutting;
 #[cfg(all(cut, expat))]
 mod expat;
@@ -63,6 +65,7 @@ fn main() {
         let mut figures = figures::Figures::default();
         cutting::measure(&mut figures);
         further::measure(&mut figures);
+        covering::measure();
         figures.write();
     }
 }
