@@ -12,6 +12,7 @@
 // shown.
 mod batch;
 mod big;
+mod covers;
 mod fuzz;
 #[path = "../speed/gazetteer.rs"]
 mod gazetteer;
@@ -32,7 +33,8 @@ use vectors::suite::verdicts;
 
 /// The other calls: the name, a run on all its cases, and one on so many of its generator from a seed.
 type Trial = (&'static str, fn(), fn(usize, u64));
-const CALLS: &[Trial] = &[("batch", batch::packs, batch::fuzz), ("packed", packed::packs, packed::fuzz)];
+const CALLS: &[Trial] =
+    &[("batch", batch::packs, batch::fuzz), ("packed", packed::packs, packed::fuzz), ("covers", covers::packs, covers::fuzz)];
 
 fn main() {
     let args: Vec<String> = std::env::args().skip(1).collect();
