@@ -3,7 +3,7 @@
 //! characters in `chars`, the productions in `declaration`, `markup`, `reference` and `tag` over `reader`, the items in
 //! `items`, their faults in `faults`, the tree in `tree` and `document`, the choice of places in `select`, the name tests in
 //! `tried`, what an attribute's value means in `value`, the bytes in `write`, what the program prints in `program`.
-//! The other calls of document 02 are in files of their own: Q-2 in `batch`, Q-7 in `packed`, Q-12 in `covers`.
+//! The other calls of document 02 are in files of their own: Q-2 in `batch`, Q-7 in `packed`, Q-12 in `covers`, Q-11 in `mend`.
 
 mod batch;
 mod chars;
@@ -15,6 +15,7 @@ mod items;
 mod limits;
 mod list;
 mod markup;
+mod mend;
 mod packed;
 pub mod program;
 mod reader;
@@ -31,6 +32,7 @@ mod write;
 
 pub use batch::batch;
 pub use covers::covers;
+pub use mend::mend;
 pub use packed::{pack, unpack};
 
 /// Document 01's answer: the number, the second number and the third; and as the fourth, how many name tests were tried, which

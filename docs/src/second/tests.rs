@@ -15,6 +15,7 @@ mod limits;
 mod list_sizes;
 mod lists;
 mod markup;
+mod mend;
 mod name_tests;
 mod names;
 mod order;

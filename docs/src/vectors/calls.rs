@@ -7,6 +7,7 @@ use crate::batch::BATCH;
 use crate::covers::COVERS;
 use crate::crc::crc32;
 use crate::made::{Case, Random};
+use crate::mend::MEND;
 use crate::packed::{PACK, UNPACK};
 
 /// A call, and all that it is tried on.
@@ -24,7 +25,7 @@ pub struct Call {
 }
 
 /// Every call that has cases.
-pub const CALLS: &[&Call] = &[&BATCH, &PACK, &UNPACK, &COVERS];
+pub const CALLS: &[&Call] = &[&BATCH, &PACK, &UNPACK, &COVERS, &MEND];
 
 /// A case, and by hand: its numbers, and the bytes written under 0.
 #[derive(Clone)]

@@ -8,6 +8,7 @@ pub mod calls;
 pub mod covers;
 pub mod crc;
 pub mod made;
+pub mod mend;
 pub mod pack;
 pub mod packed;
 pub mod suite;
