@@ -1,0 +1,5 @@
+-- Definitions, in the order to read them: what is kept of a document; the mended document;
+-- what is answered, and what stands in the buffer afterwards.
+pub mod Kept
+pub mod Mended
+pub mod Answer

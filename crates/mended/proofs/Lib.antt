@@ -1,0 +1,2 @@
+-- What document 02 promises of mending.
+pub mod Examples
