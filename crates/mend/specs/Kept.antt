@@ -6,7 +6,7 @@
 --     <g><n>Aar     <g><n>     the text touches the end, and n and g are open
 --     <g>Aar<n      <g>Aar     the text is whole, and `<n` is at fault
 --     <g/> x        <g/>       ` x` is at fault outside the root, and nothing is open
-use mathlib.Core.Bool.{Bool, true, false, _&&_}
+use mathlib.Core.Bool.{Bool, true, false, cond, not, _&&_}
 use mathlib.Core.List.{List}
 use Prim.Native.Nat.{ℕ, zero, suc}
 use lib.Dec.{leb}
@@ -55,12 +55,15 @@ halved d Malformed s = false
 halved d TooLarge s = false
 halved d Nothing s = false
 
+-- an item is kept that may stand where it stands, and is no such text
+abbrev pub stays : Placement → Bool → Bool
+stays Fine half = not half
+stays (Fault why) half = false
+stays Over half = false
+
 -- by what is said of an item at a place: `here` keeps what stands before it, `next` goes on after it
 abbrev pub keptBy : Placement → Bool → Kept → Kept → Kept
-keptBy Fine true here next = here
-keptBy Fine false here next = next
-keptBy (Fault why) half here next = here
-keptBy Over half here next = here
+keptBy p half here next = cond (stays p half) next here
 
 -- item by item; the first number is more than the items there can be
 unfoldable pub keptFrom : ℕ → List ℕ → ℕ → Bool → Opened → Kept
