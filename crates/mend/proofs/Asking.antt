@@ -1,7 +1,7 @@
 -- What the code asks: whether an item is a text that touches the end with an element open, `halved`;
 -- how many bytes at the front are characters, `readable_end`.
 use mathlib.Core.Path.{_≡_, refl, sym, ap, _∙_}
-use mathlib.Core.Bool.{Bool, false, _&&_}
+use mathlib.Core.Bool.{false, _&&_}
 use mathlib.Core.List.{List, [], _∷_}
 use Prim.Native.Nat.{ℕ, _≤_}
 use native.Mathlib.Omega.{arith}

@@ -31,7 +31,7 @@ use Rattle.mend.specs.Mended.{mendedBy}
 use Rattle.mend.specs.Answer.{byRoot, byRoom, answerBy, after}
 use Rattle.mend.specs.declared.Answer.{Answer}
 use Rattle.mend.specs.declared.Answer.the-variants.{NoRoot}
-use Rattle.mend.proofs.Laying.{keptHere, not-true, not-false}
+use Rattle.mend.proofs.Laying.{keptHere, not-false}
 
 -- ---- an item and a level
 

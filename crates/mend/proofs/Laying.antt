@@ -3,7 +3,7 @@
 use mathlib.Core.Path.{_≡_, refl, sym, ap, _∙_}
 use mathlib.Core.Bool.{Bool, true, false, not, false≢true}
 use mathlib.Core.List.{List, _++_}
-use Prim.Native.Nat.{ℕ, _+_, _-_, _≤_, _<_}
+use Prim.Native.Nat.{ℕ, _-_, _≤_, _<_}
 use native.Mathlib.Omega.{arith}
 use borrow.Author.Needs.{needs}
 use borrow.Author.Tests.{lt-ltb, le-ltb}
@@ -16,7 +16,7 @@ use Rattle.writer.specs.Wrote.{Wrote}
 use Rattle.writer.proofs.Laying.{wrote-more, laid-whole}
 use Rattle.mend.specs.Kept.{Kept}
 use Rattle.mend.specs.Mended.{endTags, mendedBy}
-use Rattle.mend.specs.Answer.{answerBy, after}
+use Rattle.mend.specs.Answer.{answerBy}
 use Rattle.mend.specs.declared.Answer.the-variants.{Mended, NoRoot, Short}
 
 -- a test that is turned round

@@ -1,1 +1,2 @@
--- Definitions.
+-- Definition: what is kept, in the grammar's words.
+pub mod Meaning

@@ -1,0 +1,260 @@
+-- Document 02's promises, of calls: `answerOf d room` is what is handed back, `bytesAfter d o` the buffer after. In order: what is written
+-- and what is reported; a buffer that is left alone; "A sound document comes back unchanged with 0 added"; "the result is always accepted
+-- by the filter if it is within the document size"; mending a mended document changes nothing; when each refusal is given.
+use mathlib.Core.Path.{_≡_, refl, sym, ap, _∙_}
+use mathlib.Core.Bool.{Bool, true, false, cond, false≢true}
+use mathlib.Core.List.{List, _++_}
+use Prim.Native.Nat.{ℕ, _+_, _≤_, _<_}
+use native.Mathlib.Omega.{arith}
+use borrow.Author.Tests.{lt-ltb, le-ltb, ltb-true, ltb-false}
+use lib.Dec.{ltb}
+use lib.ListN.{length, take, drop, length-append}
+use lib.Seq.{take-at, length-take-le}
+use Rattle.xml.specs.Encoding.{NamesOther}
+use Rattle.readers.specs.Meaning.{Chars}
+use Rattle.readers.specs.Named.{otherEncoding}
+use Rattle.readers.proofs.Encoding.{other-iff}
+use Rattle.paths.specs.Judge.{listAnswer}
+use Rattle.paths.specs.declared.ListAnswer.the-variants as lists
+use Rattle.document.specs.Judge.{startOf, scanned, judgeOf, secondOf}
+use Rattle.document.specs.declared.Why.{Why}
+use Rattle.document.specs.declared.judge.Judged.the-variants.{Sound}
+use Rattle.trees.specs.Written.{cutOf, countOf, testsOf}
+use Rattle.cutter.specs.Answer as cutter
+use Rattle.cutter.specs.declared.Answer.the-variants.{Written}
+use Rattle.demands.specs.Reached.{FirstFault}
+use Rattle.demands.proofs.First.{none-named, sound-scanned}
+use Rattle.demands.proofs.Faults.{fault-scanned}
+use Rattle.mend.specs.Kept.{readable, keptOf}
+use Rattle.mend.specs.Mended.{endTags, bytesKept, missing, rootKept, tagsAdded, mendedOf}
+use Rattle.mend.specs.Answer.{numberOf, faultAt, byRoot, answerOf, after, bytesAfter}
+use Rattle.mend.specs.declared.Answer.{Answer}
+use Rattle.mend.specs.declared.Answer.the-variants.{Mended, TooLong, OtherEncoding, NoRoot, Short}
+use Rattle.mended.specs.Meaning.{Ends, fault, over, half}
+use Rattle.mended.proofs.Accepted.{readable-chars, mended-sound}
+use Rattle.mended.proofs.Unchanged.{sound-unchanged}
+use Rattle.mended.proofs.Told.{within-open, kept-keeps, kept-rooting, kept-first}
+
+-- ---- what is written
+
+-- a document that is refused neither by 4 nor by 10
+pub record Taken (d : List ℕ) : Type 0 where
+  pub size : length d ≤ 16777216
+  pub utf8 : otherEncoding (drop (startOf d) d) ≡ false
+
+pub record Wrote (d : List ℕ) (room n k a : ℕ) : Type 0 where
+  pub taken : Taken d
+  pub rooted : rootKept d ≡ true
+  pub length-is : n ≡ length (mendedOf d)
+  pub kept-is : k ≡ bytesKept d
+  pub added-is : a ≡ tagsAdded d
+  pub fits : n ≤ room
+
+-- by the tests that answerOf makes
+abbrev byTests : Bool → Bool → Bool → Bool → List ℕ → ℕ → Answer
+byTests long other rooted short d room =
+    cond long TooLong
+    (cond other (OtherEncoding (startOf d))
+    (byRoot rooted (faultAt d) (cond short (Short (length (mendedOf d))) (Mended (length (mendedOf d)) (bytesKept d) (tagsAdded d)))))
+
+record Tested (d : List ℕ) (room : ℕ) (a : Answer) : Type 0 where
+  long : Bool
+  other : Bool
+  rooted : Bool
+  short : Bool
+  long-is : ltb 16777216 (length d) ≡ long
+  other-is : otherEncoding (drop (startOf d) d) ≡ other
+  rooted-is : rootKept d ≡ rooted
+  short-is : ltb room (length (mendedOf d)) ≡ short
+  answer-is : byTests long other rooted short d room ≡ a
+
+tested : (d : List ℕ) (room : ℕ) → Tested d room (answerOf d room)
+unfolding answerOf rootKept mendedOf bytesKept missing tagsAdded
+tested d room =
+    record {
+      long = _;
+      other = _;
+      rooted = _;
+      short = _;
+      long-is = refl;
+      other-is = refl;
+      rooted-is = refl;
+      short-is = refl;
+      answer-is = refl;
+    }
+
+pub mended-wrote : (d : List ℕ) (room n k a : ℕ) → answerOf d room ≡ Mended n k a → Wrote d room n k a
+mended-wrote d room n k a e =
+    let t = tested d room in
+    go (t .long) (t .other) (t .rooted) (t .short) (t .long-is) (t .other-is) (t .rooted-is) (t .short-is) (t .answer-is ∙ e)
+  where
+    go : (l o r s : Bool) → ltb 16777216 (length d) ≡ l → otherEncoding (drop (startOf d) d) ≡ o → rootKept d ≡ r
+        → ltb room (length (mendedOf d)) ≡ s → byTests l o r s d room ≡ Mended n k a → Wrote d room n k a
+    go true o r s p u q v e = absurd (false≢true cc)
+    go false true r s p u q v e = absurd (false≢true cc)
+    go false false false s p u q v e = absurd (false≢true cc)
+    go false false true true p u q v e = absurd (false≢true cc)
+    go false false true false p u q v e =
+        let l = ltb-false room (length (mendedOf d)) v in
+        let z : n ≡ length (mendedOf d) = cc in
+        record {
+          taken = record { size = ltb-false 16777216 (length d) p; utf8 = u };
+          rooted = q;
+          length-is = z;
+          kept-is = cc;
+          added-is = cc;
+          fits = omega arith;
+        }
+
+-- the length is that of the bytes kept and of the end tags added
+pub mended-length : (d : List ℕ) → length (mendedOf d) ≡ bytesKept d + length (endTags (missing d))
+unfolding mendedOf bytesKept missing
+mended-length d =
+    let (l, e) = kept-first d in
+    length-append (take (bytesKept d) (readable d)) (endTags (missing d))
+    ∙ ap (λ (k : ℕ). k + length (endTags (missing d))) (ap length e ∙ length-take-le (bytesKept d) d l)
+
+-- ---- the buffer
+
+-- "on any other number the whole output" stays
+pub untouched : (d o : List ℕ) → (numberOf (answerOf d (length o)) ≡ 0 → ⊥) → bytesAfter d o ≡ o
+unfolding bytesAfter
+untouched d o = go (answerOf d (length o))
+  where
+    go : (a : Answer) → (numberOf a ≡ 0 → ⊥) → after a (mendedOf d) o ≡ o
+    go (Mended n k a) h = absurd (h refl)
+    go TooLong h = refl
+    go (OtherEncoding n) h = refl
+    go (NoRoot f) h = refl
+    go (Short n) h = refl
+
+-- the mended document stands at the front of the buffer, and the bytes after it stay
+pub written-first : (d o : List ℕ) (n k a : ℕ) → answerOf d (length o) ≡ Mended n k a
+    → (bytesAfter d o ≡ mendedOf d ++ drop n o) × (take n (bytesAfter d o) ≡ mendedOf d)
+unfolding bytesAfter
+written-first d o n k a e =
+    rw e (refl, take-at (mendedOf d) (drop n o) n (sym (mended-wrote d (length o) n k a e .length-is)))
+
+-- ---- "A sound document comes back unchanged with 0 added"
+
+pub sound-back : (d : List ℕ) (room : ℕ) → judgeOf d ≡ Sound → length d ≤ room → answerOf d room ≡ Mended (length d) (length d) 0
+sound-back d room e l =
+    let t = tested d room in
+    let u = sound-unchanged d e in
+    let (s, n, c, x) = sound-scanned d e in
+    let z : t .long ≡ false = sym (t .long-is) ∙ le-ltb 16777216 (length d) s in
+    let y : t .other ≡ false = sym (t .other-is) ∙ none-named (drop (startOf d) d) n in
+    let r : t .rooted ≡ true = sym (t .rooted-is) ∙ u .rooted in
+    let w : t .short ≡ false = sym (t .short-is) ∙ rw (u .same) (le-ltb room (length d) l) in
+    sym (t .answer-is) ∙ rw (z, y, r, w, u .same, u .kept, u .added) refl
+
+pub sound-comes-back : (d o : List ℕ) → judgeOf d ≡ Sound → length d ≤ length o
+    → (answerOf d (length o) ≡ Mended (length d) (length d) 0) × (bytesAfter d o ≡ d ++ drop (length d) o)
+sound-comes-back d o e l =
+    let a = sound-back d (length o) e l in
+    (a, written-first d o (length d) (length d) 0 a .0 ∙ ap (λ (w : List ℕ). w ++ drop (length d) o) (sound-unchanged d e .same))
+
+-- ---- "the result is always accepted by the filter if it is within the document size"
+
+module _ (d o : List ℕ) (n k a : ℕ) (e : answerOf d (length o) ≡ Mended n k a) (size : n ≤ 16777216) where
+  abbrev result : List ℕ
+  result = take n (bytesAfter d o)
+
+  result-is : result ≡ mendedOf d
+  result-is = written-first d o n k a e .1
+
+  pub result-sound : judgeOf result ≡ Sound
+  result-sound =
+      let w = mended-wrote d (length o) n k a e in
+      let l : length (mendedOf d) ≤ 16777216 = rw (← w .length-is) size in
+      rw result-is (mended-sound d (w .taken .utf8) (w .rooted) l)
+
+  -- so the filter cuts it by every sound list
+  pub result-cut : (list : List ℕ) (room : ℕ) → listAnswer list ≡ lists.Sound → length (cutOf list result) ≤ room
+      → cutter.answerOf list result room ≡ Written (length (cutOf list result)) (countOf list result) (testsOf list result)
+  unfolding cutter.answerOf
+  result-cut list room p l = rw (p, result-sound, le-ltb room (length (cutOf list result)) l) refl
+
+  -- ---- mending a mended document changes nothing
+
+  result-length : length result ≡ n
+  result-length = ap length result-is ∙ sym (mended-wrote d (length o) n k a e .length-is)
+
+  pub mended-again : (o′ : List ℕ) → n ≤ length o′
+      → (answerOf result (length o′) ≡ Mended n n 0) × (bytesAfter result o′ ≡ result ++ drop n o′)
+  mended-again o′ l =
+      let z : length result ≤ length o′ = rw (← result-length) at l in
+      rw result-length at (sound-comes-back result o′ result-sound z)
+
+-- ---- "Refusals: 4; then 10; then 12 .. if no root tag was kept; then 9"
+
+-- what each answer says, in this order; `first` is the fault "then found"
+pub data Says (d : List ℕ) (room : ℕ) : Answer → Type 0 where
+  too-long : 16777216 < length d → Says d room TooLong
+  other : length d ≤ 16777216 → NamesOther (drop (startOf d) d) → Says d room (OtherEncoding (startOf d))
+  no-root : {why : Why} {f : ℕ} → Taken d → rootKept d ≡ false → FirstFault (readable d) why f → Says d room (NoRoot f)
+  short : Taken d → rootKept d ≡ true → room < length (mendedOf d) → Says d room (Short (length (mendedOf d)))
+  mended : Taken d → rootKept d ≡ true → length (mendedOf d) ≤ room → Says d room (Mended (length (mendedOf d)) (bytesKept d) (tagsAdded d))
+
+-- where no root tag is kept, the first fault is where the kept bytes end: nothing is open, so no text was dropped
+rootless-fault : (r : List ℕ) → Chars r → keptOf r .opened .rooted ≡ false → (why : Why) × FirstFault r why (secondOf (scanned r))
+rootless-fault r c q = go (kept-keeps r c .ends)
+  where
+    go : Ends r (keptOf r) (kept-keeps r c .last) → (why : Why) × FirstFault r why (secondOf (scanned r))
+    go (fault w i s m) =
+        let x = kept-keeps r c in
+        let f : FirstFault r w (keptOf r .bytes)
+        = record { first = x .last; opened = keptOf r .opened; reached = x .reached; item = i; says = s; fault = m } in
+        (w, rw (ap secondOf (fault-scanned r c f)) f)
+    go (over s m) = absurd (false≢true (sym q ∙ m .1))
+    go (half t w) = absurd (false≢true (sym q ∙ kept-rooting r (within-open (keptOf r .opened) w)))
+
+pub answer-says : (d : List ℕ) (room : ℕ) → Says d room (answerOf d room)
+unfolding faultAt rootKept
+answer-says d room =
+    let t = tested d room in
+    rw (← t .answer-is)
+    (go (t .long) (t .other) (t .rooted) (t .short) (t .long-is) (t .other-is) (t .rooted-is) (t .short-is))
+  where
+    go : (l o r s : Bool) → ltb 16777216 (length d) ≡ l → otherEncoding (drop (startOf d) d) ≡ o → rootKept d ≡ r
+        → ltb room (length (mendedOf d)) ≡ s → Says d room (byTests l o r s d room)
+    go true o r s p u q v = too-long (ltb-true 16777216 (length d) p)
+    go false true r s p u q v = other (ltb-false 16777216 (length d) p) (other-iff (drop (startOf d) d) .0 u)
+    go false false false s p u q v =
+        no-root (record { size = ltb-false 16777216 (length d) p; utf8 = u }) q
+        (rootless-fault (readable d) (readable-chars d) q .1)
+    go false false true true p u q v =
+        short (record { size = ltb-false 16777216 (length d) p; utf8 = u }) q (ltb-true room (length (mendedOf d)) v)
+    go false false true false p u q v =
+        mended (record { size = ltb-false 16777216 (length d) p; utf8 = u }) q (ltb-false room (length (mendedOf d)) v)
+
+-- and no other answer says so
+pub says-answer : (d : List ℕ) (room : ℕ) (a : Answer) → Says d room a → a ≡ answerOf d room
+unfolding faultAt
+says-answer d room a x = go a x ∙ t .answer-is
+  where
+    t : Tested d room (answerOf d room)
+    t = tested d room
+
+    small : length d ≤ 16777216 → t .long ≡ false
+    small l = sym (t .long-is) ∙ le-ltb 16777216 (length d) l
+
+    taken : Taken d → (t .long ≡ false) × (t .other ≡ false)
+    taken y = (small (y .size), sym (t .other-is) ∙ y .utf8)
+
+    go : (a : Answer) → Says d room a → a ≡ byTests (t .long) (t .other) (t .rooted) (t .short) d room
+    go TooLong (too-long l) = let z : t .long ≡ true = sym (t .long-is) ∙ lt-ltb 16777216 (length d) l in rw z refl
+    go (OtherEncoding o) (other l n) =
+        let z : t .other ≡ true = sym (t .other-is) ∙ other-iff (drop (startOf d) d) .1 n in
+        rw (small l, z) refl
+    go (NoRoot f) (no-root y q h) =
+        let r : t .rooted ≡ false = sym (t .rooted-is) ∙ q in
+        rw (taken y .0, taken y .1, r) (ap NoRoot (sym (ap secondOf (fault-scanned (readable d) (readable-chars d) h))))
+    go (Short n) (short y q l) =
+        let r : t .rooted ≡ true = sym (t .rooted-is) ∙ q in
+        let w : t .short ≡ true = sym (t .short-is) ∙ lt-ltb room (length (mendedOf d)) l in
+        rw (taken y .0, taken y .1, r, w) refl
+    go (Mended n k b) (mended y q l) =
+        let r : t .rooted ≡ true = sym (t .rooted-is) ∙ q in
+        let w : t .short ≡ false = sym (t .short-is) ∙ le-ltb room (length (mendedOf d)) l in
+        rw (taken y .0, taken y .1, r, w) refl
