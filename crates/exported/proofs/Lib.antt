@@ -1,4 +1,5 @@
 -- Laws:
--- the number for each case, and one answer.
+-- the number for each case, and one answer. Then mending.
 pub mod Numbering
 pub mod OneAnswer
+pub mod Mended

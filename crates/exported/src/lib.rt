@@ -12,6 +12,8 @@ use document::Why;
 use document::judge::Judged;
 use document::judge::judge;
 
+pub mod mending; // a document that stops half way
+
 // The number, the second and the third.
 #[repr(C)]
 pub struct Numbers {

@@ -4,7 +4,7 @@
 //     <g><n>Aar       kept 6, level 2     starts  1  4     lens  1  1
 //     <g><n></n></g>  the end tag of level 2, then that of level 1
 ghost use mathlib.Core.Path.{_≡_};
-ghost use Prim.Native.Nat.{_+_, _*_, _≤_, _<_};
+ghost use Prim.Native.Nat.{_≤_};
 ghost use lib.ListN.{length};
 ghost use Rattle.document.specs.Levels.{Names, namesOf, openedOf};
 ghost use Rattle.writer.specs.Wrote.{Wrote};
