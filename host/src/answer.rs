@@ -15,7 +15,7 @@ pub struct Written {
     pub name_tests: u64,
 }
 
-/// Answers 1 to 10. A line counts from 1, an offset from 0.
+/// Answers 1 to 10 and 12. A line counts from 1, an offset from 0.
 #[derive(Clone, Copy, PartialEq, Eq, Debug)]
 pub enum Refusal {
     /// 1: the list has over 8,192 bytes.
@@ -38,10 +38,12 @@ pub enum Refusal {
     Short { needed: u64 },
     /// 10: the declaration names another encoding than UTF-8. It is looked at after 4 and before 5.
     OtherEncoding { offset: u64 },
+    /// 12, of mending alone: no root tag is kept. The offset is that of the first fault.
+    NoRoot { offset: u64 },
 }
 
 impl FourNumbers {
-    /// The answer that the numbers stand for. Panics on a number over 10, which the library never gives.
+    /// The answer that the numbers stand for. Panics on a number that the library never gives.
     pub fn answer(self) -> Result<Written, Refusal> {
         let written = Written { length: self.second, selected: self.third, name_tests: self.fourth };
         Refusal::of(self.number, self.second).map_or(Ok(written), Err)
@@ -49,7 +51,7 @@ impl FourNumbers {
 }
 
 impl Refusal {
-    /// The refusal that a number and the second one stand for; under 0 there is none. Panics on a number over 10.
+    /// The refusal that a number and the second one stand for; under 0 there is none. Panics on another number.
     pub(crate) fn of(number: u64, second: u64) -> Option<Refusal> {
         Some(match number {
             0 => return None,
@@ -63,11 +65,12 @@ impl Refusal {
             8 => Refusal::OverSize { offset: second },
             9 => Refusal::Short { needed: second },
             10 => Refusal::OtherEncoding { offset: second },
+            12 => Refusal::NoRoot { offset: second },
             number => panic!("{number} is no answer of the library"),
         })
     }
 
-    /// The number, 1 to 10.
+    /// The number, 1 to 10 or 12.
     pub fn number(self) -> u64 {
         match self {
             Refusal::ListTooLong => 1,
@@ -80,6 +83,7 @@ impl Refusal {
             Refusal::OverSize { .. } => 8,
             Refusal::Short { .. } => 9,
             Refusal::OtherEncoding { .. } => 10,
+            Refusal::NoRoot { .. } => 12,
         }
     }
 
@@ -96,6 +100,7 @@ impl Refusal {
             Refusal::OverSize { .. } => "over a size",
             Refusal::Short { .. } => "output shorter than the cut",
             Refusal::OtherEncoding { .. } => "another encoding",
+            Refusal::NoRoot { .. } => "no root tag kept",
         }
     }
 
@@ -107,12 +112,12 @@ impl Refusal {
         }
     }
 
-    /// The offset in the document at fault, under 5 to 8 and 10.
+    /// The offset in the document at fault, under 5 to 8, 10 and 12.
     pub fn offset(self) -> Option<u64> {
         match self {
             Refusal::NotCharacter { offset } | Refusal::DocumentType { offset } => Some(offset),
             Refusal::NotWellFormed { offset } | Refusal::OverSize { offset } => Some(offset),
-            Refusal::OtherEncoding { offset } => Some(offset),
+            Refusal::OtherEncoding { offset } | Refusal::NoRoot { offset } => Some(offset),
             _ => None,
         }
     }
@@ -145,7 +150,7 @@ mod tests {
 
     #[test]
     fn numbers_come_back_as_they_were() {
-        for number in 1..=10 {
+        for number in [1, 2, 3, 4, 5, 6, 7, 8, 9, 10, 12] {
             let second = if number == 1 || number == 4 { 0 } else { 12 };
             let refusal = FourNumbers { number, second, third: 0, fourth: 0 }.answer().unwrap_err();
             assert_eq!((refusal.number(), refusal.second()), (number, second));

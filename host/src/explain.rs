@@ -1,11 +1,11 @@
-//! What each number means and what to do about it: the answers 0 to 10, and the exit statuses from 64 on.
+//! What each number means and what to do about it: the answers 0 to 10 and 12, and the exit statuses from 64 on.
 
 /// The text on a number, as it is written on the command line.
 pub fn text(number: &[u8]) -> Option<&'static str> {
     TEXTS.iter().find(|(name, _)| name.as_bytes() == number).map(|&(_, text)| text)
 }
 
-const TEXTS: [(&str, &str); 15] = [
+const TEXTS: [(&str, &str); 16] = [
     ("0", ZERO),
     ("1", ONE),
     ("2", TWO),
@@ -17,6 +17,7 @@ const TEXTS: [(&str, &str); 15] = [
     ("8", EIGHT),
     ("9", NINE),
     ("10", TEN),
+    ("12", TWELVE),
     ("64", USAGE),
     ("66", NO_INPUT),
     ("73", CANT_CREATE),
@@ -28,7 +29,8 @@ const ZERO: &str = "\
 the list selects, those inside a kept entry too. The fourth is how many name tests were
 tried: one for each element and each step of each line that could stand there after the
 steps before it. It is at most elements times steps.
-Under `check` 0 says that the document is sound; the other numbers are 0.
+Under `check` 0 says that the document is sound; the other numbers are 0. Under `mend` the
+third is how many bytes are kept, the fourth how many end tags are added.
 ";
 
 const ONE: &str = "\
@@ -98,6 +100,14 @@ Convert it so that its declaration says UTF-8 too: xmllint --encode UTF-8 does b
 iconv leaves the declaration as it is: then write UTF-8 there, or take the encoding out.
 Do only that where the bytes are UTF-8 already and the declaration alone is wrong, as
 they seem to be behind a byte order mark.
+";
+
+const TWELVE: &str = "\
+12: of mending alone: no root tag is kept, so there is nothing to mend; the second number
+is the offset of the first fault. What follows a bad sequence is cut off first, and then
+the offset is that of the fault found in what is left, at most its length.
+The document stops before its root is whole, or something else stands before the root:
+see that it is the right file, or send for it again.
 ";
 
 const USAGE: &str = "\

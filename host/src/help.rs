@@ -7,6 +7,8 @@ choughbell cuts XML by a list of paths, by a filter that is proved.
 
   choughbell cut -l LIST [DOCUMENT] [-o OUTPUT]   the cut of a document by a list
   choughbell check [DOCUMENT]                     whether a document would be taken
+  choughbell mend [DOCUMENT] [-o OUTPUT]          what is whole of one that stops half way,
+                                                  and the end tags that are missing
   choughbell explain NUMBER                       what an answer or an exit status means
 
 A file that is not named, or named -, is the standard input or output.
@@ -16,18 +18,18 @@ A file that is not named, or named -, is the standard input or output.
                        then * or a name, again and again; behind the last of them perhaps
                        a test of an attribute, [@name=\"value\"]; one space and # at the end
                        keep the whole entry
-  -o, --output OUTPUT  is replaced when the cut is there, and else stays as it was
+  -o, --output OUTPUT  is replaced when all is there to write, and else stays as it was
       --count          print only: kept, the elements selected, the length of the cut; and
                        on a second line: name tests, how many were tried
   -q, --quiet          no message, only the exit status
       --json           print the numbers as one line of JSON, on the standard output, or on
-                       the standard error where the cut goes to the other
+                       the standard error where the document goes to the other
   -h, --help           this text
       --version        the version
       --               what follows is no option
 
 Exit status: 0 written, or sound; 1 to 3 the list is refused, 4 to 8 and 10 the document;
-64 wrong usage; 66 no input; 73 no output; 74 reading or writing failed.
+12 no root tag to mend; 64 wrong usage; 66 no input; 73 no output; 74 reading or writing failed.
 
 For example, with `//commune/hamlet #` and `//place[@type=\"village\"]` as lines of atlas.lst:
 

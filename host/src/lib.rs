@@ -1,5 +1,5 @@
 //! The proved filter, for callers in Rust: functions on byte slices. `cut` writes into a lent buffer, as the library does; `cut_of` brings
-//! a buffer of its own; `check` judges a document alone.
+//! a buffer of its own; `check` judges a document alone; `mend` and `mend_of` keep what is whole of one that stops half way.
 //!
 //! The static library comes from Rattle. Its contract asks nothing of the lists and documents that it is given, and says of every byte of
 //! the buffer what it is afterwards. What a caller of the library's own function owes is that the buffer overlaps neither the list nor the
@@ -15,15 +15,17 @@
 //! ```
 
 mod answer;
+mod mending;
 
 pub use answer::{Refusal, Written};
+pub use mending::{mend, mend_of, Mended, MENDED_MORE};
 
 /// A longer list is answer 1.
 pub const LIST_LIMIT: usize = 8_192;
 /// A longer document is answer 4.
 pub const DOCUMENT_LIMIT: usize = 16_777_216;
 
-/// The numbers that a cut hands back: which answer it is, and what goes with it.
+/// The numbers that a cut hands back: which answer it is, and what goes with it. Of mending they are other ones: see `mend`.
 #[repr(C)]
 #[derive(Clone, Copy, PartialEq, Eq, Debug)]
 pub struct FourNumbers {

@@ -9,6 +9,7 @@ mod help;
 mod hints;
 mod input;
 mod json;
+mod mend;
 mod names;
 mod outline;
 mod output;
@@ -33,7 +34,7 @@ fn main() -> ExitCode {
             return ExitCode::from(trouble::USAGE);
         }
     };
-    let quiet = matches!(&request, Request::Task(task) if task.quiet);
+    let quiet = matches!(&request, Request::Task(task) if task.quiet) || matches!(&request, Request::Mend(task) if task.quiet);
     match answer(&request) {
         Ok(status) => ExitCode::from(status),
         Err(Trouble { status, message }) => {
@@ -49,6 +50,7 @@ fn main() -> ExitCode {
 fn answer(request: &Request) -> Result<u8, Trouble> {
     match request {
         Request::Task(task) => return task::run(task),
+        Request::Mend(task) => return mend::run(task),
         Request::Explain(text) => output::print(text)?,
         Request::Help => output::print(help::HELP)?,
         Request::Version => output::print(help::VERSION)?,

@@ -86,7 +86,11 @@ impl Report {
 
     /// The numbers and the place, as one line of JSON.
     pub fn json(&self) -> String {
-        let mut object = numbers(self.refusal.number(), self.refusal.second(), 0, 0, self.refusal.meaning());
+        self.placed(numbers(self.refusal.number(), self.refusal.second(), 0, 0, self.refusal.meaning()))
+    }
+
+    /// The place after other members.
+    pub fn placed(&self, mut object: Object) -> String {
         object.string("file", &self.file);
         match &self.place {
             Place::Whole => {}

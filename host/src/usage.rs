@@ -2,6 +2,7 @@
 //! bytes of any kind and stay as they are.
 use crate::explain;
 use crate::input::Source;
+use crate::mend::Mending;
 use crate::output::Sink;
 use crate::shown;
 use crate::task::Task;
@@ -11,6 +12,7 @@ use std::os::unix::ffi::{OsStrExt, OsStringExt};
 #[derive(PartialEq, Eq, Debug)]
 pub enum Request {
     Task(Task),
+    Mend(Mending),
     /// The text on a number.
     Explain(&'static str),
     Help,
@@ -31,18 +33,19 @@ struct Given {
 
 /// What the words ask for. The first is the command.
 pub fn read(mut words: impl Iterator<Item = OsString>) -> Result<Request, String> {
-    let command = words.next().ok_or("there is no command: it is cut, check or explain")?;
+    let command = words.next().ok_or("there is no command: it is cut, check, mend or explain")?;
     match command.as_bytes() {
         b"help" | b"--help" | b"-h" => return Ok(Request::Help),
         b"--version" | b"version" | b"-V" => return Ok(Request::Version),
-        b"cut" | b"check" | b"explain" => {}
-        _ => return Err(format!("there is no command {}: it is cut, check or explain", word(&command))),
+        b"cut" | b"check" | b"mend" | b"explain" => {}
+        _ => return Err(format!("there is no command {}: it is cut, check, mend or explain", word(&command))),
     }
     let given = given(words)?;
     match command.as_bytes() {
         _ if given.help => Ok(Request::Help),
         b"cut" => cut(given),
         b"check" => check(given),
+        b"mend" => mend(given),
         _ => explain(given),
     }
 }
@@ -137,7 +140,16 @@ fn check(given: Given) -> Result<Request, String> {
     Ok(Request::Task(Task { list: None, document, output: None, quiet: given.quiet, json: given.json }))
 }
 
-/// The document of either command, and what both ask of options.
+fn mend(given: Given) -> Result<Request, String> {
+    let document = document("mend", &given)?;
+    if given.list.is_some() || given.count {
+        return Err("mend takes no --list or --count".to_string());
+    }
+    let output = given.output.as_deref().map_or(Sink::Standard, Sink::named);
+    Ok(Request::Mend(Mending { document, output, quiet: given.quiet, json: given.json }))
+}
+
+/// The document of a command, and what all ask of options.
 fn document(command: &str, given: &Given) -> Result<Source, String> {
     if given.quiet && given.json {
         return Err("--quiet and --json don't go together".to_string());
@@ -156,7 +168,7 @@ fn explain(given: Given) -> Result<Request, String> {
     match given.names.as_slice() {
         [number] => match explain::text(number.as_bytes()) {
             Some(text) => Ok(Request::Explain(text)),
-            None => Err(format!("{} is no number that is explained: 0 to 10, 64, 66, 73 or 74", word(number))),
+            None => Err(format!("{} is no number that is explained: 0 to 10, 12, 64, 66, 73 or 74", word(number))),
         },
         _ => Err("explain wants one number".to_string()),
     }
