@@ -27,7 +27,7 @@ use Rattle.demands.proofs.First.{none-named, sound-scanned}
 use Rattle.demands.proofs.Faults.{fault-scanned}
 use Rattle.mend.specs.Kept.{readable, keptOf}
 use Rattle.mend.specs.Mended.{endTags, bytesKept, missing, rootKept, tagsAdded, mendedOf}
-use Rattle.mend.specs.Answer.{numberOf, faultAt, byRoot, answerOf, after, bytesAfter}
+use Rattle.mend.specs.Answer.{numberOf, keptNumber, addedNumber, faultAt, byRoot, answerOf, after, bytesAfter}
 use Rattle.mend.specs.declared.Answer.{Answer}
 use Rattle.mend.specs.declared.Answer.the-variants.{Mended, TooLong, OtherEncoding, NoRoot, Short}
 use Rattle.mended.specs.Meaning.{Ends, fault, over, half}
@@ -113,6 +113,14 @@ mended-length d =
     let (l, e) = kept-first d in
     length-append (take (bytesKept d) (readable d)) (endTags (missing d))
     ∙ ap (λ (k : ℕ). k + length (endTags (missing d))) (ap length e ∙ length-take-le (bytesKept d) d l)
+
+-- "otherwise the last two are 0"
+pub others-zero : (a : Answer) → (numberOf a ≡ 0 → ⊥) → (keptNumber a ≡ 0) × (addedNumber a ≡ 0)
+others-zero (Mended n k b) h = absurd (h refl)
+others-zero TooLong h = (refl, refl)
+others-zero (OtherEncoding o) h = (refl, refl)
+others-zero (NoRoot f) h = (refl, refl)
+others-zero (Short n) h = (refl, refl)
 
 -- ---- the buffer
 
