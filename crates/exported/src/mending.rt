@@ -1,4 +1,5 @@
-// Mending, for callers in Rust and C: document 02's four numbers.
+// Mending, for callers in Rust and C.
+// The answer is document 02's four numbers.
 ghost use mathlib.Core.Path.{_≡_};
 ghost use lib.ListN.{length};
 ghost use Rattle.mend.specs.Answer.{answerOf, bytesAfter};

@@ -1,4 +1,5 @@
-// Item by item up to the first fault, or to a text that touches the end with an element open. What stands before it is kept.
+// Item by item up to the first fault, or to a text that touches the end with an element open. What stands before it is kept,
+// and laid with the end tags that are missing.
 ghost use mathlib.Core.Path.{_≡_};
 ghost use Prim.Native.Nat.{_≤_};
 ghost use lib.ListN.{length};

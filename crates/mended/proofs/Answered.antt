@@ -10,7 +10,6 @@ use borrow.Author.Tests.{lt-ltb, le-ltb, ltb-true, ltb-false}
 use lib.Dec.{ltb}
 use lib.ListN.{length, take, drop, length-append}
 use lib.Seq.{take-at, length-take-le}
-use Rattle.xml.specs.Encoding.{NamesOther}
 use Rattle.readers.specs.Meaning.{Chars}
 use Rattle.readers.specs.Named.{otherEncoding}
 use Rattle.readers.proofs.Encoding.{other-iff}
@@ -23,27 +22,25 @@ use Rattle.trees.specs.Written.{cutOf, countOf, testsOf}
 use Rattle.cutter.specs.Answer as cutter
 use Rattle.cutter.specs.declared.Answer.the-variants.{Written}
 use Rattle.demands.specs.Reached.{FirstFault}
-use Rattle.demands.proofs.First.{none-named, sound-scanned}
+use Rattle.demands.proofs.First.{named-none, none-named, sound-scanned}
 use Rattle.demands.proofs.Faults.{fault-scanned}
-use Rattle.mend.specs.Kept.{readable, keptOf}
-use Rattle.mend.specs.Mended.{endTags, bytesKept, missing, rootKept, tagsAdded, mendedOf}
+use Rattle.mend.specs.Kept.{Kept, readable, keptOf}
+use Rattle.mend.specs.Mended.{endTags, mendedBy, bytesKept, missing, rootKept, tagsAdded, mendedOf}
 use Rattle.mend.specs.Answer.{numberOf, keptNumber, addedNumber, faultAt, byRoot, answerOf, after, bytesAfter}
 use Rattle.mend.specs.declared.Answer.{Answer}
 use Rattle.mend.specs.declared.Answer.the-variants.{Mended, TooLong, OtherEncoding, NoRoot, Short}
 use Rattle.mended.specs.Meaning.{Ends, fault, over, half}
+use Rattle.mended.specs.Answers.{Taken, Says, too-long, other-encoding, no-root, too-short, mended}
 use Rattle.mended.proofs.Accepted.{readable-chars, mended-sound}
 use Rattle.mended.proofs.Unchanged.{sound-unchanged}
 use Rattle.mended.proofs.Told.{within-open, kept-keeps, kept-rooting, kept-first}
+use Rattle.mended.proofs.Only.{keeps-only}
 
 -- ---- what is written
 
--- a document that is refused neither by 4 nor by 10
-pub record Taken (d : List ℕ) : Type 0 where
+pub record Wrote (d : List ℕ) (room n k a : ℕ) : Type 0 where
   pub size : length d ≤ 16777216
   pub utf8 : otherEncoding (drop (startOf d) d) ≡ false
-
-pub record Wrote (d : List ℕ) (room n k a : ℕ) : Type 0 where
-  pub taken : Taken d
   pub rooted : rootKept d ≡ true
   pub length-is : n ≡ length (mendedOf d)
   pub kept-is : k ≡ bytesKept d
@@ -98,13 +95,27 @@ mended-wrote d room n k a e =
         let l = ltb-false room (length (mendedOf d)) v in
         let z : n ≡ length (mendedOf d) = cc in
         record {
-          taken = record { size = ltb-false 16777216 (length d) p; utf8 = u };
+          size = ltb-false 16777216 (length d) p;
+          utf8 = u;
           rooted = q;
           length-is = z;
           kept-is = cc;
           added-is = cc;
           fits = omega arith;
         }
+
+-- 9 is given only where there is too little room
+pub short-is : (d : List ℕ) (room n : ℕ) → answerOf d room ≡ Short n → room < length (mendedOf d)
+short-is d room n e =
+    let t = tested d room in
+    go (t .long) (t .other) (t .rooted) (t .short) (t .short-is) (t .answer-is ∙ e)
+  where
+    go : (l o r s : Bool) → ltb room (length (mendedOf d)) ≡ s → byTests l o r s d room ≡ Short n → room < length (mendedOf d)
+    go true o r s v e = absurd (false≢true cc)
+    go false true r s v e = absurd (false≢true cc)
+    go false false false s v e = absurd (false≢true cc)
+    go false false true true v e = ltb-true room (length (mendedOf d)) v
+    go false false true false v e = absurd (false≢true cc)
 
 -- the length is that of the bytes kept and of the end tags added
 pub mended-length : (d : List ℕ) → length (mendedOf d) ≡ bytesKept d + length (endTags (missing d))
@@ -175,7 +186,7 @@ module _ (d o : List ℕ) (n k a : ℕ) (e : answerOf d (length o) ≡ Mended n 
   result-sound =
       let w = mended-wrote d (length o) n k a e in
       let l : length (mendedOf d) ≤ 16777216 = rw (← w .length-is) size in
-      rw result-is (mended-sound d (w .taken .utf8) (w .rooted) l)
+      rw result-is (mended-sound d (w .utf8) (w .rooted) l)
 
   -- so the filter cuts it by every sound list
   pub result-cut : (list : List ℕ) (room : ℕ) → listAnswer list ≡ lists.Sound → length (cutOf list result) ≤ room
@@ -196,14 +207,6 @@ module _ (d o : List ℕ) (n k a : ℕ) (e : answerOf d (length o) ≡ Mended n 
 
 -- ---- "Refusals: 4; then 10; then 12 .. if no root tag was kept; then 9"
 
--- what each answer says, in this order; `first` is the fault "then found"
-pub data Says (d : List ℕ) (room : ℕ) : Answer → Type 0 where
-  too-long : 16777216 < length d → Says d room TooLong
-  other : length d ≤ 16777216 → NamesOther (drop (startOf d) d) → Says d room (OtherEncoding (startOf d))
-  no-root : {why : Why} {f : ℕ} → Taken d → rootKept d ≡ false → FirstFault (readable d) why f → Says d room (NoRoot f)
-  short : Taken d → rootKept d ≡ true → room < length (mendedOf d) → Says d room (Short (length (mendedOf d)))
-  mended : Taken d → rootKept d ≡ true → length (mendedOf d) ≤ room → Says d room (Mended (length (mendedOf d)) (bytesKept d) (tagsAdded d))
-
 -- where no root tag is kept, the first fault is where the kept bytes end: nothing is open, so no text was dropped
 rootless-fault : (r : List ℕ) → Chars r → keptOf r .opened .rooted ≡ false → (why : Why) × FirstFault r why (secondOf (scanned r))
 rootless-fault r c q = go (kept-keeps r c .ends)
@@ -218,28 +221,37 @@ rootless-fault r c q = go (kept-keeps r c .ends)
     go (half t w) = absurd (false≢true (sym q ∙ kept-rooting r (within-open (keptOf r .opened) w)))
 
 pub answer-says : (d : List ℕ) (room : ℕ) → Says d room (answerOf d room)
-unfolding faultAt rootKept
+unfolding faultAt rootKept mendedOf bytesKept missing tagsAdded
 answer-says d room =
     let t = tested d room in
     rw (← t .answer-is)
     (go (t .long) (t .other) (t .rooted) (t .short) (t .long-is) (t .other-is) (t .rooted-is) (t .short-is))
   where
+    k : Kept
+    k = keptOf (readable d)
+
+    taken : ltb 16777216 (length d) ≡ false → otherEncoding (drop (startOf d) d) ≡ false → Taken d k
+    taken p u =
+        record {
+          size = ltb-false 16777216 (length d) p;
+          utf8 = named-none (drop (startOf d) d) u;
+          kept = kept-keeps (readable d) (readable-chars d);
+        }
+
     go : (l o r s : Bool) → ltb 16777216 (length d) ≡ l → otherEncoding (drop (startOf d) d) ≡ o → rootKept d ≡ r
         → ltb room (length (mendedOf d)) ≡ s → Says d room (byTests l o r s d room)
     go true o r s p u q v = too-long (ltb-true 16777216 (length d) p)
-    go false true r s p u q v = other (ltb-false 16777216 (length d) p) (other-iff (drop (startOf d) d) .0 u)
+    go false true r s p u q v = other-encoding (ltb-false 16777216 (length d) p) (other-iff (drop (startOf d) d) .0 u)
     go false false false s p u q v =
-        no-root (record { size = ltb-false 16777216 (length d) p; utf8 = u }) q
-        (rootless-fault (readable d) (readable-chars d) q .1)
-    go false false true true p u q v =
-        short (record { size = ltb-false 16777216 (length d) p; utf8 = u }) q (ltb-true room (length (mendedOf d)) v)
-    go false false true false p u q v =
-        mended (record { size = ltb-false 16777216 (length d) p; utf8 = u }) q (ltb-false room (length (mendedOf d)) v)
+        let (why, f) = rootless-fault (readable d) (readable-chars d) q in
+        no-root k why (taken p u) q f
+    go false false true true p u q v = too-short k (taken p u) q (ltb-true room (length (mendedOf d)) v)
+    go false false true false p u q v = mended k (taken p u) q (ltb-false room (length (mendedOf d)) v)
 
 -- and no other answer says so
 pub says-answer : (d : List ℕ) (room : ℕ) (a : Answer) → Says d room a → a ≡ answerOf d room
-unfolding faultAt
-says-answer d room a x = go a x ∙ t .answer-is
+unfolding faultAt rootKept mendedOf bytesKept missing tagsAdded
+says-answer d room a x = go x ∙ t .answer-is
   where
     t : Tested d room (answerOf d room)
     t = tested d room
@@ -247,22 +259,28 @@ says-answer d room a x = go a x ∙ t .answer-is
     small : length d ≤ 16777216 → t .long ≡ false
     small l = sym (t .long-is) ∙ le-ltb 16777216 (length d) l
 
-    taken : Taken d → (t .long ≡ false) × (t .other ≡ false)
-    taken y = (small (y .size), sym (t .other-is) ∙ y .utf8)
+    taken : {k : Kept} → Taken d k → (t .long ≡ false) × (t .other ≡ false) × (k ≡ keptOf (readable d))
+    taken {k} y =
+        let u = none-named (drop (startOf d) d) (y .utf8) in
+        (small (y .size), sym (t .other-is) ∙ u, keeps-only (readable d) (readable-chars d) k (y .kept))
 
-    go : (a : Answer) → Says d room a → a ≡ byTests (t .long) (t .other) (t .rooted) (t .short) d room
-    go TooLong (too-long l) = let z : t .long ≡ true = sym (t .long-is) ∙ lt-ltb 16777216 (length d) l in rw z refl
-    go (OtherEncoding o) (other l n) =
+    root : {k : Kept} {b : Bool} → k ≡ keptOf (readable d) → k .opened .rooted ≡ b → t .rooted ≡ b
+    root e q = sym (t .rooted-is) ∙ ap (λ (j : Kept). j .opened .rooted) (sym e) ∙ q
+
+    go : {a : Answer} → Says d room a → a ≡ byTests (t .long) (t .other) (t .rooted) (t .short) d room
+    go (too-long l) = let z : t .long ≡ true = sym (t .long-is) ∙ lt-ltb 16777216 (length d) l in rw z refl
+    go (other-encoding l n) =
         let z : t .other ≡ true = sym (t .other-is) ∙ other-iff (drop (startOf d) d) .1 n in
         rw (small l, z) refl
-    go (NoRoot f) (no-root y q h) =
-        let r : t .rooted ≡ false = sym (t .rooted-is) ∙ q in
-        rw (taken y .0, taken y .1, r) (ap NoRoot (sym (ap secondOf (fault-scanned (readable d) (readable-chars d) h))))
-    go (Short n) (short y q l) =
-        let r : t .rooted ≡ true = sym (t .rooted-is) ∙ q in
-        let w : t .short ≡ true = sym (t .short-is) ∙ lt-ltb room (length (mendedOf d)) l in
-        rw (taken y .0, taken y .1, r, w) refl
-    go (Mended n k b) (mended y q l) =
-        let r : t .rooted ≡ true = sym (t .rooted-is) ∙ q in
-        let w : t .short ≡ false = sym (t .short-is) ∙ le-ltb room (length (mendedOf d)) l in
-        rw (taken y .0, taken y .1, r, w) refl
+    go (no-root k why y q h) =
+        let (l, u, e) = taken y in
+        rw (l, u, root e q) (ap NoRoot (sym (ap secondOf (fault-scanned (readable d) (readable-chars d) h))))
+    go (too-short k y q m) =
+        let (l, u, e) = taken y in
+        let w : t .short ≡ true = sym (t .short-is) ∙ lt-ltb room (length (mendedOf d)) (rw e at m) in
+        rw (l, u, root e q, w) (ap (λ (j : Kept). Short (length (mendedBy (readable d) j))) e)
+    go (mended k y q m) =
+        let (l, u, e) = taken y in
+        let w : t .short ≡ false = sym (t .short-is) ∙ le-ltb room (length (mendedOf d)) (rw e at m) in
+        rw (l, u, root e q, w)
+        (ap (λ (j : Kept). Mended (length (mendedBy (readable d) j)) (j .bytes) (length (j .opened .names))) e)

@@ -1,7 +1,7 @@
 -- How long a mended document is at most: 64 elements are open at most, and an end tag that is added has 258 bytes at most. So 16,512 bytes
 -- more than the document has are room enough. In order: the names that are open; their end tags; the document.
 use mathlib.Core.Path.{_≡_}
-use mathlib.Core.Bool.{Bool, true, false, false≢true}
+use mathlib.Core.Bool.{Bool, true, false}
 use mathlib.Core.List.{List, [], _∷_}
 use Prim.Native.Nat.{ℕ, suc, min, _+_, _*_, _≤_, _<_}
 use native.Mathlib.Omega.{arith}
@@ -25,12 +25,11 @@ use Rattle.demands.proofs.Sound.{start-fine}
 use Rattle.mend.specs.Kept.{readable, keptOf}
 use Rattle.mend.specs.Mended.{endTags, missing, tagsAdded, mendedOf}
 use Rattle.mend.specs.Answer.{answerOf}
-use Rattle.mend.specs.declared.Answer.{Answer}
 use Rattle.mend.specs.declared.Answer.the-variants.{Short}
 use Rattle.mended.proofs.Reaching.{Reaches, here, next, next-chars}
 use Rattle.mended.proofs.Accepted.{kept-reached, readable-chars}
 use Rattle.mended.proofs.Told.{kept-first}
-use Rattle.mended.proofs.Answered.{mended-length, Says, too-long, other, no-root, short, mended, answer-says}
+use Rattle.mended.proofs.Answered.{mended-length, short-is}
 
 -- ---- the names that are open
 
@@ -106,11 +105,4 @@ mended-at-most d =
 
 -- so with that much room 9 is never answered
 pub never-short : (d : List ℕ) (room n : ℕ) → length d + 16512 ≤ room → answerOf d room ≡ Short n → ⊥
-never-short d room n h e = go (answer-says d room) e
-  where
-    go : {a : Answer} → Says d room a → a ≡ Short n → ⊥
-    go (too-long l) q = false≢true cc
-    go (other l x) q = false≢true cc
-    go (no-root t r x) q = false≢true cc
-    go (short t r l) q = let z = mended-at-most d in omega arith
-    go (mended t r l) q = false≢true cc
+never-short d room n h e = let l = short-is d room n e in let z = mended-at-most d in omega arith

@@ -1,2 +1,4 @@
--- Definition: what is kept, in the grammar's words.
+-- Definitions: what is kept, in the grammar's words;
+-- what each answer says.
 pub mod Meaning
+pub mod Answers
