@@ -1,6 +1,7 @@
 /* The proved filter, for callers in C: five functions of a static library, choughbell 0.2.0. Link with -lchoughbell, or with
  * target/native/libexported.a as `make library` leaves it. They allocate nothing, keep nothing between calls and call nothing but memset
- * and memcpy, so threads may call them at once. A call takes less than 96 KiB of stack; one with a log that is lent less than 64.
+ * and memcpy, so threads may call them at once. A call takes less than 96 KiB of stack; one with a log that is lent less than 64; mending
+ * less than 8.
  *
  * A byte slice is passed as a pointer and a length. What the caller owes, and nothing else is asked:
  *   - each pointer leads to as many bytes as its length says, and is not null, also where the length is 0;

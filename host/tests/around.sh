@@ -82,7 +82,8 @@ repeat 32 "//*$(repeat 15 /self::*)[@k=\"x\"] #
 inner="<?p é?><![CDATA[é]]><g $value/>"
 { echo '<?xml version="1.0"?><!-- é -->' && repeat 63 "<g $value>é&amp;" && echo "$inner" && repeat 63 '</g>'; } > most.xml
 program_before=$program program=$room/c-stack
-lines 'answer 0: less than 98304 bytes of stack' 'answer 0: less than 65536 bytes of stack'
+lines 'answer 0: less than 98304 bytes of stack' 'answer 0: less than 65536 bytes of stack' \
+    'answer 0: less than 8192 bytes of stack'
 try 'C: the stack of a call' 0 most.lst most.xml
 program=$program_before
 

@@ -1,6 +1,6 @@
-/* stack LIST DOCUMENT: whether a cut, and one with a log that is lent, take less stack than the header says. Each call runs on a stack of
- * its own, which is painted before; afterwards the paint that is left tells how deep it went. Prints the number and that it was less; the
- * exit status is 0 where both were. */
+/* stack LIST DOCUMENT: whether a cut, one with a log that is lent, and mending take less stack than the header says. Each call runs on a
+ * stack of its own, which is painted before; afterwards the paint that is left tells how deep it went. Prints the number and that it was
+ * less; the exit status is 0 where all were. */
 #define _GNU_SOURCE
 #include "choughbell.h"
 
@@ -11,6 +11,7 @@
 
 #define SAID (96 * 1024)
 #define SAID_WITH (64 * 1024)
+#define SAID_MEND (8 * 1024)
 #define PAINTED (1024 * 1024)
 
 static uint8_t stack[PAINTED], list[8193], doc[32768], out[2 * sizeof doc];
@@ -38,6 +39,11 @@ static void call(void)
 static void call_with(void)
 {
     numbers = choughbell_cut_with(list, list_len, doc, doc_len, out, sizeof out, log_lent, sizeof log_lent / sizeof log_lent[0]);
+}
+
+static void call_mend(void)
+{
+    numbers = choughbell_mend(doc, doc_len, out, sizeof out);
 }
 
 static int takes(void (*called)(void), size_t said)
@@ -70,5 +76,6 @@ int main(int argc, char **argv)
     list_len = file(argv[1], list, sizeof list);
     doc_len = file(argv[2], doc, sizeof doc);
     int wrong = takes(call, SAID);
-    return takes(call_with, SAID_WITH) || wrong;
+    wrong = takes(call_with, SAID_WITH) || wrong;
+    return takes(call_mend, SAID_MEND) || wrong;
 }
