@@ -48,8 +48,8 @@ pub record Wrote (d : List ℕ) (room n k a : ℕ) : Type 0 where
   pub fits : n ≤ room
 
 -- by the tests that answerOf makes
-abbrev byTests : Bool → Bool → Bool → Bool → List ℕ → ℕ → Answer
-byTests long other rooted short d room =
+abbrev byTests : Bool → Bool → Bool → Bool → List ℕ → Answer
+byTests long other rooted short d =
     cond long TooLong
     (cond other (OtherEncoding (startOf d))
     (byRoot rooted (faultAt d) (cond short (Short (length (mendedOf d))) (Mended (length (mendedOf d)) (bytesKept d) (tagsAdded d)))))
@@ -63,7 +63,7 @@ record Tested (d : List ℕ) (room : ℕ) (a : Answer) : Type 0 where
   other-is : otherEncoding (drop (startOf d) d) ≡ other
   rooted-is : rootKept d ≡ rooted
   short-is : ltb room (length (mendedOf d)) ≡ short
-  answer-is : byTests long other rooted short d room ≡ a
+  answer-is : byTests long other rooted short d ≡ a
 
 tested : (d : List ℕ) (room : ℕ) → Tested d room (answerOf d room)
 unfolding answerOf rootKept mendedOf bytesKept missing tagsAdded
@@ -86,7 +86,7 @@ mended-wrote d room n k a e =
     go (t .long) (t .other) (t .rooted) (t .short) (t .long-is) (t .other-is) (t .rooted-is) (t .short-is) (t .answer-is ∙ e)
   where
     go : (l o r s : Bool) → ltb 16777216 (length d) ≡ l → otherEncoding (drop (startOf d) d) ≡ o → rootKept d ≡ r
-        → ltb room (length (mendedOf d)) ≡ s → byTests l o r s d room ≡ Mended n k a → Wrote d room n k a
+        → ltb room (length (mendedOf d)) ≡ s → byTests l o r s d ≡ Mended n k a → Wrote d room n k a
     go true o r s p u q v e = absurd (false≢true cc)
     go false true r s p u q v e = absurd (false≢true cc)
     go false false false s p u q v e = absurd (false≢true cc)
@@ -110,7 +110,7 @@ short-is d room n e =
     let t = tested d room in
     go (t .long) (t .other) (t .rooted) (t .short) (t .short-is) (t .answer-is ∙ e)
   where
-    go : (l o r s : Bool) → ltb room (length (mendedOf d)) ≡ s → byTests l o r s d room ≡ Short n → room < length (mendedOf d)
+    go : (l o r s : Bool) → ltb room (length (mendedOf d)) ≡ s → byTests l o r s d ≡ Short n → room < length (mendedOf d)
     go true o r s v e = absurd (false≢true cc)
     go false true r s v e = absurd (false≢true cc)
     go false false false s v e = absurd (false≢true cc)
@@ -239,7 +239,7 @@ answer-says d room =
         }
 
     go : (l o r s : Bool) → ltb 16777216 (length d) ≡ l → otherEncoding (drop (startOf d) d) ≡ o → rootKept d ≡ r
-        → ltb room (length (mendedOf d)) ≡ s → Says d room (byTests l o r s d room)
+        → ltb room (length (mendedOf d)) ≡ s → Says d room (byTests l o r s d)
     go true o r s p u q v = too-long (ltb-true 16777216 (length d) p)
     go false true r s p u q v = other-encoding (ltb-false 16777216 (length d) p) (other-iff (drop (startOf d) d) .0 u)
     go false false false s p u q v =
@@ -267,7 +267,7 @@ says-answer d room a x = go x ∙ t .answer-is
     root : {k : Kept} {b : Bool} → k ≡ keptOf (readable d) → k .opened .rooted ≡ b → t .rooted ≡ b
     root e q = sym (t .rooted-is) ∙ ap (λ (j : Kept). j .opened .rooted) (sym e) ∙ q
 
-    go : {a : Answer} → Says d room a → a ≡ byTests (t .long) (t .other) (t .rooted) (t .short) d room
+    go : {a : Answer} → Says d room a → a ≡ byTests (t .long) (t .other) (t .rooted) (t .short) d
     go (too-long l) = let z : t .long ≡ true = sym (t .long-is) ∙ lt-ltb 16777216 (length d) l in rw z refl
     go (other-encoding l n) =
         let z : t .other ≡ true = sym (t .other-is) ∙ other-iff (drop (startOf d) d) .1 n in
