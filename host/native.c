@@ -4,12 +4,12 @@
 #include "choughbell.h"
 
 /* What each function hands back. */
-typedef struct choughbell_four_numbers cut_numbers;
+typedef struct choughbell_four_numbers four_numbers;
 typedef struct choughbell_numbers three_numbers;
 
-void *rattle_choughbell_cut(cut_numbers *result, const uint8_t *list, size_t list_len, const uint8_t *doc, size_t doc_len, uint8_t *out,
+void *rattle_choughbell_cut(four_numbers *result, const uint8_t *list, size_t list_len, const uint8_t *doc, size_t doc_len, uint8_t *out,
                             size_t out_len);
-void *rattle_choughbell_cut_with(cut_numbers *result, const uint8_t *list, size_t list_len, const uint8_t *doc, size_t doc_len,
+void *rattle_choughbell_cut_with(four_numbers *result, const uint8_t *list, size_t list_len, const uint8_t *doc, size_t doc_len,
                                  uint8_t *out, size_t out_len, uint64_t *log, size_t log_len);
 void *rattle_choughbell_plain(three_numbers *result, const uint8_t *list, size_t list_len, const uint8_t *doc, size_t doc_len,
                               uint8_t *out, size_t out_len);
@@ -20,18 +20,19 @@ void *rattle_choughbell_covers(three_numbers *result, const uint8_t *narrow, siz
 size_t rattle_choughbell_characters(const uint8_t *s, size_t s_len);
 void *rattle_choughbell_pack(three_numbers *result, const uint8_t *text, size_t text_len, uint8_t *out, size_t out_len);
 void *rattle_choughbell_unpack(three_numbers *result, const uint8_t *packed, size_t packed_len, uint8_t *out, size_t out_len);
+void *rattle_choughbell_mend(four_numbers *result, const uint8_t *doc, size_t doc_len, uint8_t *out, size_t out_len);
 
-cut_numbers choughbell_cut(const uint8_t *list, size_t list_len, const uint8_t *doc, size_t doc_len, uint8_t *out, size_t out_len)
+four_numbers choughbell_cut(const uint8_t *list, size_t list_len, const uint8_t *doc, size_t doc_len, uint8_t *out, size_t out_len)
 {
-    cut_numbers result;
+    four_numbers result;
     rattle_choughbell_cut(&result, list, list_len, doc, doc_len, out, out_len);
     return result;
 }
 
-cut_numbers choughbell_cut_with(const uint8_t *list, size_t list_len, const uint8_t *doc, size_t doc_len, uint8_t *out, size_t out_len,
+four_numbers choughbell_cut_with(const uint8_t *list, size_t list_len, const uint8_t *doc, size_t doc_len, uint8_t *out, size_t out_len,
                                 uint64_t *log, size_t log_len)
 {
-    cut_numbers result;
+    four_numbers result;
     rattle_choughbell_cut_with(&result, list, list_len, doc, doc_len, out, out_len, log, log_len);
     return result;
 }
@@ -80,5 +81,12 @@ three_numbers choughbell_unpack(const uint8_t *packed, size_t packed_len, uint8_
 {
     three_numbers result;
     rattle_choughbell_unpack(&result, packed, packed_len, out, out_len);
+    return result;
+}
+
+four_numbers choughbell_mend(const uint8_t *doc, size_t doc_len, uint8_t *out, size_t out_len)
+{
+    four_numbers result;
+    rattle_choughbell_mend(&result, doc, doc_len, out, out_len);
     return result;
 }

@@ -1,6 +1,7 @@
-/* The proved filter, for callers in C: nine functions of a static library, choughbell 0.3.0. Link with -lchoughbell, or with
+/* The proved filter, for callers in C: ten functions of a static library, choughbell 0.3.0. Link with -lchoughbell, or with
  * target/native/libexported.a as `make library` leaves it. They allocate nothing, keep nothing between calls and call nothing but memset
- * and memcpy, so threads may call them at once. A call takes less than 96 KiB of stack; one with a log that is lent less than 64.
+ * and memcpy, so threads may call them at once. A call takes less than 96 KiB of stack; one with a log that is lent less than 64; mending
+ * less than 8.
  *
  * A byte slice is passed as a pointer and a length. What the caller owes, and nothing else is asked:
  *   - each pointer leads to as many bytes as its length says, and is not null, also where the length is 0;
@@ -37,6 +38,7 @@ extern "C" {
  *   9  output shorter than the cut          length needed
  *   10 another encoding is declared         offset of the declaration: 0, or 3 behind EF BB BF
  *   11 not a batch                          offset of the version byte or length at fault (choughbell_batch alone)
+ *   12 no root tag kept, of mending alone   offset of the first fault, in the document or in what stands before its first bad sequence
  *   13 not the packed form of a list        0
  *
  * They apply in the order 1; 2 and 3 by line; 4; 10; 5; 6 to 8 by item; 9. The third number and the fourth are 0 except under 0.
@@ -114,6 +116,15 @@ size_t choughbell_characters(const uint8_t *s, size_t s_len);
  * else. */
 struct choughbell_numbers choughbell_pack(const uint8_t *text, size_t text_len, uint8_t *out, size_t out_len);
 struct choughbell_numbers choughbell_unpack(const uint8_t *packed, size_t packed_len, uint8_t *out, size_t out_len);
+
+/* Writes a document that stops half way, mended, to the front of `out`: the three bytes EF BB BF where they stand, every whole item before
+ * the first fault of 5 to 8, and then the end tags that are missing, the innermost first. For 5 the document is first cut at the bad
+ * sequence. A text that touches the end with an element open is dropped. A sound document comes back as it is, and what is written is
+ * always taken by choughbell_cut if it has at most 16,777,216 bytes.
+ * Under 0 the second number is the length written, the third the bytes kept, the fourth the end tags added. It is else, in this order, 4,
+ * 10, 12 or 9, and the third and the fourth are 0. Under 0 the bytes after the mended document stay as they were, under any other number
+ * the whole of `out` does. Where out_len is doc_len + 16,512 the number is never 9, which is proved. */
+struct choughbell_four_numbers choughbell_mend(const uint8_t *doc, size_t doc_len, uint8_t *out, size_t out_len);
 
 #ifdef __cplusplus
 }

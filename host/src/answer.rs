@@ -15,7 +15,7 @@ pub struct Written {
     pub name_tests: u64,
 }
 
-/// Answers 1 to 11 and 13. A line counts from 1, an offset from 0.
+/// Answers 1 to 13. A line counts from 1, an offset from 0.
 #[derive(Clone, Copy, PartialEq, Eq, Debug)]
 pub enum Refusal {
     /// 1: the list has over 8,192 bytes.
@@ -40,6 +40,8 @@ pub enum Refusal {
     OtherEncoding { offset: u64 },
     /// 11: bytes that are no batch. The version byte or a length, at an offset in the batch, is at fault. It is looked at after 3.
     BadBatch { offset: u64 },
+    /// 12, of mending alone: no root tag is kept. The offset is that of the first fault.
+    NoRoot { offset: u64 },
     /// 13: the input is the packed form of no sound list.
     NotPacked,
 }
@@ -68,12 +70,13 @@ impl Refusal {
             9 => Refusal::Short { needed: second },
             10 => Refusal::OtherEncoding { offset: second },
             11 => Refusal::BadBatch { offset: second },
+            12 => Refusal::NoRoot { offset: second },
             13 => Refusal::NotPacked,
             number => panic!("{number} is no answer of the library"),
         })
     }
 
-    /// The number, 1 to 11 or 13.
+    /// The number, 1 to 13.
     pub fn number(self) -> u64 {
         match self {
             Refusal::ListTooLong => 1,
@@ -87,6 +90,7 @@ impl Refusal {
             Refusal::Short { .. } => 9,
             Refusal::OtherEncoding { .. } => 10,
             Refusal::BadBatch { .. } => 11,
+            Refusal::NoRoot { .. } => 12,
             Refusal::NotPacked => 13,
         }
     }
@@ -105,6 +109,7 @@ impl Refusal {
             Refusal::Short { .. } => "output shorter than the cut",
             Refusal::OtherEncoding { .. } => "another encoding",
             Refusal::BadBatch { .. } => "not a batch",
+            Refusal::NoRoot { .. } => "no root tag kept",
             Refusal::NotPacked => "not the packed form of a list",
         }
     }
@@ -117,12 +122,12 @@ impl Refusal {
         }
     }
 
-    /// The offset in the document at fault, under 5 to 8 and 10.
+    /// The offset in the document at fault, under 5 to 8, 10 and 12.
     pub fn offset(self) -> Option<u64> {
         match self {
             Refusal::NotCharacter { offset } | Refusal::DocumentType { offset } => Some(offset),
             Refusal::NotWellFormed { offset } | Refusal::OverSize { offset } => Some(offset),
-            Refusal::OtherEncoding { offset } => Some(offset),
+            Refusal::OtherEncoding { offset } | Refusal::NoRoot { offset } => Some(offset),
             _ => None,
         }
     }
@@ -157,7 +162,7 @@ mod tests {
 
     #[test]
     fn numbers_come_back_as_they_were() {
-        for number in (1..=11).chain([13]) {
+        for number in 1..=13 {
             let second = if [1, 4, 13].contains(&number) { 0 } else { 12 };
             let refusal = FourNumbers { number, second, third: 0, fourth: 0 }.answer().unwrap_err();
             assert_eq!((refusal.number(), refusal.second()), (number, second));

@@ -40,7 +40,7 @@ pub fn run(asked: &Asked) -> Result<u8, Trouble> {
                 say(&report.message());
             }
             if asked.json {
-                output::print(&report.json_of(report::three(refusal.number(), refusal.second(), which.number(), refusal.meaning())))?;
+                output::print(&report.placed(report::three(refusal.number(), refusal.second(), which.number(), refusal.meaning())))?;
             }
             Ok(refusal.number() as u8)
         }

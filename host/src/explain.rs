@@ -1,11 +1,11 @@
-//! What each number means and what to do about it: the answers 0 to 11 and 13, and the exit statuses from 20 on.
+//! What each number means and what to do about it: the answers 0 to 13, and the exit statuses from 20 on.
 
 /// The text on a number, as it is written on the command line.
 pub fn text(number: &[u8]) -> Option<&'static str> {
     TEXTS.iter().find(|(name, _)| name.as_bytes() == number).map(|&(_, text)| text)
 }
 
-const TEXTS: [(&str, &str); 18] = [
+const TEXTS: [(&str, &str); 19] = [
     ("0", ZERO),
     ("1", ONE),
     ("2", TWO),
@@ -18,6 +18,7 @@ const TEXTS: [(&str, &str); 18] = [
     ("9", NINE),
     ("10", TEN),
     ("11", ELEVEN),
+    ("12", TWELVE),
     ("13", THIRTEEN),
     ("20", UNCOVERED),
     ("64", USAGE),
@@ -31,7 +32,8 @@ const ZERO: &str = "\
 the list selects, those inside a kept entry too. The fourth is how many name tests were
 tried: one for each element and each step of each line that could stand there after the
 steps before it. It is at most elements times steps.
-Under `check` 0 says that the document is sound; the other numbers are 0.
+Under `check` 0 says that the document is sound; the other numbers are 0. Under `mend` the
+third is how many bytes are kept, the fourth how many end tags are added.
 ";
 
 const ONE: &str = "\
@@ -122,6 +124,14 @@ const UNCOVERED: &str = "\
 20: under `covers`: both lists are sound, and a path of the narrow list is covered by
 none of the wide list, or only by one without the mark that it has. The lines are named.
 Cut by the narrow list from the master, or add what covers these lines to the wide list.
+";
+
+const TWELVE: &str = "\
+12: of mending alone: no root tag is kept, so there is nothing to mend; the second number
+is the offset of the first fault. What follows a bad sequence is cut off first, and then
+the offset is that of the fault found in what is left, at most its length.
+The document stops before its root is whole, or something else stands before the root:
+see that it is the right file, or send for it again.
 ";
 
 const USAGE: &str = "\

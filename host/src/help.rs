@@ -12,6 +12,8 @@ choughbell cuts XML by a list of paths, by a filter that is proved.
   choughbell pack [LIST] [-o OUTPUT]              a list from text to its packed form
   choughbell unpack [LIST] [-o OUTPUT]            and from the packed form back to text
   choughbell covers --narrow LIST --wide LIST     whether one list is covered by another
+  choughbell mend [DOCUMENT] [-o OUTPUT]          what is whole of one that stops half way,
+                                                  and the end tags that are missing
   choughbell explain NUMBER                       what an answer or an exit status means
 
 A file that is not named, or named -, is the standard input or output.
@@ -22,7 +24,7 @@ A file that is not named, or named -, is the standard input or output.
                        a test of an attribute, [@name=\"value\"]; one space and # at the end
                        keep the whole entry
       --packed         LIST is in its packed form
-  -o, --output OUTPUT  is replaced when the cut is there, and else stays as it was
+  -o, --output OUTPUT  is replaced when all is there to write, and else stays as it was
   -d, --folder FOLDER  where the cuts of a batch go, under the names of the documents
       --count          print only: kept, the elements selected, the length of the cut; and
                        on a second line: name tests, how many were tried
@@ -34,14 +36,14 @@ A file that is not named, or named -, is the standard input or output.
                        narrow line that nothing covers
   -q, --quiet          no message, only the exit status
       --json           print the numbers as one line of JSON, on the standard output, or on
-                       the standard error where the cut goes to the other
+                       the standard error where the document goes to the other
   -h, --help           this text
       --version        the version
       --               what follows is no option
 
 Exit status: 0 written, sound or covered; 1 to 3 a list is refused, 13 a packed list, 4 to 8
-and 10 the document (of a batch, the first that is), 11 the batch; 20 not covered; 64 wrong
-usage; 66 no input; 73 no output; 74 reading or writing failed.
+and 10 the document (of a batch, the first that is), 11 the batch; 12 no root tag to mend;
+20 not covered; 64 wrong usage; 66 no input; 73 no output; 74 reading or writing failed.
 
 For example, with `//commune/hamlet #` and `//place[@type=\"village\"]` as lines of atlas.lst:
 

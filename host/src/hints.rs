@@ -18,6 +18,7 @@ pub fn hint(refusal: Refusal, document: &[u8], offset: usize) -> String {
         Refusal::DocumentType { .. } => "documents with a type are not taken".to_string(),
         Refusal::OverSize { .. } => over_size(document, offset),
         Refusal::OtherEncoding { .. } => other_encoding(document, offset),
+        Refusal::NoRoot { .. } => "no start tag before it is whole, so nothing can be kept".to_string(),
         _ => not_well_formed(document, offset),
     }
 }

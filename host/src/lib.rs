@@ -1,7 +1,8 @@
 //! The proved filter, for callers in Rust: functions on byte slices. `cut` writes into a lent buffer, as the library does; `cut_of` brings
 //! a buffer of its own; `check` judges a document alone. `plain` and `plain_of` cut by the plain engine, a second one to be read,
 //! and give the same numbers and bytes; they count no name tests. `batch` and `batch_of` cut many documents in one call. `pack` and
-//! `unpack` bring a list into its packed form and back.
+//! `unpack` bring a list into its packed form and back, `covers` and `covers_of` compare two lists, `mend` and `mend_of` keep what is whole
+//! of a document that stops half way.
 //!
 //! The static library comes from Rattle. Its contract asks nothing of the lists and documents that it is given, and says of every byte of
 //! the buffer what it is afterwards. What a caller of the library's own function owes is that the buffer overlaps neither the list nor the
@@ -18,10 +19,12 @@
 
 mod answer;
 mod bundle;
+mod mending;
 mod packed;
 
 pub use answer::{Refusal, Written};
 pub use bundle::{bundle, entries};
+pub use mending::{mend, mend_of, Mended, MENDED_MORE};
 pub use packed::{pack, pack_of, unpack, unpack_of, PACKED_LIMIT};
 
 /// A longer list is answer 1.
@@ -31,7 +34,7 @@ pub const DOCUMENT_LIMIT: usize = 16_777_216;
 /// A longer batch is answer 11.
 pub const BATCH_LIMIT: usize = 67_108_864;
 
-/// The numbers that a cut hands back: which answer it is, and what goes with it.
+/// The numbers that a cut hands back: which answer it is, and what goes with it. Of mending they are other ones: see `mend`.
 #[repr(C)]
 #[derive(Clone, Copy, PartialEq, Eq, Debug)]
 pub struct FourNumbers {
@@ -257,12 +260,12 @@ mod tests {
     #[test]
     fn covering_takes_the_narrow_list_first() {
         let long = vec![b'/'; LIST_LIMIT + 1];
-        assert_eq!(covers(&long, &long), Err((Which::Narrow, Refusal::ListTooLong)));
-        assert_eq!(covers(b"", &long), Err((Which::Wide, Refusal::ListTooLong)));
-        assert_eq!(covers(b"/v\nv\n", &long), Err((Which::Narrow, Refusal::ListMalformed { line: 2 })));
-        assert_eq!(covers(b"", &b"/v\n".repeat(33)), Err((Which::Wide, Refusal::ListTooLarge { line: 33 })));
+        assert_eq!(covers_of(&long, &long), Err((Which::Narrow, Refusal::ListTooLong)));
+        assert_eq!(covers_of(b"", &long), Err((Which::Wide, Refusal::ListTooLong)));
+        assert_eq!(covers_of(b"/v\nv\n", &long), Err((Which::Narrow, Refusal::ListMalformed { line: 2 })));
+        assert_eq!(covers_of(b"", &b"/v\n".repeat(33)), Err((Which::Wide, Refusal::ListTooLarge { line: 33 })));
         assert_eq!((Which::Narrow.number(), Which::Wide.number()), (1, 2));
-        assert_eq!(covers(b"", b""), Ok(true));
+        assert_eq!(covers_of(b"", b""), Ok(true));
     }
 
     #[test]
@@ -279,7 +282,7 @@ mod tests {
             ("/g/self::g #\n", "/g/self::g\n", false),
             ("/g\n", "/g/self::g\n", false),
         ] {
-            assert_eq!(covers(narrow.as_bytes(), wide.as_bytes()), Ok(is), "{narrow}{wide}");
+            assert_eq!(covers_of(narrow.as_bytes(), wide.as_bytes()), Ok(is), "{narrow}{wide}");
         }
     }
 

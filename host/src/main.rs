@@ -11,6 +11,7 @@ mod help;
 mod hints;
 mod input;
 mod json;
+mod mend;
 mod names;
 mod outline;
 mod output;
@@ -41,6 +42,7 @@ fn main() -> ExitCode {
         Request::Batch(post) => post.quiet,
         Request::Packing(packing) => packing.quiet,
         Request::Covers(asked) => asked.quiet,
+        Request::Mend(task) => task.quiet,
         _ => false,
     };
     match answer(&request) {
@@ -61,6 +63,7 @@ fn answer(request: &Request) -> Result<u8, Trouble> {
         Request::Batch(post) => return batch::run(post),
         Request::Packing(packing) => return packing::run(packing),
         Request::Covers(asked) => return covers::run(asked),
+        Request::Mend(task) => return mend::run(task),
         Request::Explain(text) => output::print(text)?,
         Request::Help => output::print(help::HELP)?,
         Request::Version => output::print(help::VERSION)?,

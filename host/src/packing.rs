@@ -24,7 +24,7 @@ pub fn run(packing: &Packing) -> Result<u8, Trouble> {
     match done {
         Ok(bytes) => {
             packing.output.write(&bytes)?;
-            numbers(packing, || report::numbers(0, bytes.len() as u64, 0, 0, "written").line())?;
+            numbers(packing, || report::numbers(0, bytes.len() as u64, 0, Some(0), "written").line())?;
             Ok(0)
         }
         Err(refusal) => refused(packing, refusal, &list),
@@ -36,7 +36,7 @@ fn refused(packing: &Packing, refusal: Refusal, list: &Read) -> Result<u8, Troub
     if !packing.json && !packing.quiet {
         say(&report.message());
     }
-    numbers(packing, || report.json())?;
+    numbers(packing, || report.json(Some(0)))?;
     Ok(refusal.number() as u8)
 }
 

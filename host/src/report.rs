@@ -86,11 +86,11 @@ impl Report {
 
     /// The numbers and the place, as one line of JSON.
     pub fn json(&self, name_tests: Option<u64>) -> String {
-        self.json_of(numbers(self.refusal.number(), self.refusal.second(), 0, name_tests, self.refusal.meaning()))
+        self.placed(numbers(self.refusal.number(), self.refusal.second(), 0, name_tests, self.refusal.meaning()))
     }
 
-    /// The same, with these numbers.
-    pub fn json_of(&self, mut object: Object) -> String {
+    /// The place after other members.
+    pub fn placed(&self, mut object: Object) -> String {
         object.string("file", &self.file);
         match &self.place {
             Place::Whole => {}

@@ -4,6 +4,7 @@ use crate::batch::{Post, Way};
 use crate::covers::Asked;
 use crate::explain;
 use crate::input::Source;
+use crate::mend::Mending;
 use crate::output::Sink;
 use crate::packing::Packing;
 use crate::shown;
@@ -19,6 +20,7 @@ pub enum Request {
     Batch(Post),
     Packing(Packing),
     Covers(Asked),
+    Mend(Mending),
     /// The text on a number.
     Explain(&'static str),
     Help,
@@ -44,12 +46,12 @@ struct Given {
 
 /// What the words ask for. The first is the command.
 pub fn read(mut words: impl Iterator<Item = OsString>) -> Result<Request, String> {
-    let command = words.next().ok_or("there is no command: it is cut, check, batch, pack, unpack, covers or explain")?;
+    let command = words.next().ok_or("there is no command: it is cut, check, batch, pack, unpack, covers, mend or explain")?;
     match command.as_bytes() {
         b"help" | b"--help" | b"-h" => return Ok(Request::Help),
         b"--version" | b"version" | b"-V" => return Ok(Request::Version),
-        b"cut" | b"check" | b"batch" | b"pack" | b"unpack" | b"covers" | b"explain" => {}
-        _ => return Err(format!("there is no command {}: it is cut, check, batch, pack, unpack, covers or explain", word(&command))),
+        b"cut" | b"check" | b"batch" | b"pack" | b"unpack" | b"covers" | b"mend" | b"explain" => {}
+        _ => return Err(format!("there is no command {}: it is cut, check, batch, pack, unpack, covers, mend or explain", word(&command))),
     }
     let given = given(words)?;
     if given.folder.is_some() && command != "batch" && !given.help {
@@ -64,6 +66,7 @@ pub fn read(mut words: impl Iterator<Item = OsString>) -> Result<Request, String
         b"pack" => packing("pack", given),
         b"unpack" => packing("unpack", given),
         b"covers" => covers(given),
+        b"mend" => mend(given),
         _ => explain(given),
     }
 }
@@ -179,6 +182,7 @@ fn check(given: Given) -> Result<Request, String> {
 }
 
 fn batch(given: Given) -> Result<Request, String> {
+    given.no_two_lists("batch")?;
     let list = given.list.as_deref().ok_or("batch wants a list: -l LIST")?;
     let list = Source::named(list);
     if given.count || given.json {
@@ -215,7 +219,17 @@ fn documents(names: &[OsString]) -> Result<Vec<(PathBuf, OsString)>, String> {
     Ok(documents)
 }
 
-/// The document of either command, and what both ask of options.
+fn mend(given: Given) -> Result<Request, String> {
+    given.no_two_lists("mend")?;
+    let document = document("mend", &given)?;
+    if given.list.is_some() || given.count || given.packed {
+        return Err("mend takes no --list, --packed or --count".to_string());
+    }
+    let output = given.output.as_deref().map_or(Sink::Standard, Sink::named);
+    Ok(Request::Mend(Mending { document, output, quiet: given.quiet, json: given.json }))
+}
+
+/// The document of a command, and what all ask of options.
 fn document(command: &str, given: &Given) -> Result<Source, String> {
     if given.quiet && given.json {
         return Err("--quiet and --json don't go together".to_string());
@@ -272,7 +286,7 @@ fn explain(given: Given) -> Result<Request, String> {
     match given.names.as_slice() {
         [number] => match explain::text(number.as_bytes()) {
             Some(text) => Ok(Request::Explain(text)),
-            None => Err(format!("{} is no number that is explained: 0 to 11, 13, 20, 64, 66, 73 or 74", word(number))),
+            None => Err(format!("{} is no number that is explained: 0 to 13, 20, 64, 66, 73 or 74", word(number))),
         },
         _ => Err("explain wants one number".to_string()),
     }

@@ -68,9 +68,17 @@ fn the_plain_engine_is_asked_for() {
 }
 
 #[test]
+fn mend_takes_a_document_and_an_output() {
+    let mend = |document, output| Ok(Request::Mend(Mending { document, output, quiet: false, json: false }));
+    assert_eq!(asked(&["mend"]), mend(Source::Standard, Sink::Standard));
+    assert_eq!(asked(&["mend", "m", "-o", "o"]), mend(file("m"), Sink::File(PathBuf::from("o"))));
+    assert_eq!(asked(&["mend", "-la"]), Err("mend takes no --list, --packed or --count".to_string()));
+}
+
+#[test]
 fn wrong_words_are_told() {
     let wrong = |words: &[&str]| asked(words).unwrap_err();
-    assert_eq!(wrong(&[]), "there is no command: it is cut, check, batch, pack, unpack, covers or explain");
+    assert_eq!(wrong(&[]), "there is no command: it is cut, check, batch, pack, unpack, covers, mend or explain");
     assert_eq!(wrong(&["cut", "m"]), "cut wants a list: -l LIST; by /dev/null the root alone is kept");
     assert_eq!(wrong(&["cut", "-l"]), "--list wants a file's name");
     assert_eq!(wrong(&["cut", "-la", "-lb"]), "--list is given twice");

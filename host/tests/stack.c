@@ -1,6 +1,6 @@
-/* stack LIST DOCUMENT: whether a cut, one with a log that is lent, one by the plain engine, a batch of that document and the check of two
- * lists take less stack than the header says. Each call runs on a stack of its own, which is painted before; afterwards the paint that is
- * left tells how deep it went. Prints the number and that it was less; the exit status is 0 where all were. */
+/* stack LIST DOCUMENT: whether a cut, one with a log that is lent, one by the plain engine, a batch of that document, the check of two lists
+ * and mending take less stack than the header says. Each call runs on a stack of its own, which is painted before; afterwards the paint
+ * that is left tells how deep it went. Prints the number and that it was less; the exit status is 0 where all were. */
 #define _GNU_SOURCE
 #include "choughbell.h"
 
@@ -12,6 +12,7 @@
 #define SAID (96 * 1024)
 #define SAID_WITH (64 * 1024)
 #define SAID_PLAIN (192 * 1024)
+#define SAID_MEND (8 * 1024)
 #define PAINTED (1024 * 1024)
 
 static uint8_t stack[PAINTED], list[8193], doc[32768], batch[sizeof doc + 5], out[2 * sizeof batch];
@@ -60,6 +61,11 @@ static void call_covers(void)
     numbers.number = said.number;
 }
 
+static void call_mend(void)
+{
+    numbers = choughbell_mend(doc, doc_len, out, sizeof out);
+}
+
 static int takes(void (*called)(void), size_t said)
 {
     memset(stack, 0xA5, PAINTED);
@@ -98,5 +104,6 @@ int main(int argc, char **argv)
     wrong |= takes(call_plain, SAID_PLAIN);
     wrong |= takes(call_batch, SAID);
     wrong |= takes(call_covers, SAID);
+    wrong |= takes(call_mend, SAID_MEND);
     return wrong;
 }

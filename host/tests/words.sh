@@ -7,7 +7,7 @@ wrong() {
     shift 2
     try "wrong usage: $name" 64 "$@"
 }
-commands='it is cut, check, batch, pack, unpack, covers or explain'
+commands='it is cut, check, batch, pack, unpack, covers, mend or explain'
 wrong 'nothing' "there is no command: $commands"
 wrong 'another command' "there is no command trim: $commands" trim b.xml
 wrong 'an option first' "there is no command --quiet: $commands" --quiet check b.xml
@@ -33,8 +33,8 @@ wrong 'pack with a list' 'pack takes no --list, --packed or --count: the list is
 wrong 'two lists to unpack' 'unpack takes one list, and w.bin is a second' unpack v.bin w.bin
 wrong 'explain nothing' 'explain wants one number' explain
 wrong 'explain two' 'explain wants one number' explain 1 2
-wrong 'explain 15' '15 is no number that is explained: 0 to 11, 13, 20, 64, 66, 73 or 74' explain 15
-wrong 'explain a word' 'two is no number that is explained: 0 to 11, 13, 20, 64, 66, 73 or 74' explain two
+wrong 'explain 15' '15 is no number that is explained: 0 to 13, 20, 64, 66, 73 or 74' explain 15
+wrong 'explain a word' 'two is no number that is explained: 0 to 13, 20, 64, 66, 73 or 74' explain two
 wrong 'explain with options' 'explain takes no options' explain --json 1
 [ ! -e x ] || fault 'wrong usage' 'a file is made'
 
@@ -53,7 +53,7 @@ explains() {
     [ "${printed#"$1: $2"}" != "$printed" ] || fault "explain $1" "$printed"
     [ "$(wc -l < "$notes/printed")" = "$3" ] || fault "explain $1" 'number of lines'
 }
-explains 0 'written.' 5
+explains 0 'written.' 6
 explains 1 'the list has over 8,192 bytes.' 3
 explains 2 'a line of the list is malformed;' 6
 explains 3 'a line of the list is too large, or it is line 33;' 4
@@ -65,6 +65,7 @@ explains 8 'the document is over a size;' 3
 explains 9 'the output is shorter than the cut;' 4
 explains 10 'the declaration of the document names another encoding than UTF-8;' 6
 explains 11 'the bytes are no batch;' 4
+explains 12 'of mending alone: no root tag is kept,' 5
 explains 13 'the input is not the packed form of a sound list;' 5
 explains 20 'under `covers`: both lists are sound,' 3
 explains 64 'wrong usage.' 2
@@ -80,7 +81,7 @@ grep -q '^\.TH CHOUGHBELL 1 [0-9-]* "choughbell 0\.3\.0"' "$root/host/man/chough
 head -n 1 "$root/host/include/choughbell.h" | grep -q 'choughbell 0\.3\.0' || fault 'version' 'of the header'
 start --help > help 2>&1 || fault 'help' 'status'
 [ "$(head -n 1 help)" = 'choughbell cuts XML by a list of paths, by a filter that is proved.' ] || fault 'help' "$(head -n 1 help)"
-for words in '--help' 'help' '-h' 'cut --help' 'check -h' 'batch -h' 'covers --help' 'explain --help'; do
+for words in '--help' 'help' '-h' 'cut --help' 'check -h' 'batch -h' 'covers --help' 'mend --help' 'explain --help'; do
     cp help "$notes/prints"
     # shellcheck disable=SC2086
     try "$words" 0 $words

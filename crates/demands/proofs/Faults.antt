@@ -53,7 +53,7 @@ use Rattle.demands.proofs.Tagged.{start-chars as tag-chars, finish-char
 
 -- ---- what is left after an item
 
-item-chars : (d : List ℕ) (at : ℕ) (k : Kind) (i : Item) (s : Opened) → KindSays k d at i → Chars (drop at d)
+pub item-chars : (d : List ℕ) (at : ℕ) (k : Kind) (i : Item) (s : Opened) → KindSays k d at i → Chars (drop at d)
     → placement d at i s ≡ Fine → Chars (drop (endOf at i) d)
 item-chars d at k (Declaration e) s h c q = chars-left XMLDecl (ascii XMLDecl refl) (drop at d) (drop e d) c (h .1 .0)
 item-chars d at k (Instruction e) s h c q = chars-left PI (ascii PI refl) (drop at d) (drop e d) c (h .1 .0)
@@ -199,7 +199,7 @@ scanned-fault d c why o e =
     let x = scan-found (suc (length d)) d (startOf d) true nothing why o (omega arith) (start-chars d c) e in
     record { first = x .last; opened = x .opened; reached = x .reached; item = x .item; says = x .says; fault = x .fault }
 
-fault-scanned : (d : List ℕ) → Chars d → {why : Why} {o : ℕ} → FirstFault d why o → scanned d ≡ AtFault why o
+pub fault-scanned : (d : List ℕ) → Chars d → {why : Why} {o : ℕ} → FirstFault d why o → scanned d ≡ AtFault why o
 unfolding scanned
 fault-scanned d c x =
     found-scan (suc (length d)) d (omega arith) (start-chars d c) (x .reached) (x .item) (x .says) (x .fault)

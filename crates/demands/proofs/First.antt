@@ -100,7 +100,7 @@ module _ (k : ℕ) (d : List ℕ) (at : ℕ) (l : at ≤ length d) (c : Chars (d
   declared-over none p = absurd (false≢true cc)
   declared-over (some t) p = absurd (false≢true cc)
 
-  first-declares : declares (drop at d) ≡ true → itemAt true d at ≡ itemBy Declaration d at (declarationOf (drop at d))
+  pub first-declares : declares (drop at d) ≡ true → itemAt true d at ≡ itemBy Declaration d at (declarationOf (drop at d))
   unfolding itemAt
   first-declares q = ap (λ (k : Kind). itemOf k d at) (declared-kind (drop at d) q)
 

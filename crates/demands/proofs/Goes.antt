@@ -93,7 +93,7 @@ goes-on d at i s ts q p g = record { scans = go }
 
 -- ---- the end
 
-over-item : (d : List ℕ) (at : ℕ) → drop at d ≡ [] → itemAt false d at ≡ Nothing
+pub over-item : (d : List ℕ) (at : ℕ) → drop at d ≡ [] → itemAt false d at ≡ Nothing
 unfolding itemAt
 over-item d at e = ap (λ (k : kinds.Kind). kinds.itemOf k d at) (ap (kindOf false) e ∙ kind-nothing false)
 

@@ -60,14 +60,14 @@ Allowed false s = Stops s
 
 -- ---- placements
 
-fault-fine : {A : Type 0} (why : Why) → Fault why ≡ Fine → A
+pub fault-fine : {A : Type 0} (why : Why) → Fault why ≡ Fine → A
 fault-fine why e = absurd (false≢true cc)
 
-formed-true : (b : Bool) → formed b ≡ Fine → b ≡ true
+pub formed-true : (b : Bool) → formed b ≡ Fine → b ≡ true
 formed-true true e = refl
 formed-true false e = fault-fine _ e
 
-start-fine : (twice : Bool) (s : Opened) → startPlacement twice s ≡ Fine
+pub start-fine : (twice : Bool) (s : Opened) → startPlacement twice s ≡ Fine
     → (length (s .names) < 64) × (twice ≡ false) × ((s .rooted && not (some (s .names))) ≡ false)
 start-fine twice s = go (leb 64 (length (s .names))) refl twice (s .rooted && not (some (s .names))) _
   where
@@ -140,7 +140,7 @@ begun-empty o k (outer a) = begun (doc.empty-root o k a)
 
 -- ---- the items after the root's start
 
-after-rooted : (d : List ℕ) (at : ℕ) (i : Item) (s : Opened) → s .rooted ≡ true → afterItem d at i s .rooted ≡ true
+pub after-rooted : (d : List ℕ) (at : ℕ) (i : Item) (s : Opened) → s .rooted ≡ true → afterItem d at i s .rooted ≡ true
 after-rooted d at (Declaration e) s q = q
 after-rooted d at (Instruction e) s q = q
 after-rooted d at (Comment e) s q = q
@@ -155,16 +155,16 @@ after-rooted d at TooLarge s q = q
 after-rooted d at Nothing s q = q
 
 -- what is known of the item at a place, and of what follows it
-record Here (d : List ℕ) (at : ℕ) (i : Item) : Type 0 where
-  says : KindSays (kindOf false (drop at d)) d at i
-  inside : Inside d at i
-  chars : Chars (drop at d)
+pub record Here (d : List ℕ) (at : ℕ) (i : Item) : Type 0 where
+  pub says : KindSays (kindOf false (drop at d)) d at i
+  pub inside : Inside d at i
+  pub chars : Chars (drop at d)
 
-text-allowed : (d : List ℕ) (at : ℕ) (b : Bool) → kindOf false (drop at d) ≡ kinds.text → Allowed b (drop at d) → b ≡ true
+pub text-allowed : (d : List ℕ) (at : ℕ) (b : Bool) → kindOf false (drop at d) ≡ kinds.text → Allowed b (drop at d) → b ≡ true
 text-allowed d at true q a = refl
 text-allowed d at false q a = absurd (stops-kind (drop at d) a q)
 
-inside-some : (ns : List Name) {r : Bool} → r ≡ true → r && not (some ns) ≡ false → some ns ≡ true
+pub inside-some : (ns : List Name) {r : Bool} → r ≡ true → r && not (some ns) ≡ false → some ns ≡ true
 inside-some [] q e = absurd (false≢true (sym (rw q at e)))
 inside-some (n ∷ ns) q e = refl
 
@@ -245,7 +245,7 @@ over-rest d at s b ts q =
     let y = over-closed d at s (rw z at q) in
     rw (z, y, nothing-left d at false z) (outer doc.over)
 
-here : (d : List ℕ) (at : ℕ) → Chars (drop at d) → Here d at (itemAt false d at)
+pub here : (d : List ℕ) (at : ℕ) → Chars (drop at d) → Here d at (itemAt false d at)
 here d at c = record { says = item-says false d at c; inside = item-inside false d at; chars = c }
 
 pub passes-rest : (k : ℕ) (d : List ℕ) (at : ℕ) (s : Opened) (b : Bool) → s .rooted ≡ true → Chars (drop at d) → Allowed b (drop at d)

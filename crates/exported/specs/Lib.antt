@@ -5,3 +5,4 @@ pub mod Plain
 pub mod Batch
 pub mod Packing
 pub mod Covers
+pub mod Mending

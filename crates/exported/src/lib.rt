@@ -18,6 +18,7 @@ use document::judge::judge;
 pub mod engine; // the plain engine
 pub mod packing; // the packed list
 pub mod covering; // the check of two lists
+pub mod mending; // a document that stops half way
 
 // The number, the second and the third.
 #[repr(C)]
