@@ -19,6 +19,7 @@ mod gazetteer;
 #[allow(dead_code)]
 #[path = "../speed/lists.rs"]
 mod lists;
+mod mend;
 mod narrow;
 // The gazetteer and its lists draw in some of its ways only.
 #[allow(dead_code)]
@@ -33,8 +34,12 @@ use vectors::suite::verdicts;
 
 /// The other calls: the name, a run on all its cases, and one on so many of its generator from a seed.
 type Trial = (&'static str, fn(), fn(usize, u64));
-const CALLS: &[Trial] =
-    &[("batch", batch::packs, batch::fuzz), ("packed", packed::packs, packed::fuzz), ("covers", covers::packs, covers::fuzz)];
+const CALLS: &[Trial] = &[
+    ("batch", batch::packs, batch::fuzz),
+    ("packed", packed::packs, packed::fuzz),
+    ("covers", covers::packs, covers::fuzz),
+    ("mend", mend::packs, mend::fuzz),
+];
 
 fn main() {
     let args: Vec<String> = std::env::args().skip(1).collect();
