@@ -55,8 +55,8 @@ pub struct FourNumbers {
 pub struct Numbers {
     /// 0 where what is asked for is sound or written, else why it is refused.
     pub number: u64,
-    /// Under 0 the length written, or of two lists 1 if the narrow one is covered; under 9 the length needed, else the line or the offset at
-    /// fault, or 0.
+    /// Under 0 the length written, or of two lists 1 if the narrow one is covered; under 9 the length needed, else the line or the offset
+    /// at fault, or 0.
     pub second: u64,
     /// Under 0 how many elements are selected, in a batch in all documents; of two lists, which is refused, 1 or 2; else 0.
     pub third: u64,

@@ -28,8 +28,8 @@ recalled {counts} {t} {e} (something w few) h r m s y =
     (w ∙ ap₂ (knownOf counts t) r (sym (states-same m (e .parent) (sym s ∙ y))), few)
 
 -- made anew
-pub known-made : (counts : Bool) (t : List ℕ) (k : ℕ) (m : MatchState) {f : Fit} → f ≡ fitAt t k → {below : MatchState} → below ≡ deeperOf m f
-    → {v : Verdict} → v ≡ verdictBy m f → {n : ℕ} → (n ≡ testsIn counts t k m) × (n ≤ 512)
+pub known-made : (counts : Bool) (t : List ℕ) (k : ℕ) (m : MatchState) {f : Fit} → f ≡ fitAt t k → {below : MatchState}
+    → below ≡ deeperOf m f → {v : Verdict} → v ≡ verdictBy m f → {n : ℕ} → (n ≡ testsIn counts t k m) × (n ≤ 512)
     → (_≡_ {A = Known} (record { row = k; parent = m; below = below; verdict = v; tests = n }) (knownOf counts t k m)) × (n ≤ 512)
 unfolding knownOf
 known-made counts t k m f b v n = (rw (n .0, b, v, f), n .1)

@@ -1,5 +1,5 @@
-// The functions that the library exports, beside the second program: the same numbers, and the same bytes in the whole buffer. And the plain
-// engine beside the cut: the first three of its numbers, and the same bytes.
+// The functions that the library exports, beside the second program: the same numbers, and the same bytes in the whole buffer. And the
+// plain engine beside the cut: the first three of its numbers, and the same bytes.
 //
 //     packs FOLDER         the packed cases, and those of the other calls
 //     limits               documents at the most bytes that one may have and about it
