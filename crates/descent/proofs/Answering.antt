@@ -1,7 +1,7 @@
 -- `cut`, and the functions under it: one law for each way out, about the answer and about the buffer. They are those of the crate cutter,
 -- with the number of name tests left out. What `whole` comes to is read as a pass whose log has no room: nothing is said of notes.
 use mathlib.Core.Path.{_≡_, refl, sym, ap, _∙_}
-use mathlib.Core.Bool.{Bool, true, false}
+use mathlib.Core.Bool.{Bool, true, false, cond}
 use mathlib.Core.List.{List, []}
 use Prim.Native.Nat.{ℕ, _≤_, _<_}
 use native.Mathlib.Omega.{arith}
@@ -18,7 +18,7 @@ use Rattle.document.specs.Judge.{startOf}
 use Rattle.document.specs.declared.Why.{Why}
 use Rattle.document.specs.declared.Why.the-variants as why
 use Rattle.trees.specs.Written.{testsOf}
-use Rattle.passes.specs.Passed.{Passed}
+use Rattle.passes.specs.Passed.{PassedBy}
 use Rattle.passes.specs.declared.Outcome.{Outcome}
 use Rattle.passes.specs.declared.Outcome.the-variants as pass
 use Rattle.cutter.specs.Answer.{faultOf, answerBy, bytesBy, answerOf, bytesAfter}
@@ -65,12 +65,13 @@ plain list d o v = let z = both list d o v in (ap without (z .0), z .1)
 -- ---- a sound list and a document of characters
 
 -- a log without room, and one note
-abbrev passBy : List ℕ → List ℕ → Read → Outcome
-passBy list d (Ends at end r) = pass.Fine (r .len) (r .count) (testsOf list d) 1
-passBy list d (Fault w at) = pass.Fault w at
+abbrev passBy : Bool → List ℕ → List ℕ → Read → Outcome
+passBy counts list d (Ends at end r) = pass.Fine (r .len) (r .count) (cond counts (testsOf list d) 0) 1
+passBy counts list d (Fault w at) = pass.Fault w at
 
-passed : (list d o : List ℕ) (x : Read) (o′ : List ℕ) → WholeTold list d o x o′ → Passed list d o (passBy list d x) o′ []
-passed list d o (Ends at end r) o′ p =
+passed : (counts : Bool) (list d o : List ℕ) (x : Read) (o′ : List ℕ) → WholeTold list d o x o′
+    → PassedBy counts list d o (passBy counts list d x) o′ []
+passed counts list d o (Ends at end r) o′ p =
     record {
       judged = p .sound;
       told = (
@@ -81,26 +82,27 @@ passed list d o (Ends at end r) o′ p =
         record { text = λ l. absurd (omega arith); inside = λ l. absurd (omega arith) },
       );
     }
-passed list d o (Fault w at) o′ p = record { judged = p; told = tt }
+passed counts list d o (Fault w at) o′ p = record { judged = p; told = tt }
 
 module _ (list d o : List ℕ) (small : length d ≤ 16777216) (utf8 : otherEncoding (drop (startOf d) d) ≡ false)
     (chars : checkOf d ≡ All) (s : List ℕ) (x : Read) (s′ : List ℕ) (p : WholeIs list d s x s′) where
   pub plain-fault : {w : Why} {at : ℕ} → x ≡ Fault w at → {r : Answer} → r ≡ without (faultOf w at) → PlainBy list d o r o
   plain-fault {w} {at} q e =
-      let z = plain-by list d o (written-fault list d o small utf8 chars (passed list d s x s′ (p .told)) (ap (passBy list d) q) refl) in
+      let first = passed true list d s x s′ (p .told) in
+      let z = plain-by list d o (written-fault list d o small utf8 chars first (ap (passBy true list d) q) refl) in
       (e ∙ z .0, z .1)
 
   module _ {at end : ℕ} {r : Run} (q : x ≡ Ends at end r) where
     pub plain-short : length o < r .len → PlainBy list d o (Short (r .len)) o
     plain-short l =
-        plain-by list d o (written-short list d o small utf8 chars (passed list d s x s′ (p .told)) (ap (passBy list d) q) l)
+        plain-by list d o (written-short list d o small utf8 chars (passed true list d s x s′ (p .told)) (ap (passBy true list d) q) l)
 
     pub plain-whole : r .len ≤ length o → (y : Read) (o′ : List ℕ) → WholeIs list d o y o′
         → PlainBy list d o (Written (r .len) (r .count)) o′
     plain-whole l y o′ p₂ =
-        let first = passed list d s x s′ (p .told) in
-        let second = passed list d o y o′ (p₂ .told) in
-        plain-by list d o (written-whole list d o small utf8 chars first (ap (passBy list d) q) l second)
+        let first = passed true list d s x s′ (p .told) in
+        let second = passed false list d o y o′ (p₂ .told) in
+        plain-by list d o (written-whole list d o small utf8 chars first (ap (passBy true list d) q) l second)
 
 -- ---- a sound list
 

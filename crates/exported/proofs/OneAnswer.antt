@@ -15,8 +15,7 @@ use Rattle.exported.proofs.engine.choughbell_plain.Reads as plain
 use Rattle.descent.specs.Agree.{Agree}
 use Rattle.exported.specs.declared.Numbers.{Numbers}
 use Rattle.exported.specs.declared.FourNumbers.{FourNumbers}
-use Rattle.exported.proofs.batch_numbers_of.Reads as batch-numbers
-use Rattle.exported.proofs.choughbell_batch.Reads as batch
+use Rattle.exported.proofs.post.choughbell_batch.Reads as batch
 
 pub characters-one : OneResult characters.Asked characters.Learnt
 characters-one κs a z z′ e e′ x p q = p ∙ sym q
@@ -46,9 +45,7 @@ pub plain-alike : Agree cut.Asked cut.Learnt plain.Asked plain.Learnt (λ κs z 
     (λ κs e. now (e .1 .1 .0))
 plain-alike κs a z z′ e e′ x x′ p q = (q .0 ∙ sym (ap firstThree (p .0)), p .1 ∙ sym (q .1))
 
--- a batch: its numbers, and what is left in the buffer
-pub batch-numbers-one : OneResult batch-numbers.Asked batch-numbers.Learnt
-batch-numbers-one κs a z z′ e e′ x p q = p ∙ sym q
+-- ---- a batch
 
 pub batch-one : OneOutcome batch.Asked batch.Learnt (λ κs e. now (e .1 .1 .0))
 batch-one κs a z z′ e e′ x p q = (p .0 ∙ sym (q .0), p .1 ∙ sym (q .1))

@@ -5,10 +5,7 @@ ghost use mathlib.Core.Path.{_≡_};
 ghost use lib.ListN.{length};
 ghost use Rattle.document.specs.Judge.{whyNumber, judgeOf};
 ghost use Rattle.cutter.specs.Answer.{answerOf, bytesAfter};
-ghost use Rattle.batch.specs.Answer.{batchOf, batchBytes};
-ghost use Rattle.exported.specs.Batch.{batchNumbersOf};
 ghost use Rattle.exported.specs.Numbers.{charactersEnd, refusalOf, refusedOf, judgedOf, numbersOf};
-use batch::BatchAnswer;
 use chars::whole::Checked;
 use cutter::Answer;
 use document::Why;
@@ -16,6 +13,7 @@ use document::judge::Judged;
 use document::judge::judge;
 
 pub mod engine; // the plain engine
+pub mod post; // a batch
 pub mod packing; // the packed list
 pub mod covering; // the check of two lists
 pub mod mending; // a document that stops half way
@@ -148,32 +146,4 @@ pub extern "C" fn choughbell_cut_with(
 {
     let a = cutter::cut_with(list, doc, out, log);
     numbers_of(a)
-}
-
-// The numbers of the answer on a batch.
-pub fn batch_numbers_of(a: BatchAnswer) -> Numbers
-    ensures { λ r. ⌜ r ≡ batchNumbersOf a ⌝ }
-{
-    match a {
-        BatchAnswer::Written { length, selected } => Numbers {
-            number: 0,
-            second: length as u64,
-            third: selected as u64,
-        },
-        BatchAnswer::ListTooLong => refusal(1, 0),
-        BatchAnswer::ListMalformed(line) => refusal(2, line),
-        BatchAnswer::ListTooLarge(line) => refusal(3, line),
-        BatchAnswer::BadBatch(o) => refusal(11, o),
-        BatchAnswer::Short(needed) => refusal(9, needed),
-    }
-}
-
-// Writes the result of a batch by a list into a buffer, and gives the numbers of the answer.
-#[no_mangle]
-pub extern "C" fn choughbell_batch(list: &[u8], batch: &[u8], out: &mut [u8]) -> Numbers
-    ensures { λ r. ⌜ r ≡ batchNumbersOf (batchOf (now (list .entry)) (now (batch .entry)) (length (now (out .entry)))) ⌝ }
-    ensures { λ r. ⌜ now (out .exit) ≡ batchBytes (now (list .entry)) (now (batch .entry)) (now (out .entry)) ⌝ }
-{
-    let a = batch::cut_all(list, batch, out);
-    batch_numbers_of(a)
 }

@@ -3,8 +3,8 @@
 use mathlib.Core.Path.{ap, _∙_}
 use Rattle.exported.specs.Batch.{batchNumbersOf}
 use borrow.Author.Needs.{needs}
-use Rattle.exported.proofs.choughbell_batch.Statement.{statement}
-use Rattle.exported.proofs.choughbell_batch.Tie as tie
+use Rattle.exported.proofs.post.choughbell_batch.Statement.{statement}
+use Rattle.exported.proofs.post.choughbell_batch.Tie as tie
 
 cut-all-requires : tie.Need-cut-all-requires
 cut-all-requires c κs = search needs

@@ -1,8 +1,8 @@
 -- `batch_numbers_of` meets its contract: each case of the answer gives its numbers.
 -- proofs/Batching.antt has the law.
 use Rattle.exported.proofs.Batching.{batching}
-use Rattle.exported.proofs.batch_numbers_of.Statement.{statement}
-use Rattle.exported.proofs.batch_numbers_of.Tie as tie
+use Rattle.exported.proofs.post.batch_numbers_of.Statement.{statement}
+use Rattle.exported.proofs.post.batch_numbers_of.Tie as tie
 
 enum-known-a : tie.Need-enum-known-a
 enum-known-a c = search batching
