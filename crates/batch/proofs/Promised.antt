@@ -20,7 +20,9 @@ use Rattle.document.specs.declared.judge.Judged.{Judged}
 use Rattle.document.specs.declared.judge.Judged.the-variants as judged
 use Rattle.trees.specs.Written.{cutOf, countOf}
 use Rattle.cutter.specs.Answer as single
+use Rattle.covers.specs.Cover.{Covered}
 use Rattle.demands.specs.Within.{Within}
+use Rattle.demands.proofs.Narrow.{within-covered}
 use Rattle.demands.proofs.Demands.{Answered, demand-1}
 use Rattle.demands.proofs.Demand3.{cut-accepted, cut-again, count-again}
 use Rattle.bundle.specs.Batch.{printBatch, entriesOf, layoutOf}
@@ -113,7 +115,7 @@ batch-demand-1 list b o h =
 
 -- ---- demand 3, per document inside, and so of whole batches: batch(narrow, batch(wide, B)) = batch(narrow, B)
 
-module _ (narrow wide : List ℕ) (within : Within (listPaths narrow) (listPaths wide)) where
+module _ (narrow wide : List ℕ) (covered : Covered (listPaths narrow) (listPaths wide)) where
   -- a refused document has an empty entry, which is refused again
   pub entry-again : (d : List ℕ) → length (entryOf wide d) ≤ 16777216 → entryOf narrow (entryOf wide d) ≡ entryOf narrow d
   unfolding entryOf
@@ -121,7 +123,7 @@ module _ (narrow wide : List ℕ) (within : Within (listPaths narrow) (listPaths
     where
       go : (j : Judged) → judgeOf d ≡ j → length (ofSound j (cutOf wide d) []) ≤ 16777216
           → ofSound (judgeOf (ofSound j (cutOf wide d) [])) (cutOf narrow (ofSound j (cutOf wide d) [])) [] ≡ ofSound j (cutOf narrow d) []
-      go judged.Sound e l = rw (cut-accepted narrow wide d within e l) (cut-again narrow wide d within e l)
+      go judged.Sound e l = rw (cut-accepted narrow wide d covered e l) (cut-again narrow wide d covered e l)
       go judged.TooLong e l = empty-entry narrow
       go (judged.OtherEncoding k) e l = empty-entry narrow
       go (judged.NotChar k) e l = empty-entry narrow
@@ -137,7 +139,7 @@ module _ (narrow wide : List ℕ) (within : Within (listPaths narrow) (listPaths
       go : (j : Judged) → judgeOf d ≡ j → length (ofSound j (cutOf wide d) []) ≤ 16777216
           → ofSound (judgeOf (ofSound j (cutOf wide d) [])) (countOf narrow (ofSound j (cutOf wide d) [])) 0
           ≡ ofSound j (countOf narrow d) 0
-      go judged.Sound e l = rw (cut-accepted narrow wide d within e l) (count-again narrow wide d within e l)
+      go judged.Sound e l = rw (cut-accepted narrow wide d covered e l) (count-again narrow wide d covered e l)
       go judged.TooLong e l = empty-selected
       go (judged.OtherEncoding k) e l = empty-selected
       go (judged.NotChar k) e l = empty-selected
@@ -181,17 +183,26 @@ batch-answers list b o p e l = rw (p, e, le-ltb (length o) (length (resultOf lis
 
 -- Of two calls: the first writes the wide result, n bytes, at the front of the buffer o; the second takes these bytes as a batch, into the
 -- buffer o′. "as long as the wide result is within the batch size and its cuts within the document size".
-pub batch-demand-3 : (narrow wide b o o′ : List ℕ) (n k : ℕ) → listAnswer narrow ≡ lists.Sound → listAnswer wide ≡ lists.Sound
-    → Within (listPaths narrow) (listPaths wide) → layoutOf b ≡ layout.Sound → batchOf wide b (length o) ≡ Written n k → n ≤ 67108864
+pub batch-demand-3-covered : (narrow wide b o o′ : List ℕ) (n k : ℕ) → listAnswer narrow ≡ lists.Sound → listAnswer wide ≡ lists.Sound
+    → Covered (listPaths narrow) (listPaths wide) → layoutOf b ≡ layout.Sound → batchOf wide b (length o) ≡ Written n k → n ≤ 67108864
     → All (λ d. length (entryOf wide d) ≤ 16777216) (entriesOf b) → length (resultOf narrow b) ≤ length o′
     → (batchOf narrow (take n (batchBytes wide b o)) (length o′) ≡ Written (length (resultOf narrow b)) (selectedIn narrow b))
     × (batchBytes narrow (take n (batchBytes wide b o)) o′ ≡ resultOf narrow b ++ drop (length (resultOf narrow b)) o′)
-batch-demand-3 narrow wide b o o′ n k p q within e a size sizes room =
+batch-demand-3-covered narrow wide b o o′ n k p q covered e a size sizes room =
     let z = written-is wide b o (ap numberOf a) in
     let m : n ≡ length (resultOf wide b) = sym (ap secondOf a) ∙ z .0 in
     let t : take n (batchBytes wide b o) ≡ resultOf wide b =
     ap (take n) (z .2) ∙ take-at (resultOf wide b) (drop (secondOf (batchOf wide b (length o))) o) n (sym m) in
     let s = result-sound wide b (omega (arith, m)) in
-    let r = result-again narrow wide within b e sizes in
+    let r = result-again narrow wide covered b e sizes in
     let y = batch-answers narrow (resultOf wide b) o′ p s (rw r room) in
-    rw t (rw (r, sum-again narrow wide within b e sizes) at y)
+    rw t (rw (r, sum-again narrow wide covered b e sizes) at y)
+
+-- the same where each narrow path stands in the wide list
+pub batch-demand-3 : (narrow wide b o o′ : List ℕ) (n k : ℕ) → listAnswer narrow ≡ lists.Sound → listAnswer wide ≡ lists.Sound
+    → Within (listPaths narrow) (listPaths wide) → layoutOf b ≡ layout.Sound → batchOf wide b (length o) ≡ Written n k → n ≤ 67108864
+    → All (λ d. length (entryOf wide d) ≤ 16777216) (entriesOf b) → length (resultOf narrow b) ≤ length o′
+    → (batchOf narrow (take n (batchBytes wide b o)) (length o′) ≡ Written (length (resultOf narrow b)) (selectedIn narrow b))
+    × (batchBytes narrow (take n (batchBytes wide b o)) o′ ≡ resultOf narrow b ++ drop (length (resultOf narrow b)) o′)
+batch-demand-3 narrow wide b o o′ n k p q within =
+    batch-demand-3-covered narrow wide b o o′ n k p q (within-covered within)
