@@ -41,10 +41,10 @@ try 'a folder in no folder' 73 batch -l v.lst -d none/below post/three.xml
 
 # A list at fault decides, and nothing is made.
 printf 'v\n' > bad.lst
-start batch -l bad.lst -d made post/one.xml > "$notes/printed" 2> "$notes/said" && fault 'a refused list' 'status 0'
+start batch -l bad.lst -d unmade post/one.xml > "$notes/printed" 2> "$notes/said" && fault 'a refused list' 'status 0'
 ran=$((ran + 1))
 head -n 1 "$notes/said" | grep -q '^bad.lst:1: 2: malformed line: "v": ' || fault 'a refused list' "$(cat "$notes/said")"
-[ ! -e made ] || fault 'a refused list' 'a folder is made'
+[ ! -e unmade ] || fault 'a refused list' 'a folder is made'
 
 # A batch file, in and out: lengths of 18 and 3 bytes, and of 21 and none.
 printf '\001\000\000\000\022<g><p><v/></p></g>\000\000\000\003<g>' > night.post
