@@ -3,11 +3,12 @@
 //! named on the standard error, and the others are cut all the same. Gives the exit status: 0, or the number of the first refusal.
 use crate::input::Source;
 use crate::output::Sink;
+use crate::packing;
 use crate::report::{self, Read};
 use crate::say;
 use crate::shown;
 use crate::trouble::{self, Trouble};
-use choughbell::{Refusal, BATCH_LIMIT, DOCUMENT_LIMIT, LIST_LIMIT};
+use choughbell::{Refusal, BATCH_LIMIT, DOCUMENT_LIMIT};
 use std::ffi::OsString;
 use std::fs;
 use std::io::{self, Write};
@@ -19,6 +20,8 @@ use std::time::{Duration, Instant};
 #[derive(PartialEq, Eq, Debug)]
 pub struct Post {
     pub list: Source,
+    /// The list is in its packed form.
+    pub packed: bool,
     pub way: Way,
     pub quiet: bool,
 }
@@ -38,7 +41,11 @@ const CALL: usize = 4 << 20;
 const PATIENCE: Duration = Duration::from_secs(1);
 
 pub fn run(post: &Post) -> Result<u8, Trouble> {
-    let list = Read { name: post.list.name(), bytes: post.list.read(LIST_LIMIT)? };
+    let list = packing::read(&post.list, post.packed)?;
+    let list = match packing::text(&list, post.packed) {
+        Ok(text) => text,
+        Err(refusal) => return Ok(refused(post, refusal, &list, &list)),
+    };
     match &post.way {
         Way::Documents(documents, folder) => documents_to(post, &list, documents, folder),
         Way::Batch(source, sink) => batch_to(post, &list, source, sink),

@@ -23,7 +23,7 @@ A file that is not named, or named -, is the standard input or output.
                        then * or a name, again and again; behind the last of them perhaps
                        a test of an attribute, [@name=\"value\"]; one space and # at the end
                        keep the whole entry
-      --packed         LIST is in its packed form
+      --packed         LIST is in its packed form; of covers, both are
   -o, --output OUTPUT  is replaced when all is there to write, and else stays as it was
   -d, --folder FOLDER  where the cuts of a batch go, under the names of the documents
       --count          print only: kept, the elements selected, the length of the cut; and

@@ -5,7 +5,7 @@ use crate::packing;
 use crate::report::{self, Read};
 use crate::say;
 use crate::trouble::Trouble;
-use choughbell::{Refusal, DOCUMENT_LIMIT, LIST_LIMIT};
+use choughbell::{Refusal, DOCUMENT_LIMIT};
 
 /// What is asked for.
 #[derive(PartialEq, Eq, Debug)]
@@ -25,14 +25,14 @@ pub struct Task {
 
 pub fn run(task: &Task) -> Result<u8, Trouble> {
     let list = match &task.list {
-        Some(list) if task.packed => match packing::text(list)? {
-            Ok(text) => text,
-            Err((packed, refusal)) => return refused(task, refusal, &packed, &packed),
-        },
-        Some(list) => Read { name: list.name(), bytes: list.read(LIST_LIMIT)? },
+        Some(list) => packing::read(list, task.packed)?,
         None => Read { name: String::new(), bytes: Vec::new() },
     };
     let document = Read { name: task.document.name(), bytes: task.document.read(DOCUMENT_LIMIT)? };
+    let list = match packing::text(&list, task.packed) {
+        Ok(text) => text,
+        Err(refusal) => return refused(task, refusal, &list, &document),
+    };
     let done = match &task.list {
         Some(_) if task.plain => {
             choughbell::plain_of(&list.bytes, &document.bytes).map(|cut| written(task, &cut.bytes, cut.selected, None))

@@ -201,7 +201,7 @@ fn batch(given: Given) -> Result<Request, String> {
         }
         (None, _) => return Err("batch takes one batch, or with -d FOLDER documents".to_string()),
     };
-    Ok(Request::Batch(Post { list, way, quiet: given.quiet }))
+    Ok(Request::Batch(Post { list, packed: given.packed, way, quiet: given.quiet }))
 }
 
 /// Documents with the names of their cuts, of which no two are the same.
@@ -260,8 +260,8 @@ fn packing(command: &str, given: Given) -> Result<Request, String> {
 }
 
 fn covers(given: Given) -> Result<Request, String> {
-    if given.list.is_some() || given.output.is_some() || given.count || given.packed {
-        return Err("covers takes no --list, --output, --packed or --count".to_string());
+    if given.list.is_some() || given.output.is_some() || given.count {
+        return Err("covers takes no --list, --output or --count".to_string());
     }
     if given.quiet && given.json {
         return Err("--quiet and --json don't go together".to_string());
@@ -275,7 +275,7 @@ fn covers(given: Given) -> Result<Request, String> {
     if narrow == Source::Standard && wide == Source::Standard {
         return Err("the two lists can't both come from the standard input".to_string());
     }
-    Ok(Request::Covers(Asked { narrow, wide, quiet: given.quiet, json: given.json }))
+    Ok(Request::Covers(Asked { narrow, wide, packed: given.packed, quiet: given.quiet, json: given.json }))
 }
 
 fn explain(given: Given) -> Result<Request, String> {

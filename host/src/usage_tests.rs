@@ -49,6 +49,8 @@ fn a_list_is_packed_and_back() {
     assert_eq!(packing(&["unpack", "-q", "-oo", "-"]), expected);
     assert!(matches!(asked(&["cut", "--packed", "-la"]), Ok(Request::Task(Task { packed: true, .. }))));
     assert!(matches!(asked(&["cut", "-la"]), Ok(Request::Task(Task { packed: false, .. }))));
+    assert!(matches!(asked(&["batch", "-la", "--packed"]), Ok(Request::Batch(Post { packed: true, .. }))));
+    assert!(matches!(asked(&["covers", "--packed", "--narrow=n", "--wide=w"]), Ok(Request::Covers(Asked { packed: true, .. }))));
 }
 
 #[test]
@@ -113,7 +115,7 @@ fn batch_goes_two_ways() {
 
 #[test]
 fn covers_takes_two_lists() {
-    let asked_for = Asked { narrow: file("n"), wide: file("w"), quiet: true, json: false };
+    let asked_for = Asked { narrow: file("n"), wide: file("w"), packed: false, quiet: true, json: false };
     assert_eq!(asked(&["covers", "--narrow", "n", "--wide=w", "-q"]), Ok(Request::Covers(asked_for)));
     let wrong = |words: &[&str]| asked(words).unwrap_err();
     assert_eq!(wrong(&["covers", "--narrow", "n"]), "covers wants two lists: --narrow LIST --wide LIST");

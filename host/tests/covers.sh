@@ -87,7 +87,7 @@ try 'covers: no list' 66 covers --narrow absent.lst --wide v.lst
 
 usage 'covers wants two lists: --narrow LIST --wide LIST'
 try 'covers: one list' 64 covers --narrow v.lst
-usage 'covers takes no --list, --output, --packed or --count'
+usage 'covers takes no --list, --output or --count'
 try 'covers: a list of another command' 64 covers --narrow v.lst --wide v.lst -l v.lst
 usage "the two lists can't both come from the standard input"
 try 'covers: two times standard input' 64 covers --narrow - --wide /dev/stdin
