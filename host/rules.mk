@@ -1,6 +1,6 @@
 # The command `choughbell`, and the library under it.
 
-.PHONY: library cargo proving choughbell host-tests install uninstall x86 x86-library x86-host-tests
+.PHONY: library xmllint cargo proving choughbell host-tests install uninstall x86 x86-library x86-host-tests
 
 # The proved library: for the machine at hand, and on the way the toolchain's static library for x86-64. It is made again when source or
 # proofs have changed.
@@ -34,7 +34,11 @@ choughbell: proving library cargo
 	@mkdir -p target/host && cp target/cargo/release/choughbell target/host/choughbell
 
 # The tests of its parts print only what fails. Those of the command print how many runs there were.
-host-tests: choughbell
+# Of the commands that `explain` names, xmllint may be missing: then the tests say that they leave those out.
+xmllint:
+	@command -v xmllint > /dev/null || $(call fetch,libxml2-utils) || true
+
+host-tests: choughbell xmllint
 	@cargo test -q $(HOST_CARGO_WORDS) > target/log/host 2>&1 || { cat target/log/host; exit 1; }
 	host/tests/run.sh target/host/choughbell
 

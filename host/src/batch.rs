@@ -65,7 +65,7 @@ fn documents_to(post: &Post, list: &Read, documents: &[(PathBuf, OsString)], fol
     let mut rest = documents;
     // The list is judged before anything is read or made.
     if let Err(refusal) = choughbell::batch_of(&list.bytes, &choughbell::bundle([])) {
-        return Ok(refused(post, refusal, list, &Read { name: String::new(), bytes: Vec::new() }));
+        return Ok(refused(post, refusal, list, &Read::default()));
     }
     make(folder)?;
     while !rest.is_empty() {
@@ -74,7 +74,7 @@ fn documents_to(post: &Post, list: &Read, documents: &[(PathBuf, OsString)], fol
         let batch = choughbell::bundle(group.iter().map(|(document, _)| document.bytes.as_slice()));
         let result = match choughbell::batch_of(&list.bytes, &batch) {
             Ok(result) => result,
-            Err(refusal) => return Ok(refused(post, refusal, list, &Read { name: String::new(), bytes: batch })),
+            Err(refusal) => return Ok(refused(post, refusal, list, &Read::whole(String::new(), batch))),
         };
         for ((document, name), entry) in group.iter().zip(choughbell::entries(&result.bytes)) {
             if !entry.is_empty() {
@@ -96,10 +96,10 @@ fn some<'a>(post: &Post, documents: &'a [(PathBuf, OsString)], status: &mut u8) 
     while taken < documents.len() && bytes < CALL {
         let (path, name) = &documents[taken];
         let source = Source::File(path.clone());
-        match source.read(DOCUMENT_LIMIT) {
+        match Read::of(&source, DOCUMENT_LIMIT) {
             Ok(document) => {
-                bytes += document.len();
-                group.push((Read { name: source.name(), bytes: document }, name));
+                bytes += document.bytes.len();
+                group.push((document, name));
             }
             Err(Trouble { status: number, message }) => {
                 first(status, number);
@@ -124,7 +124,7 @@ fn make(folder: &Path) -> Result<(), Trouble> {
 }
 
 fn batch_to(post: &Post, list: &Read, source: &Source, sink: &Sink) -> Result<u8, Trouble> {
-    let batch = Read { name: source.name(), bytes: source.read(BATCH_LIMIT)? };
+    let batch = Read::of(source, BATCH_LIMIT)?;
     let result = match choughbell::batch_of(&list.bytes, &batch.bytes) {
         Ok(result) => result,
         Err(refusal) => return Ok(refused(post, refusal, list, &batch)),
@@ -137,7 +137,7 @@ fn batch_to(post: &Post, list: &Read, source: &Source, sink: &Sink) -> Result<u8
             continue;
         }
         if let Err(refusal) = choughbell::check(document) {
-            let document = Read { name: format!("{}, document {}", batch.name, i + 1), bytes: document.to_vec() };
+            let document = Read::whole(format!("{}, document {}", batch.name, i + 1), document.to_vec());
             first(&mut status, refused(post, refusal, list, &document));
         }
     }

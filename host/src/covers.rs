@@ -95,7 +95,7 @@ mod tests {
     use super::*;
 
     fn list(name: &str, bytes: &[u8]) -> Read {
-        Read { name: name.to_string(), bytes: bytes.to_vec() }
+        Read::whole(name.to_string(), bytes.to_vec())
     }
 
     #[test]

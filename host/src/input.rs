@@ -3,10 +3,10 @@
 use crate::shown;
 use crate::trouble::{self, Trouble};
 use std::ffi::OsStr;
-use std::fs::File;
+use std::fs::{self, File, Metadata};
 use std::io::{self, Read};
 use std::os::unix::ffi::OsStrExt;
-use std::path::PathBuf;
+use std::path::{Path, PathBuf};
 
 #[derive(PartialEq, Eq, Debug)]
 pub enum Source {
@@ -29,6 +29,15 @@ impl Source {
             Source::Standard => "standard input".to_string(),
             Source::File(path) => shown::all(path.as_os_str().as_bytes()),
         }
+    }
+
+    /// How many bytes it has, where it is a regular file.
+    pub fn size(&self) -> Option<u64> {
+        let path = match self {
+            Source::Standard => Path::new("/dev/stdin"),
+            Source::File(path) => path,
+        };
+        fs::metadata(path).ok().filter(Metadata::is_file).map(|file| file.len())
     }
 
     /// Its bytes, up to one more than `limit`.

@@ -37,16 +37,21 @@ fn main() -> ExitCode {
             return ExitCode::from(trouble::USAGE);
         }
     };
-    let quiet = match &request {
-        Request::Task(task) => task.quiet,
-        Request::Batch(post) => post.quiet,
-        Request::Packing(packing) => packing.quiet,
-        Request::Covers(asked) => asked.quiet,
-        Request::Mend(task) => task.quiet,
-        _ => false,
+    let (quiet, json) = match &request {
+        Request::Task(task) => (task.quiet, task.json),
+        Request::Batch(post) => (post.quiet, false),
+        Request::Packing(packing) => (packing.quiet, packing.json),
+        Request::Covers(asked) => (asked.quiet, asked.json),
+        Request::Mend(task) => (task.quiet, task.json),
+        _ => (false, false),
     };
     match answer(&request) {
-        Ok(status) => ExitCode::from(status),
+        Ok(status) => {
+            if (1..=13).contains(&status) && !quiet && !json {
+                say(&format!("choughbell explain {status} tells more"));
+            }
+            ExitCode::from(status)
+        }
         Err(Trouble { status, message }) => {
             if let Some(message) = message.filter(|_| !quiet) {
                 say(&format!("choughbell: {message}"));

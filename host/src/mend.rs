@@ -19,7 +19,7 @@ pub struct Mending {
 }
 
 pub fn run(task: &Mending) -> Result<u8, Trouble> {
-    let document = Read { name: task.document.name(), bytes: task.document.read(DOCUMENT_LIMIT)? };
+    let document = Read::of(&task.document, DOCUMENT_LIMIT)?;
     match choughbell::mend_of(&document.bytes) {
         Ok(mended) => {
             task.output.write(&mended.bytes)?;
@@ -28,8 +28,7 @@ pub fn run(task: &Mending) -> Result<u8, Trouble> {
             Ok(0)
         }
         Err(refusal) => {
-            let none = Read { name: String::new(), bytes: Vec::new() };
-            let report = report::report(refusal, &none, &document);
+            let report = report::report(refusal, &Read::default(), &document);
             tell(task, &report.message(), report.placed(numbers(refusal.number(), refusal.second(), 0, 0, refusal.meaning())))?;
             Ok(refusal.number() as u8)
         }

@@ -52,11 +52,11 @@ fn numbers(packing: &Packing, line: impl FnOnce() -> String) -> Result<(), Troub
 
 /// The bytes of a list for another command, packed or not.
 pub fn read(list: &Source, packed: bool) -> Result<Read, Trouble> {
-    Ok(Read { name: list.name(), bytes: list.read(if packed { PACKED_LIMIT } else { LIST_LIMIT })? })
+    Read::of(list, if packed { PACKED_LIMIT } else { LIST_LIMIT })
 }
 
 /// The text of a list, where it is named as a packed one by the proved reader; a text is judged later, by the call that takes it.
 pub fn text(list: &Read, packed: bool) -> Result<Read, Refusal> {
     let bytes = if packed { choughbell::unpack_of(&list.bytes)? } else { list.bytes.clone() };
-    Ok(Read { name: list.name.clone(), bytes })
+    Ok(Read { name: list.name.clone(), bytes, size: list.size })
 }

@@ -26,9 +26,9 @@ pub struct Task {
 pub fn run(task: &Task) -> Result<u8, Trouble> {
     let list = match &task.list {
         Some(list) => packing::read(list, task.packed)?,
-        None => Read { name: String::new(), bytes: Vec::new() },
+        None => Read::default(),
     };
-    let document = Read { name: task.document.name(), bytes: task.document.read(DOCUMENT_LIMIT)? };
+    let document = Read::of(&task.document, DOCUMENT_LIMIT)?;
     let list = match packing::text(&list, task.packed) {
         Ok(text) => text,
         Err(refusal) => return refused(task, refusal, &list, &document),

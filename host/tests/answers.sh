@@ -92,10 +92,10 @@ try 'numbers only, refused' 7 cut --count -l v.lst wrong.xml
 
 # 1
 repeat 8193 / > long.lst
-says 'long.lst: 1: list over 8,192 bytes'
+says 'long.lst: 1: list over 8,192 bytes: it has 8,193'
 try 'list of 8,193 bytes' 1 cut -l long.lst b.xml
 input=long.lst
-says 'standard input: 1: list over 8,192 bytes'
+says 'standard input: 1: list over 8,192 bytes: it has 8,193'
 try 'long list on standard input' 1 cut -l - b.xml
 says '/dev/zero: 1: list over 8,192 bytes'
 try 'list without end' 1 cut -l /dev/zero b.xml

@@ -8,9 +8,9 @@ done
 
 # judge NAME STATUS DOCUMENT: a run of the example of a document alone.
 judge() {
-    program_before=$program program=$room/c-judge
+    program_before=$program program=$room/c-judge foreign=yes
     try "C: $1" "$2" "$3"
-    program=$program_before
+    program=$program_before foreign=
 }
 lines sound 'characters: 18 of 18 bytes'
 judge 'a sound document' 0 b.xml
@@ -38,9 +38,9 @@ judge 'no bytes' 7 nothing.xml
 
 # example NAME STATUS WORDS..: a run of the example of a cut.
 example() {
-    program_before=$program program=$room/c-cut
+    program_before=$program program=$room/c-cut foreign=yes
     try "C: $1" "$2" "$3" "$4" ${5+"$5"}
-    program=$program_before
+    program=$program_before foreign=
 }
 prints '<g><p><v></v></p></g>'
 says '1 selected, 3 name tests'

@@ -18,7 +18,8 @@ holds 'a refused document' cuts/three.xml '<v></v>'
 printf '<!DOCTYPE g><g/>' > post/four.xml
 : > post/five.xml
 says 'post/five.xml:1:1: 7: not well-formed: at the end: there is no root (offset 0)' \
-    'post/four.xml:1:1: 6: document type: "<!DOCTYPE g>": take the type out; XML without one is the same to this filter (offset 0)'
+    'post/four.xml:1:1: 6: document type: "<!DOCTYPE g>": take the type out; XML without one is the same to this filter (offset 0)' \
+    'choughbell explain 7 tells more'
 start batch -l v.lst -d none post/five.xml post/four.xml > "$notes/printed" 2> "$notes/said" || got=$?
 ran=$((ran + 1))
 status 'the first refusal is the status' 7 "${got:-0}"

@@ -75,7 +75,7 @@ says "bad.lst:2: 2: malformed line: \"v w\": $front" '    v w' '    ^'
 try 'covers: a narrow line' 2 covers --narrow bad.lst --wide long.lst
 says "bad.lst:2: 2: malformed line: \"v w\": $front" '    v w' '    ^'
 try 'covers: a wide line' 2 covers --narrow none.lst --wide bad.lst
-says 'long.lst: 1: list over 8,192 bytes'
+says 'long.lst: 1: list over 8,192 bytes: it has 8,193'
 try 'covers: a wide list too long' 1 covers --narrow v.lst --wide long.lst
 hint="\"there\":\"v w\",\"hint\":\"$front\""
 lines "{\"number\":2,\"second\":2,\"third\":1,\"meaning\":\"malformed line\",\"file\":\"bad.lst\",\"line\":2,$hint}"

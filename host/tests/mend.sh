@@ -52,7 +52,7 @@ holds 'mend: a text of 16 MiB' whole.xml '<g></g>'
 says 'full.xml: kept 16777215 of 16777216 bytes, lost 1 from line 1 on, added 1 end tag'
 try 'mend: a result over the size' 0 mend full.xml -o whole.xml
 [ "$(wc -c < whole.xml)" = 16777219 ] || fault 'mend: a result over the size' 'another length'
-says 'whole.xml: 4: document over 16,777,216 bytes'
+says 'whole.xml: 4: document over 16,777,216 bytes: it has 16,777,219'
 try 'mend: a result over the size is refused' 4 mend whole.xml
 says '/dev/zero: 4: document over 16,777,216 bytes'
 try 'mend: a document without end' 4 mend /dev/zero

@@ -34,7 +34,8 @@ json 'the sample' 0 '{"number":0,"second":289,"third":8,"name_tests":113,"meanin
     cut -l "$root/examples/atlas.lst" "$root/examples/gazetteer.xml" --count --json
 json 'an empty list' 0 '{"number":0,"second":7,"third":0,"name_tests":0,"meaning":"written"}' cut -l none.lst b.xml --count --json
 json 'check' 0 '{"number":0,"second":0,"third":0,"name_tests":0,"meaning":"sound"}' check --json b.xml
-json 'a list too long' 1 '{"number":1,"second":0,"third":0,"name_tests":0,"meaning":"list over 8,192 bytes","file":"long.lst"}' \
+long='"meaning":"list over 8,192 bytes","file":"long.lst","hint":"it has 8,193"'
+json 'a list too long' 1 "{\"number\":1,\"second\":0,\"third\":0,\"name_tests\":0,$long}" \
     cut -l long.lst b.xml --count --json
 # refusal NUMBER SECOND MEANING FILE PLACE THERE HINT: the line of a refusal with a place.
 refusal() {

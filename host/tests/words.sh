@@ -56,17 +56,17 @@ explains() {
 explains 0 'written.' 6
 explains 1 'the list has over 8,192 bytes.' 3
 explains 2 'a line of the list is malformed;' 6
-explains 3 'a line of the list is too large, or it is line 33;' 4
-explains 4 'the document has over 16,777,216 bytes.' 2
-explains 5 'the document is not in UTF-8,' 4
-explains 6 'the document has a type, <!DOCTYPE;' 3
+explains 3 'a line of the list is too large, or it is line 33;' 10
+explains 4 'the document has over 16,777,216 bytes.' 11
+explains 5 'the document is not in UTF-8,' 9
+explains 6 'the document has a type, <!DOCTYPE;' 7
 explains 7 'the document is not well-formed XML 1.0;' 4
 explains 8 'the document is over a size;' 3
 explains 9 'the output is shorter than the cut;' 4
-explains 10 'the declaration of the document names another encoding than UTF-8;' 6
+explains 10 'the declaration of the document names another encoding than UTF-8;' 7
 explains 11 'the bytes are no batch;' 4
 explains 12 'of mending alone: no root tag is kept,' 5
-explains 13 'the input is not the packed form of a sound list;' 5
+explains 13 'the input is not the packed form of a sound list;' 6
 explains 20 'under `covers`: both lists are sound,' 3
 explains 64 'wrong usage.' 2
 explains 66 "the list or the document can't be opened, or is a directory." 2
