@@ -1,6 +1,7 @@
 //! Where a list or a document comes from, and its bytes. At most one byte more than the limit is read: that is enough for the library to
 //! refuse it, and no input is read without bound.
 use crate::shown;
+use crate::system;
 use crate::trouble::{self, Trouble};
 use std::ffi::OsStr;
 use std::fs::{self, File, Metadata};
@@ -15,9 +16,10 @@ pub enum Source {
 }
 
 impl Source {
-    /// The source that a word of the command line names. `/dev/stdin` is the standard input too, so that it is not taken twice.
+    /// The source that a word of the command line names. The system's names for the standard input are told here, so that it is not taken
+    /// twice.
     pub fn named(word: &OsStr) -> Source {
-        if word == "-" || word == "/dev/stdin" {
+        if word == "-" || system::number(word) == Some(0) {
             return Source::Standard;
         }
         Source::File(PathBuf::from(word))

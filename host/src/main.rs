@@ -1,6 +1,6 @@
 //! The command `choughbell`: cuts XML by a list of paths, by the proved library. This file goes from the words of the command line to the
 //! exit status; `usage` reads the words, `task` does the work, `help` and `explain` have the texts.
-#![forbid(unsafe_code)]
+#![deny(unsafe_code)]
 mod advice;
 mod attribute;
 mod batch;
@@ -19,6 +19,8 @@ mod packing;
 mod places;
 mod report;
 mod shown;
+#[allow(unsafe_code)]
+mod system;
 mod task;
 mod trouble;
 mod usage;

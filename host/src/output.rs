@@ -1,6 +1,7 @@
 //! Where a cut goes. A file is replaced as a whole: the cut is written to a temporary file in the same folder, which then takes the file's
 //! name. So a run that fails leaves the old file as it was. What is no regular file, as a pipe, is written directly.
 use crate::shown;
+use crate::system;
 use crate::trouble::{self, Trouble};
 use std::ffi::OsStr;
 use std::fs::{self, File, Metadata, OpenOptions};
@@ -13,22 +14,30 @@ use std::process;
 #[derive(PartialEq, Eq, Debug)]
 pub enum Sink {
     Standard,
+    /// An open file by its number, other than the standard output.
+    Stream(u16),
     File(PathBuf),
 }
 
 impl Sink {
-    /// The sink that a word of the command line names. The system's names for the standard output are told here: opened as files they
-    /// would begin anew what the shell has already written there.
+    /// The sink that a word of the command line names. The system's names for open files are told here: opened by name they would begin
+    /// anew what the shell has already written there, or be replaced.
     pub fn named(word: &OsStr) -> Sink {
-        if ["-", "/dev/stdout", "/dev/fd/1", "/proc/self/fd/1"].iter().any(|name| word == *name) {
-            return Sink::Standard;
+        match system::number(word) {
+            _ if word == "-" => Sink::Standard,
+            Some(1) => Sink::Standard,
+            Some(number) => Sink::Stream(number),
+            None => Sink::File(PathBuf::from(word)),
         }
-        Sink::File(PathBuf::from(word))
     }
 
     pub fn write(&self, bytes: &[u8]) -> Result<(), Trouble> {
         match self {
             Sink::Standard => standard(bytes),
+            Sink::Stream(number) => {
+                let written = system::stream(*number).write_all(bytes);
+                written.map_err(|e| trouble::writing(&format!("/dev/fd/{number}"), &e))
+            }
             Sink::File(path) => to_file(path, bytes),
         }
     }

@@ -34,6 +34,8 @@ fn standard_input_and_output_have_names() {
     assert_eq!(cut_of(&["cut", "-l", "a"]), (file("a"), Source::Standard, Some(Sink::Standard)));
     assert_eq!(cut_of(&["cut", "-l-", "m", "-o-"]), (Source::Standard, file("m"), Some(Sink::Standard)));
     assert_eq!(cut_of(&["cut", "-la", "/dev/stdin", "-o/dev/stdout"]), (file("a"), Source::Standard, Some(Sink::Standard)));
+    assert_eq!(cut_of(&["cut", "-la", "/dev/fd/0", "-o/proc/self/fd/1"]), (file("a"), Source::Standard, Some(Sink::Standard)));
+    assert_eq!(cut_of(&["cut", "-l/dev/fd/3", "m", "-o/dev/stderr"]), (file("/dev/fd/3"), file("m"), Some(Sink::Stream(2))));
     assert_eq!(cut_of(&["cut", "-la", "--count"]), (file("a"), Source::Standard, None));
 }
 

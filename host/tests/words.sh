@@ -25,6 +25,7 @@ wrong 'an unknown short option' 'there is no option -x' check -x
 wrong 'a value for a flag' '--json takes no value' check --json=yes
 wrong 'two times standard input' "the list and the document can't both come from the standard input" cut -l -
 wrong 'two times standard input, by name' "the list and the document can't both come from the standard input" cut -l - /dev/stdin
+wrong 'two times standard input, by number' "the list and the document can't both come from the standard input" cut -l /dev/fd/0 -
 wrong 'count and output' '--count writes no cut, so it takes no --output' cut -l v.lst --count -o x b.xml
 wrong 'quiet and json' "--quiet and --json don't go together" check -q --json b.xml
 wrong 'check with a list' 'check takes no --list, --packed, --output or --count' check -l v.lst b.xml
