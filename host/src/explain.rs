@@ -167,7 +167,8 @@ choughbell --help has them all.
 ";
 
 const NO_INPUT: &str = "\
-66: the list or the document can't be opened, or is a directory.
+66: the list or the document can't be opened, or is a directory, or is the standard input
+and that is closed.
 See that the name is right and that you may read the file.
 ";
 
@@ -178,8 +179,8 @@ file must fit beside it, since the cut is written there first.
 ";
 
 const IO: &str = "\
-74: reading or writing failed: a full disk, a broken pipe. An output that is a regular
-file is as it was.
+74: reading or writing failed: a full disk, a broken pipe, a standard output that is
+closed. An output that is a regular file is as it was.
 ";
 
 #[cfg(test)]

@@ -47,7 +47,10 @@ impl Source {
         let mut bytes = Vec::new();
         let most = limit as u64 + 1;
         match self {
-            Source::Standard => io::stdin().lock().take(most).read_to_end(&mut bytes),
+            Source::Standard => {
+                system::given(0).map_err(|e| trouble::opening(&self.name(), &e))?;
+                io::stdin().lock().take(most).read_to_end(&mut bytes)
+            }
             Source::File(path) => {
                 let file = File::open(path).map_err(|e| trouble::opening(&self.name(), &e))?;
                 file.take(most).read_to_end(&mut bytes)

@@ -32,6 +32,7 @@ use trouble::Trouble;
 use usage::Request;
 
 fn main() -> ExitCode {
+    system::watch();
     let request = match usage::read(env::args_os().skip(1)) {
         Ok(request) => request,
         Err(message) => {

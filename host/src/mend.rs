@@ -5,7 +5,6 @@ use crate::json::Object;
 use crate::output::{self, Sink};
 use crate::places;
 use crate::report::{self, Read};
-use crate::say;
 use crate::trouble::Trouble;
 use choughbell::{Mended, DOCUMENT_LIMIT};
 
@@ -71,11 +70,14 @@ fn tell(task: &Mending, line: &str, json: String) -> Result<(), Trouble> {
         return output::print(&json);
     }
     if task.json {
-        say(json.trim_end_matches('\n'));
-    } else if !task.quiet {
-        say(line);
+        return output::tell(json.trim_end_matches('\n'));
     }
-    Ok(())
+    // What is lost has to be told, also where it is told to nobody.
+    if task.quiet {
+        Ok(())
+    } else {
+        output::tell(line)
+    }
 }
 
 #[cfg(test)]

@@ -43,7 +43,7 @@ fn refused(packing: &Packing, refusal: Refusal, list: &Read) -> Result<u8, Troub
 /// A line of JSON where it is asked for: on the standard output, or on the standard error if the list goes, or would go, to the other.
 fn numbers(packing: &Packing, line: impl FnOnce() -> String) -> Result<(), Trouble> {
     if packing.json && packing.output == Sink::Standard {
-        say(line().trim_end_matches('\n'));
+        output::tell(line().trim_end_matches('\n'))?;
     } else if packing.json {
         output::print(&line())?;
     }

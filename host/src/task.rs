@@ -83,8 +83,7 @@ fn numbers(task: &Task, line: impl FnOnce() -> String) -> Result<(), Trouble> {
         return Ok(());
     }
     if task.output == Some(Sink::Standard) {
-        say(line().trim_end_matches('\n'));
-        return Ok(());
+        return output::tell(line().trim_end_matches('\n'));
     }
     output::print(&line())
 }
