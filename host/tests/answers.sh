@@ -211,3 +211,16 @@ repeat 32 '/a
 ' > many.lst
 prints '<g></g>'
 try 'line 32' 0 cut -l many.lst b.xml
+
+# Blanks that are none are shown and named: on a French keyboard the one before # is easily another.
+printf '//v\302\240#\n' > nbsp.lst
+says 'nbsp.lst:1: 2: malformed line: "//v\u{A0}#": U+00A0 (no-break space) stands there; one space and # mark a line, at its end' \
+    '    //v\u{A0}#' '       ^'
+try 'a no-break space before the mark' 2 cut -l nbsp.lst b.xml
+printf '//v\\ #\n' > back.lst
+says "back.lst:1: 2: malformed line: \"//v\\\\ #\": a step is /, //, /self:: or /descendant-or-self::, then * or a name" \
+    '    //v\\ #' '       ^'
+try 'a backslash' 2 cut -l back.lst b.xml
+nbsp=$(printf 'n\302\240b\\xFF.xml')
+says 'choughbell: n\u{A0}b\\xFF.xml: No such file or directory'
+try 'a name with a no-break space and a backslash' 66 check "$nbsp"

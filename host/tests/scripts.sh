@@ -45,7 +45,7 @@ step='a step is /, //, /self:: or /descendant-or-self::, then * or a name'
 tag='a tag is <, a name, attributes as name=\"value\", none twice, and > or />; a value has no <'
 open='<g> of line 1 is open'
 printf '/a\n/b "\\\n' > quote.lst
-json 'a line' 2 "$(refusal 2 2 'malformed line' quote.lst '"line":2' '/b \"\\' "$step")" cut -l quote.lst b.xml --count --json
+json 'a line' 2 "$(refusal 2 2 'malformed line' quote.lst '"line":2' '/b \"\\\\' "$step")" cut -l quote.lst b.xml --count --json
 printf '/g[@k]\n' > test.lst
 hint='a test asks for a value; a test is [@name=\"value\"]'
 json 'a test' 2 "$(refusal 2 1 'malformed line' test.lst '"line":1' '/g[@k]' "$hint")" cut -l test.lst b.xml --count --json
