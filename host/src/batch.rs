@@ -3,7 +3,7 @@
 //! named on the standard error, and the others are cut all the same. Gives the exit status: 0, or the number of the first refusal.
 use crate::input::Source;
 use crate::output::Sink;
-use crate::packing;
+use crate::paths::Paths;
 use crate::report::{self, Read};
 use crate::say;
 use crate::shown;
@@ -19,9 +19,7 @@ use std::time::{Duration, Instant};
 /// What is asked for.
 #[derive(PartialEq, Eq, Debug)]
 pub struct Post {
-    pub list: Source,
-    /// The list is in its packed form.
-    pub packed: bool,
+    pub paths: Paths,
     pub way: Way,
     pub quiet: bool,
 }
@@ -41,8 +39,8 @@ const CALL: usize = 4 << 20;
 const PATIENCE: Duration = Duration::from_secs(1);
 
 pub fn run(post: &Post) -> Result<u8, Trouble> {
-    let list = packing::read(&post.list, post.packed)?;
-    let list = match packing::text(&list, post.packed) {
+    let list = post.paths.read()?;
+    let list = match post.paths.text(&list) {
         Ok(text) => text,
         Err(refusal) => return Ok(refused(post, refusal, &list, &list)),
     };

@@ -3,29 +3,36 @@
 
 /// The text on a number, as it is written on the command line.
 pub fn text(number: &[u8]) -> Option<&'static str> {
-    TEXTS.iter().find(|(name, _)| name.as_bytes() == number).map(|&(_, text)| text)
+    TEXTS.iter().find(|(name, ..)| name.as_bytes() == number).map(|&(.., text)| text)
 }
 
-const TEXTS: [(&str, &str); 19] = [
-    ("0", ZERO),
-    ("1", ONE),
-    ("2", TWO),
-    ("3", THREE),
-    ("4", FOUR),
-    ("5", FIVE),
-    ("6", SIX),
-    ("7", SEVEN),
-    ("8", EIGHT),
-    ("9", NINE),
-    ("10", TEN),
-    ("11", ELEVEN),
-    ("12", TWELVE),
-    ("13", THIRTEEN),
-    ("20", UNCOVERED),
-    ("64", USAGE),
-    ("66", NO_INPUT),
-    ("73", CANT_CREATE),
-    ("74", IO),
+/// A line for each number.
+pub fn all() -> String {
+    let lines: String = TEXTS.iter().map(|(number, meaning, _)| format!("{number:>2}  {meaning}\n")).collect();
+    lines + "choughbell explain NUMBER says what to do\n"
+}
+
+/// Each number, its meaning in short, and its text.
+const TEXTS: [(&str, &str, &str); 19] = [
+    ("0", "written, sound or covered", ZERO),
+    ("1", "list over 8,192 bytes", ONE),
+    ("2", "malformed line", TWO),
+    ("3", "line too large, or line 33", THREE),
+    ("4", "document over 16,777,216 bytes", FOUR),
+    ("5", "not UTF-8, or not a character of XML", FIVE),
+    ("6", "document type", SIX),
+    ("7", "not well-formed", SEVEN),
+    ("8", "over a size", EIGHT),
+    ("9", "output shorter than the cut", NINE),
+    ("10", "another encoding is declared", TEN),
+    ("11", "not a batch", ELEVEN),
+    ("12", "no root tag kept", TWELVE),
+    ("13", "not the packed form of a list", THIRTEEN),
+    ("20", "a narrow line is not covered", UNCOVERED),
+    ("64", "wrong usage", USAGE),
+    ("66", "no input", NO_INPUT),
+    ("73", "no output", CANT_CREATE),
+    ("74", "reading or writing failed", IO),
 ];
 
 const ZERO: &str = "\
@@ -189,7 +196,7 @@ mod tests {
 
     #[test]
     fn each_text_begins_with_its_number_and_is_short() {
-        for (number, text) in TEXTS {
+        for (number, _, text) in TEXTS {
             assert!(text.starts_with(&format!("{number}: ")), "{number}");
             assert!((2..=12).contains(&text.lines().count()), "{number}");
             assert!(text.lines().all(|line| line.len() <= 90), "{number}");

@@ -14,7 +14,7 @@ choughbell cuts XML by a list of paths, by a filter that is proved.
   choughbell covers --narrow LIST --wide LIST     whether one list is covered by another
   choughbell mend [DOCUMENT] [-o OUTPUT]          what is whole of one that stops half way,
                                                   and the end tags that are missing
-  choughbell explain NUMBER                       what an answer or an exit status means
+  choughbell explain [NUMBER]                     what an answer or an exit status means
 
 A file that is not named, or named -, is the standard input or output.
 
@@ -23,6 +23,7 @@ A file that is not named, or named -, is the standard input or output.
                        then * or a name, again and again; behind the last of them perhaps
                        a test of an attribute, [@name=\"value\"]; one space and # at the end
                        keep the whole entry
+  -e, --path PATH      one path, in place of a list or behind its lines; may be given again
       --packed         LIST is in its packed form; of covers, both are
   -o, --output OUTPUT  is replaced when all is there to write, and else stays as it was
   -d, --folder FOLDER  where the cuts of a batch go, under the names of the documents
@@ -34,11 +35,12 @@ A file that is not named, or named -, is the standard input or output.
       --wide LIST      by a path of this one, marked if that is. Then the cut by the wide
                        list serves the narrow list as the master does. Prints yes, or each
                        narrow line that nothing covers
-  -q, --quiet          no message, only the exit status
+  -q, --quiet          no message and no numbers, only the exit status and what is to be
+                       written
       --json           print the numbers as one line of JSON, on the standard output, or on
                        the standard error where the document goes to the other
   -h, --help           this text
-      --version        the version
+  -V, --version        the version
       --               what follows is no option
 
 Exit status: 0 written, sound or covered; 1 to 3 a list is refused, 13 a packed list, 4 to 8

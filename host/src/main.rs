@@ -16,6 +16,7 @@ mod names;
 mod outline;
 mod output;
 mod packing;
+mod paths;
 mod places;
 mod report;
 mod shown;

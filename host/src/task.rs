@@ -1,7 +1,7 @@
 //! A run of `cut` or `check`: reads, asks the library, and writes the cut or says why there is none. Gives the exit status.
 use crate::input::Source;
 use crate::output::{self, Sink};
-use crate::packing;
+use crate::paths::Paths;
 use crate::report::{self, Read};
 use crate::say;
 use crate::trouble::Trouble;
@@ -10,10 +10,8 @@ use choughbell::{Refusal, DOCUMENT_LIMIT};
 /// What is asked for.
 #[derive(PartialEq, Eq, Debug)]
 pub struct Task {
-    /// The list of `cut`; `check` has none.
-    pub list: Option<Source>,
-    /// The list is in its packed form.
-    pub packed: bool,
+    /// The paths of `cut`; `check` has none.
+    pub paths: Option<Paths>,
     pub document: Source,
     /// Where the cut goes; nowhere under `check` and `--count`.
     pub output: Option<Sink>,
@@ -24,16 +22,13 @@ pub struct Task {
 }
 
 pub fn run(task: &Task) -> Result<u8, Trouble> {
-    let list = match &task.list {
-        Some(list) => packing::read(list, task.packed)?,
-        None => Read::default(),
-    };
+    let list = task.paths.as_ref().map_or(Ok(Read::default()), Paths::read)?;
     let document = Read::of(&task.document, DOCUMENT_LIMIT)?;
-    let list = match packing::text(&list, task.packed) {
+    let list = match task.paths.as_ref().map_or(Ok(Read::default()), |paths| paths.text(&list)) {
         Ok(text) => text,
         Err(refusal) => return refused(task, refusal, &list, &document),
     };
-    let done = match &task.list {
+    let done = match &task.paths {
         Some(_) if task.plain => {
             choughbell::plain_of(&list.bytes, &document.bytes).map(|cut| written(task, &cut.bytes, cut.selected, None))
         }
@@ -53,7 +48,7 @@ fn written(task: &Task, cut: &[u8], selected: u64, name_tests: Option<u64>) -> R
     let length = cut.len() as u64;
     match &task.output {
         Some(output) => output.write(cut)?,
-        None if !task.json => {
+        None if !task.json && !task.quiet => {
             let tried = name_tests.map_or(String::new(), |tests| format!("name tests {tests}\n"));
             output::print(&format!("kept {selected} {length}\n{tried}"))?
         }

@@ -15,7 +15,6 @@ prints '<g><v><n/></v></g>'
 try 'a marked line' 0 cut -l two.lst h.xml
 lines 'kept 2 18' 'name tests 6'
 try 'numbers only' 0 cut --count -l two.lst h.xml
-lines 'kept 1 21' 'name tests 3'
 try 'numbers only, quiet' 0 cut --count --quiet -l v.lst b.xml
 prints '<g><p><v></v></p></g>'
 try 'a cut, quiet' 0 cut --quiet -l v.lst b.xml

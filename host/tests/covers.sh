@@ -87,9 +87,9 @@ try 'covers: no list' 66 covers --narrow absent.lst --wide v.lst
 
 usage 'covers wants two lists: --narrow LIST --wide LIST'
 try 'covers: one list' 64 covers --narrow v.lst
-usage 'covers takes no --list, --output or --count'
+usage 'covers takes no --list'
 try 'covers: a list of another command' 64 covers --narrow v.lst --wide v.lst -l v.lst
 usage "the two lists can't both come from the standard input"
 try 'covers: two times standard input' 64 covers --narrow - --wide /dev/stdin
-usage 'cut takes no --narrow or --wide'
+usage 'cut takes no --narrow'
 try 'covers: options of its own' 64 cut -l v.lst --narrow v.lst b.xml

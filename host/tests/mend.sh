@@ -95,7 +95,7 @@ says '{"number":12,"second":0,"kept":0,"added":0,"meaning":"no root tag kept",'"
 ',"hint":"no start tag before it is whole, so nothing can be kept"}'
 try 'mend: json, refused' 12 mend --json half.xml
 
-usage 'mend takes no --list, --packed or --count'
+usage 'mend takes no --list'
 try 'mend: a list' 64 mend -l v.lst half.xml
 usage 'mend takes one document, and b.xml is a second'
 try 'mend: two documents' 64 mend half.xml b.xml

@@ -45,8 +45,8 @@ printf '//g\n' > levels.lst
 try 'plain: 64 levels' 0 cut --plain --count -l levels.lst levels.xml
 repeat 65 '<g>' > levels.xml
 try 'plain: 65 levels, quiet' 8 cut --plain --quiet -l levels.lst levels.xml
-wrong 'plain and check' '--plain goes with cut alone' check --plain b.xml
-wrong 'plain and explain' '--plain goes with cut alone' explain --plain 7
+wrong 'plain and check' 'check takes no --plain' check --plain b.xml
+wrong 'plain and explain' 'explain takes no --plain' explain --plain 7
 wrong 'a value for plain' '--plain takes no value' cut --plain=yes -l v.lst b.xml
 
 # The document that docs/TEACH.md walks through, and the same with another end tag.
