@@ -6,7 +6,7 @@ pub const HELP: &str = "\
 choughbell cuts XML by a list of paths, by a filter that is proved.
 
   choughbell cut -l LIST [DOCUMENT] [-o OUTPUT]   the cut of a document by a list
-  choughbell check [DOCUMENT]                     whether a document would be taken
+  choughbell check [DOCUMENT]..                   whether documents would be taken
   choughbell batch -l LIST -d FOLDER DOCUMENT..   the cuts of many documents, into a folder
   choughbell batch -l LIST [BATCH] [-o OUTPUT]    the same from a batch file to another
   choughbell pack [LIST] [-o OUTPUT]              a list from text to its packed form
@@ -29,6 +29,7 @@ A file that is not named, or named -, is the standard input or output.
   -d, --folder FOLDER  where the cuts of a batch go, under the names of the documents
       --count          print only: kept, the elements selected, the length of the cut; and
                        on a second line: name tests, how many were tried
+      --each           print only: for each line of the list how many elements it selects
       --plain          cut by the plain engine: the same cut and the same numbers, slower,
                        and without name tests
       --narrow LIST    of two lists, the one whose every path should be covered

@@ -5,7 +5,9 @@ mod advice;
 mod attribute;
 mod batch;
 mod caret;
+mod check;
 mod covers;
+mod each;
 mod explain;
 mod help;
 mod hints;
@@ -43,6 +45,7 @@ fn main() -> ExitCode {
     };
     let (quiet, json) = match &request {
         Request::Task(task) => (task.quiet, task.json),
+        Request::Check(checking) => (checking.quiet, checking.json),
         Request::Batch(post) => (post.quiet, false),
         Request::Packing(packing) => (packing.quiet, packing.json),
         Request::Covers(asked) => (asked.quiet, asked.json),
@@ -69,6 +72,7 @@ fn main() -> ExitCode {
 fn answer(request: &Request) -> Result<u8, Trouble> {
     match request {
         Request::Task(task) => return task::run(task),
+        Request::Check(checking) => return check::run(checking),
         Request::Batch(post) => return batch::run(post),
         Request::Packing(packing) => return packing::run(packing),
         Request::Covers(asked) => return covers::run(asked),

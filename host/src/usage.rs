@@ -1,6 +1,7 @@
 //! The words of the command line: which command it is and what it is to do; or, where they are wrong, a line that says why. One table has
 //! the options, another the commands and which of the options each takes. File names are bytes of any kind and stay as they are.
 use crate::batch::{Post, Way};
+use crate::check::Checking;
 use crate::covers::Asked;
 use crate::explain;
 use crate::input::Source;
@@ -18,6 +19,7 @@ use std::path::PathBuf;
 #[derive(PartialEq, Eq, Debug)]
 pub enum Request {
     Task(Task),
+    Check(Checking),
     Batch(Post),
     Packing(Packing),
     Covers(Asked),
@@ -40,7 +42,7 @@ const fn known(name: &'static str, letter: Option<u8>, value: Option<&'static st
 }
 
 const FILE: Option<&str> = Some("a file's name");
-const OPTIONS: [Known; 13] = [
+const OPTIONS: [Known; 14] = [
     known("--list", Some(b'l'), FILE),
     known("--path", Some(b'e'), Some("a path")),
     known("--output", Some(b'o'), FILE),
@@ -49,6 +51,7 @@ const OPTIONS: [Known; 13] = [
     known("--wide", None, FILE),
     known("--packed", None, None),
     known("--count", None, None),
+    known("--each", None, None),
     known("--plain", None, None),
     known("--quiet", Some(b'q'), None),
     known("--json", None, None),
@@ -59,7 +62,7 @@ const OPTIONS: [Known; 13] = [
 /// The commands, what reads the rest of their words, and which options they take besides `--help` and `--version`.
 type Reading = fn(&str, Given) -> Result<Request, String>;
 const COMMANDS: [(&str, Reading, &[&str]); 8] = [
-    ("cut", cut, &["--list", "--path", "--packed", "--output", "--count", "--plain", "--quiet", "--json"]),
+    ("cut", cut, &["--list", "--path", "--packed", "--output", "--count", "--each", "--plain", "--quiet", "--json"]),
     ("check", check, &["--quiet", "--json"]),
     ("batch", batch, &["--list", "--path", "--packed", "--output", "--folder", "--quiet"]),
     ("pack", packing, &["--output", "--quiet", "--json"]),
@@ -207,18 +210,24 @@ fn cut(command: &str, given: Given) -> Result<Request, String> {
     if paths.list == Some(Source::Standard) && document == Source::Standard {
         return Err("the list and the document can't both come from the standard input".to_string());
     }
-    if given.has("--count") && given.has("--output") {
-        return Err("--count writes no cut, so it takes no --output".to_string());
+    let (count, each) = (given.has("--count"), given.has("--each"));
+    if (count || each) && given.has("--output") {
+        return Err(format!("{} writes no cut, so it takes no --output", if count { "--count" } else { "--each" }));
     }
-    let output = Some(given.output()).filter(|_| !given.has("--count"));
+    let output = Some(given.output()).filter(|_| !count && !each);
     let (plain, quiet, json) = (given.has("--plain"), given.has("--quiet"), given.has("--json"));
-    Ok(Request::Task(Task { paths: Some(paths), document, output, plain, quiet, json }))
+    Ok(Request::Task(Task { paths, document, output, count, each, plain, quiet, json }))
 }
 
-fn check(command: &str, given: Given) -> Result<Request, String> {
-    let document = given.only(command, "document")?;
-    let (quiet, json) = (given.has("--quiet"), given.has("--json"));
-    Ok(Request::Task(Task { paths: None, document, output: None, plain: false, quiet, json }))
+fn check(_: &str, given: Given) -> Result<Request, String> {
+    let mut documents: Vec<Source> = given.names.iter().map(|name| Source::named(name)).collect();
+    if documents.is_empty() {
+        documents.push(Source::Standard);
+    }
+    if documents.iter().filter(|&source| *source == Source::Standard).count() > 1 {
+        return Err("two documents can't both come from the standard input".to_string());
+    }
+    Ok(Request::Check(Checking { documents, quiet: given.has("--quiet"), json: given.has("--json") }))
 }
 
 fn batch(_: &str, given: Given) -> Result<Request, String> {

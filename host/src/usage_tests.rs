@@ -13,7 +13,7 @@ fn file(name: &str) -> Source {
 /// What a command line of `cut` asks for: the list, the document, the output.
 fn cut_of(words: &[&str]) -> (Source, Source, Option<Sink>) {
     match asked(words) {
-        Ok(Request::Task(Task { paths: Some(Paths { list: Some(list), .. }), document, output, .. })) => (list, document, output),
+        Ok(Request::Task(Task { paths: Paths { list: Some(list), .. }, document, output, .. })) => (list, document, output),
         other => panic!("{other:?}"),
     }
 }
@@ -50,7 +50,7 @@ fn a_list_is_packed_and_back() {
     let expected = Packing { back: true, list: Source::Standard, output: Sink::File(PathBuf::from("o")), quiet: true, json: false };
     assert_eq!(packing(&["unpack", "-q", "-oo", "-"]), expected);
     let packed = |words: &[&str]| match asked(words) {
-        Ok(Request::Task(Task { paths: Some(paths), .. })) => paths.packed,
+        Ok(Request::Task(Task { paths, .. })) => paths.packed,
         Ok(Request::Batch(post)) => post.paths.packed,
         other => panic!("{other:?}"),
     };
@@ -62,8 +62,8 @@ fn a_list_is_packed_and_back() {
 fn names_are_bytes() {
     let words = [&b"check"[..], b"\xFF.xml"].map(|word| OsString::from_vec(word.to_vec()));
     let document = Source::File(PathBuf::from(OsString::from_vec(b"\xFF.xml".to_vec())));
-    let task = Task { paths: None, document, output: None, plain: false, quiet: false, json: false };
-    assert_eq!(read(words.into_iter()), Ok(Request::Task(task)));
+    let checking = Checking { documents: vec![document], quiet: false, json: false };
+    assert_eq!(read(words.into_iter()), Ok(Request::Check(checking)));
 }
 
 #[test]
@@ -91,7 +91,9 @@ fn wrong_words_are_told() {
     assert_eq!(wrong(&["cut", "-la", "-lb"]), "--list is given twice");
     assert_eq!(wrong(&["cut", "--count=1"]), "--count takes no value");
     assert_eq!(wrong(&["cut", "-qx"]), "there is no option -qx");
-    assert_eq!(wrong(&["check", "a\n", "b"]), "check takes one document, and b is a second");
+    assert_eq!(wrong(&["cut", "-la", "a\n", "b"]), "cut takes one document, and b is a second");
+    assert_eq!(wrong(&["check", "-", "b", "/dev/stdin"]), "two documents can't both come from the standard input");
+    assert_eq!(wrong(&["cut", "-la", "--each", "-oo"]), "--each writes no cut, so it takes no --output");
     assert_eq!(wrong(&["check", "--packed"]), "check takes no --packed");
     assert_eq!(wrong(&["pack", "-la"]), "pack takes no --list");
     // A forgotten -l comes before what else is wrong.
@@ -134,7 +136,7 @@ fn covers_takes_two_lists() {
 #[test]
 fn paths_stand_on_the_command_line() {
     let paths = |words: &[&str]| match asked(words) {
-        Ok(Request::Task(Task { paths: Some(paths), .. })) => paths,
+        Ok(Request::Task(Task { paths, .. })) => paths,
         Ok(Request::Batch(post)) => post.paths,
         other => panic!("{other:?}"),
     };
@@ -150,7 +152,7 @@ fn paths_stand_on_the_command_line() {
 #[test]
 fn letters_are_joined_and_help_stands_anywhere() {
     assert_eq!(cut_of(&["cut", "-qla", "m"]), (file("a"), file("m"), Some(Sink::Standard)));
-    assert!(matches!(asked(&["check", "-qq"]), Ok(Request::Task(Task { quiet: true, .. }))));
+    assert!(matches!(asked(&["check", "-qq"]), Ok(Request::Check(Checking { quiet: true, .. }))));
     for words in [&["-V"][..], &["cut", "-V"], &["check", "--count", "--version"], &["explain", "-qV"]] {
         assert_eq!(asked(words), Ok(Request::Version));
     }

@@ -35,7 +35,7 @@ END
 for path in '/g/p/v' '//v #' '/g/p[@k="1"]' '//w' '/g #' '/g' '/p/v' '/*/*'; do
     echo "$path" > explained/short.lst
     follow 4
-    try "explain 4: $path" 0 cut -l explained/short.lst explained/master.xml -o explained/whole.xml
+    try "explain 4: $path" 0 cut -q -l explained/short.lst explained/master.xml -o explained/whole.xml
     same "explain 4: $path" explained/whole.xml explained/cut.xml
 done
 # A split inside a child of the root is refused.

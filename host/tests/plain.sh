@@ -5,7 +5,7 @@ plain() {
     printf '%s' "$2" > plain.lst
     printf '%s' "$3" > plain.xml
     prints "$4"
-    try "plain: $1" 0 cut --plain -l plain.lst plain.xml
+    try "plain: $1" 0 cut -q --plain -l plain.lst plain.xml
 }
 lf='
 '

@@ -21,7 +21,8 @@ wrong 'an output without a name' "--output wants a file's name" cut -l v.lst b.x
 wrong 'two lists' '--list is given twice' cut -l v.lst --list=v.lst b.xml
 wrong 'two outputs' '--output is given twice' cut -l v.lst -o x -o y b.xml
 wrong 'two documents' 'cut takes one document, and h.xml is a second' cut -l v.lst b.xml h.xml
-wrong 'two documents to check' 'check takes one document, and h.xml is a second' check b.xml h.xml
+wrong 'standard input to check, two times' "two documents can't both come from the standard input" check - b.xml /dev/fd/0
+wrong 'each and output' '--each writes no cut, so it takes no --output' cut -l v.lst --each -o x b.xml
 wrong 'an unknown option' 'there is no option --lists' cut --lists v.lst
 wrong 'an unknown short option' 'there is no option -x' check -x
 wrong 'a value for a flag' '--json takes no value' check --json=yes
