@@ -23,7 +23,10 @@ pub fn run(task: &Mending) -> Result<u8, Trouble> {
         Ok(mended) => {
             task.output.write(&mended.bytes)?;
             let line = format!("{}: {}", document.name, summary(&document.bytes, &mended));
-            tell(task, &line, numbers(0, mended.bytes.len() as u64, mended.kept, mended.added, "mended").line())?;
+            let length = mended.bytes.len() as u64;
+            let mut object = numbers(0, length, mended.kept, mended.added, "mended");
+            object.number("length", length);
+            tell(task, &line, object.line())?;
             Ok(0)
         }
         Err(refusal) => {

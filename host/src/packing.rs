@@ -24,7 +24,10 @@ pub fn run(packing: &Packing) -> Result<u8, Trouble> {
     match done {
         Ok(bytes) => {
             packing.output.write(&bytes)?;
-            numbers(packing, || report::numbers(0, bytes.len() as u64, 0, Some(0), "written").line())?;
+            let length = bytes.len() as u64;
+            let mut object = report::numbers(0, length, 0, Some(0), "written");
+            object.number("length", length);
+            numbers(packing, || object.line())?;
             Ok(0)
         }
         Err(refusal) => refused(packing, refusal, &list),

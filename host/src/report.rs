@@ -121,8 +121,9 @@ impl Report {
         match &self.place {
             Place::Whole(None) => {}
             Place::Whole(Some(hint)) => object.string("hint", hint),
-            Place::Line(line, bytes, Advice { hint, .. }) => {
+            Place::Line(line, bytes, Advice { at, hint }) => {
                 object.number("line", *line);
+                object.number("column", places::column(bytes, *at) as u64);
                 object.string("there", &places::quoted(bytes));
                 object.string("hint", hint);
             }
@@ -180,6 +181,8 @@ mod tests {
         let report = said(b"/a\n/b\n/a b\n", b"<g/>");
         let hint = "a step is /, //, /self:: or /descendant-or-self::, then * or a name";
         assert_eq!(report.message(), format!("a.lst:3: 2: malformed line: \"/a b\": {hint}\n    /a b\n      ^"));
+        assert!(report.json(Some(0)).contains(r#""file":"a.lst","line":3,"column":3,"there":"/a b""#));
+        assert!(said("/é b\n".as_bytes(), b"").json(Some(0)).contains(r#""line":1,"column":3,"#));
     }
 
     #[test]

@@ -1,6 +1,7 @@
 //! A run of `cut`: reads, asks the library, and writes the cut or says why there is none. Gives the exit status.
 use crate::each;
 use crate::input::Source;
+use crate::json::Object;
 use crate::output::{self, Sink};
 use crate::paths::Paths;
 use crate::report::{self, Read};
@@ -58,11 +59,11 @@ fn written(task: &Task, made: &Made, list: &Read, document: &Read) -> Result<(),
     }
     // JSON has no messages beside it, so that lines which select nothing are told there by `--each` alone.
     if task.quiet || (task.json && !task.each) {
-        return numbers(task, || report::numbers(0, length, made.selected, made.name_tests, "written").line());
+        return numbers(task, || object(made).line());
     }
     let each = each::each(&list.bytes, &document.bytes, &made.cut);
     if task.json {
-        let mut object = report::numbers(0, length, made.selected, made.name_tests, "written");
+        let mut object = object(made);
         object.numbers("each", &each);
         return numbers(task, || object.line());
     }
@@ -79,6 +80,15 @@ fn written(task: &Task, made: &Made, list: &Read, document: &Read) -> Result<(),
     }
     each::idle(list, &each).iter().for_each(|line| say(line));
     Ok(())
+}
+
+/// The numbers, and the second and the third again by what they are.
+fn object(made: &Made) -> Object {
+    let length = made.cut.len() as u64;
+    let mut object = report::numbers(0, length, made.selected, made.name_tests, "written");
+    object.number("length", length);
+    object.number("selected", made.selected);
+    object
 }
 
 fn refused(task: &Task, refusal: Refusal, list: &Read, document: &Read) -> Result<u8, Trouble> {

@@ -78,9 +78,9 @@ try 'covers: a wide line' 2 covers --narrow none.lst --wide bad.lst
 says 'long.lst: 1: list over 8,192 bytes: it has 8,193'
 try 'covers: a wide list too long' 1 covers --narrow v.lst --wide long.lst
 hint="\"there\":\"v w\",\"hint\":\"$front\""
-lines "{\"number\":2,\"second\":2,\"third\":1,\"meaning\":\"malformed line\",\"file\":\"bad.lst\",\"line\":2,$hint}"
+lines "{\"number\":2,\"second\":2,\"third\":1,\"meaning\":\"malformed line\",\"file\":\"bad.lst\",\"line\":2,\"column\":1,$hint}"
 try 'covers: json of a narrow line' 2 covers --narrow bad.lst --wide bad.lst --json
-lines "{\"number\":2,\"second\":2,\"third\":2,\"meaning\":\"malformed line\",\"file\":\"bad.lst\",\"line\":2,$hint}"
+lines "{\"number\":2,\"second\":2,\"third\":2,\"meaning\":\"malformed line\",\"file\":\"bad.lst\",\"line\":2,\"column\":1,$hint}"
 try 'covers: json of a wide line' 2 covers --narrow v.lst --wide bad.lst --json
 says 'choughbell: absent.lst: No such file or directory'
 try 'covers: no list' 66 covers --narrow absent.lst --wide v.lst

@@ -31,7 +31,8 @@ says "$river"
 try 'a line that selects nothing, by the plain engine' 0 cut --plain -l each.lst "$sample" -o plain-each.xml
 same 'a line that selects nothing, by the plain engine' each.xml plain-each.xml
 try 'each line, quietly' 0 cut -q --each -l each.lst "$sample"
-numbers="\"number\":0,\"second\":$(wc -c < each.xml),\"third\":7,\"name_tests\":131,\"meaning\":\"written\""
+length=$(wc -c < each.xml)
+numbers="\"number\":0,\"second\":$length,\"third\":7,\"name_tests\":131,\"meaning\":\"written\",\"length\":$length,\"selected\":7"
 lines "{$numbers,\"each\":[3,2,0,1,1]}"
 try 'each line, json' 0 cut --json --each -l each.lst "$sample"
 lines '0 //river' '1 //lake'

@@ -84,9 +84,9 @@ try 'mend: refused, quiet' 12 mend --quiet none.lst
 # --json: on the standard error where the document goes to the standard output.
 printf '<g><n>Aar' > half.xml
 prints '<g><n></n></g>'
-says '{"number":0,"second":14,"kept":6,"added":2,"meaning":"mended"}'
+says '{"number":0,"second":14,"kept":6,"added":2,"meaning":"mended","length":14}'
 try 'mend: json' 0 mend --json half.xml
-lines '{"number":0,"second":14,"kept":6,"added":2,"meaning":"mended"}'
+lines '{"number":0,"second":14,"kept":6,"added":2,"meaning":"mended","length":14}'
 try 'mend: json, to a file' 0 mend --json half.xml -o whole.xml
 holds 'mend: json, to a file' whole.xml '<g><n></n></g>'
 printf '<g' > half.xml

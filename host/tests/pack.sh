@@ -23,7 +23,7 @@ bytes one.bin 1
 try 'pack an empty list' 0 pack /dev/null -o made
 gives 'pack an empty list' one.bin
 try 'unpack an empty list' 0 unpack one.bin
-says '{"number":0,"second":1,"third":0,"name_tests":0,"meaning":"written"}'
+says '{"number":0,"second":1,"third":0,"name_tests":0,"meaning":"written","length":1}'
 printf '\001' > "$notes/prints"
 try 'numbers of a packed list' 0 pack --json /dev/null
 

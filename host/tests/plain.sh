@@ -29,7 +29,7 @@ lines 'kept 8 289'
 try 'plain: the sample by the atlas' 0 cut --plain --count -l "$root/examples/atlas.lst" "$root/examples/gazetteer.xml"
 lines 'kept 6 424'
 try 'plain: the sample by the desk' 0 cut --plain --count -l "$root/examples/desk.lst" "$root/examples/gazetteer.xml"
-lines '{"number":0,"second":21,"third":1,"meaning":"written"}'
+lines '{"number":0,"second":21,"third":1,"meaning":"written","length":21,"selected":1}'
 try 'plain: json' 0 cut --plain --count --json -l v.lst b.xml
 lines '{"number":1,"second":0,"third":0,"meaning":"list over 8,192 bytes","file":"long.lst","hint":"it has 8,193"}'
 try 'plain: json, refused' 1 cut --plain --count --json -l long.lst b.xml
