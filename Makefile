@@ -6,7 +6,8 @@
 # host/rules.mk, the command and the library under it:
 # make choughbell   the command, target/host/choughbell
 # make host-tests   its tests
-# make install      the command, its man page, the header and the library, below PREFIX (/usr/local); make uninstall removes them
+# make install      the command, its man page and completions, the header and the library, below PREFIX (/usr/local); make uninstall
+#                   removes them
 #
 # docs/src/rules.mk, ordinary Rust that the filter is compared with:
 # make cases        writes the packed cases and their answers anew, by the second program

@@ -1,6 +1,6 @@
 # The command `choughbell`, and the library under it.
 
-.PHONY: library cargo proving choughbell host-tests install uninstall x86 x86-library x86-host-tests
+.PHONY: library xmllint cargo proving choughbell host-tests install uninstall x86 x86-library x86-host-tests
 
 # The proved library: for the machine at hand, and on the way the toolchain's static library for x86-64. It is made again when source or
 # proofs have changed.
@@ -34,7 +34,11 @@ choughbell: proving library cargo
 	@mkdir -p target/host && cp target/cargo/release/choughbell target/host/choughbell
 
 # The tests of its parts print only what fails. Those of the command print how many runs there were.
-host-tests: choughbell
+# Of the commands that `explain` names, xmllint may be missing: then the tests say that they leave those out.
+xmllint:
+	@command -v xmllint > /dev/null || $(call fetch,libxml2-utils) || true
+
+host-tests: choughbell xmllint
 	@cargo test -q $(HOST_CARGO_WORDS) > target/log/host 2>&1 || { cat target/log/host; exit 1; }
 	host/tests/run.sh target/host/choughbell
 
@@ -45,14 +49,23 @@ PUT = $(DESTDIR)$(PREFIX)
 install:
 	@[ -x target/host/choughbell ] && [ -z "$$(find host/src crates -name '*.r[st]' -newer target/host/choughbell)" ] || \
 	    $(MAKE) --no-print-directory choughbell
-	install -d '$(PUT)/bin' '$(PUT)/share/man/man1' '$(PUT)/include' '$(PUT)/lib'
+	install -d '$(PUT)/bin' '$(PUT)/share/man/man1' '$(PUT)/include' '$(PUT)/lib/pkgconfig' \
+	    '$(PUT)/share/bash-completion/completions' '$(PUT)/share/zsh/site-functions' '$(PUT)/share/fish/vendor_completions.d'
 	install target/host/choughbell '$(PUT)/bin/choughbell'
 	install -m 644 host/man/choughbell.1 '$(PUT)/share/man/man1/choughbell.1'
 	install -m 644 host/include/choughbell.h '$(PUT)/include/choughbell.h'
 	install -m 644 $(NATIVE)/libexported.a '$(PUT)/lib/libchoughbell.a'
+	install -m 644 host/choughbell.pc '$(PUT)/lib/pkgconfig/choughbell.pc'
+	sed -i -e 's|@PREFIX@|$(PREFIX)|' -e "s|@VERSION@|$$(sed -n 's/^version = "\(.*\)"/\1/p' host/Cargo.toml)|" \
+	    '$(PUT)/lib/pkgconfig/choughbell.pc'
+	install -m 644 host/completion/choughbell.bash '$(PUT)/share/bash-completion/completions/choughbell'
+	install -m 644 host/completion/_choughbell '$(PUT)/share/zsh/site-functions/_choughbell'
+	install -m 644 host/completion/choughbell.fish '$(PUT)/share/fish/vendor_completions.d/choughbell.fish'
 
 uninstall:
-	rm -f '$(PUT)/bin/choughbell' '$(PUT)/share/man/man1/choughbell.1' '$(PUT)/include/choughbell.h' '$(PUT)/lib/libchoughbell.a'
+	rm -f '$(PUT)/bin/choughbell' '$(PUT)/share/man/man1/choughbell.1' '$(PUT)/include/choughbell.h' '$(PUT)/lib/libchoughbell.a' \
+	    '$(PUT)/lib/pkgconfig/choughbell.pc' '$(PUT)/share/bash-completion/completions/choughbell' \
+	    '$(PUT)/share/zsh/site-functions/_choughbell' '$(PUT)/share/fish/vendor_completions.d/choughbell.fish'
 
 # Elsewhere than on x86-64 the toolchain's static library, x86-64 code, is tried too, as a second check: under an emulator, in programs of
 # Debian's compilers for x86-64, since they come with that machine's standard library.

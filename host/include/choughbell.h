@@ -7,7 +7,8 @@
  *   - each pointer leads to as many bytes as its length says, and is not null, also where the length is 0;
  *   - `out` overlaps neither `list` nor `doc`, which may be the same bytes;
  *   - no other thread writes to these bytes during the call.
- * The bytes of the list and the document may be any.
+ * The bytes of the list and the document may be any. A null pointer with length 0 is outside the contract; as the library is built it is
+ * taken as no bytes, which tests/null.c tries.
  *
  * Layout: in 0.1.0 choughbell_cut gave three numbers, and from 0.2.0 on it gives four, in a larger struct. The library writes all of it
  * where the caller has made room: so a caller that was compiled with the header of 0.1.0 must be compiled anew before it is linked.
@@ -17,6 +18,31 @@
 
 #include <stddef.h>
 #include <stdint.h>
+
+#define CHOUGHBELL_VERSION "0.3.0"
+
+/* The numbers, as told below. */
+#define CHOUGHBELL_WRITTEN 0
+#define CHOUGHBELL_LIST_TOO_LONG 1
+#define CHOUGHBELL_MALFORMED_LINE 2
+#define CHOUGHBELL_LINE_TOO_LARGE 3
+#define CHOUGHBELL_DOCUMENT_TOO_LONG 4
+#define CHOUGHBELL_NOT_CHARACTER 5
+#define CHOUGHBELL_DOCUMENT_TYPE 6
+#define CHOUGHBELL_NOT_WELL_FORMED 7
+#define CHOUGHBELL_OVER_SIZE 8
+#define CHOUGHBELL_SHORT 9
+#define CHOUGHBELL_OTHER_ENCODING 10
+#define CHOUGHBELL_NOT_BATCH 11
+#define CHOUGHBELL_NO_ROOT 12
+#define CHOUGHBELL_NOT_PACKED 13
+
+/* The most bytes that are taken, and how many more than a document its mended form can have. */
+#define CHOUGHBELL_LIST_LIMIT 8192
+#define CHOUGHBELL_PACKED_LIMIT 8833
+#define CHOUGHBELL_DOCUMENT_LIMIT 16777216
+#define CHOUGHBELL_BATCH_LIMIT 67108864
+#define CHOUGHBELL_MENDED_MORE 16512
 
 #ifdef __cplusplus
 extern "C" {

@@ -24,8 +24,16 @@ pub fn advice(at: usize, hint: &str) -> Advice {
     Advice { at, hint: hint.to_string() }
 }
 
-/// Advice on a malformed line. `ended` tells whether a line feed follows it.
+/// Advice on a malformed line. `ended` tells whether a line feed follows it. What can't be seen at the place is named first.
 pub fn malformed(line: &[u8], ended: bool) -> Advice {
+    let Advice { at, hint } = fault(line, ended);
+    match shown::unseen_front(&line[at..]) {
+        Some(name) => Advice { at, hint: format!("{name} stands there; {hint}") },
+        None => Advice { at, hint },
+    }
+}
+
+fn fault(line: &[u8], ended: bool) -> Advice {
     if line.is_empty() {
         return advice(0, "an empty line");
     }
@@ -66,13 +74,27 @@ fn beginning(line: &[u8]) -> &'static str {
 
 /// What to say of what follows some steps and is neither another one, nor a test, nor the mark.
 fn after_steps(line: &[u8], rest: &[u8], at: usize) -> Advice {
-    let blanks = rest.iter().take_while(|&&b| b == b' ' || b == b'\t').count();
+    let blanks = blanks(rest);
+    // Of blanks, the first that is none.
+    let unseen = (0..blanks).find(|&i| shown::unseen_front(&rest[i..]).is_some()).unwrap_or(0);
     match rest.get(blanks) {
-        None | Some(b'#') | Some(b'\r') => advice(at, MARK),
+        None | Some(b'#') | Some(b'\r') => advice(at + unseen, MARK),
         Some(b'[') => attribute::misplaced(line, at),
         Some(b'@' | b'(') => advice(at + blanks, ELEMENTS),
         _ => character(rest, at).unwrap_or_else(|| advice(at, STEP)),
     }
+}
+
+/// How many bytes at the front are blanks, or seem to be.
+fn blanks(rest: &[u8]) -> usize {
+    let mut end = 0;
+    while let Ok(c) = shown::front(&rest[end..]) {
+        if !matches!(c, ' ' | '\t') && shown::unseen(c).is_none() {
+            break;
+        }
+        end += c.len_utf8();
+    }
+    end
 }
 
 /// Bytes at the front that are no character.

@@ -88,6 +88,19 @@ fn marks_and_ends() {
 }
 
 #[test]
+fn blanks_that_are_none() {
+    let says = |line: &str, at: usize, name: &str, hint: &str| says(line.as_bytes(), at, &format!("{name} stands there; {hint}"));
+    says("//a\u{A0}#", 3, "U+00A0 (no-break space)", MARK);
+    says("//a \u{A0}#", 4, "U+00A0 (no-break space)", MARK);
+    says("//a\u{202F}#", 3, "U+202F (narrow no-break space)", MARK);
+    says("//a\u{3000}", 3, "U+3000 (another space)", MARK);
+    says("//a\u{AD}b", 3, "U+00AD (soft hyphen)", STEP);
+    says("/\u{A0}a", 1, "U+00A0 (no-break space)", STEP);
+    says("\u{A0}/a", 0, "U+00A0 (no-break space)", "a line begins with / or //");
+    says("/a[@k=\"x\"]\u{A0}#", 10, "U+00A0 (no-break space)", "behind a test the line ends, or one space and # mark it");
+}
+
+#[test]
 fn large_lines() {
     assert_eq!(too_large(b"", 33), advice(0, "line 33: a list has at most 32 lines"));
     assert_eq!(too_large("/*".repeat(17).as_bytes(), 2), advice(32, "over 16 steps"));

@@ -15,7 +15,8 @@ pub struct Written {
     pub name_tests: u64,
 }
 
-/// Answers 1 to 13. A line counts from 1, an offset from 0.
+/// Answers 1 to 13. A line counts from 1, an offset from 0. Later versions can have more.
+#[non_exhaustive]
 #[derive(Clone, Copy, PartialEq, Eq, Debug)]
 pub enum Refusal {
     /// 1: the list has over 8,192 bytes.

@@ -3,11 +3,12 @@
 //! named on the standard error, and the others are cut all the same. Gives the exit status: 0, or the number of the first refusal.
 use crate::input::Source;
 use crate::output::Sink;
+use crate::paths::Paths;
 use crate::report::{self, Read};
 use crate::say;
 use crate::shown;
 use crate::trouble::{self, Trouble};
-use choughbell::{Refusal, BATCH_LIMIT, DOCUMENT_LIMIT, LIST_LIMIT};
+use choughbell::{Refusal, BATCH_LIMIT, DOCUMENT_LIMIT};
 use std::ffi::OsString;
 use std::fs;
 use std::io::{self, Write};
@@ -18,7 +19,7 @@ use std::time::{Duration, Instant};
 /// What is asked for.
 #[derive(PartialEq, Eq, Debug)]
 pub struct Post {
-    pub list: Source,
+    pub paths: Paths,
     pub way: Way,
     pub quiet: bool,
 }
@@ -38,7 +39,11 @@ const CALL: usize = 4 << 20;
 const PATIENCE: Duration = Duration::from_secs(1);
 
 pub fn run(post: &Post) -> Result<u8, Trouble> {
-    let list = Read { name: post.list.name(), bytes: post.list.read(LIST_LIMIT)? };
+    let list = post.paths.read()?;
+    let list = match post.paths.text(&list) {
+        Ok(text) => text,
+        Err(refusal) => return Ok(refused(post, refusal, &list, &list)),
+    };
     match &post.way {
         Way::Documents(documents, folder) => documents_to(post, &list, documents, folder),
         Way::Batch(source, sink) => batch_to(post, &list, source, sink),
@@ -58,7 +63,7 @@ fn documents_to(post: &Post, list: &Read, documents: &[(PathBuf, OsString)], fol
     let mut rest = documents;
     // The list is judged before anything is read or made.
     if let Err(refusal) = choughbell::batch_of(&list.bytes, &choughbell::bundle([])) {
-        return Ok(refused(post, refusal, list, &Read { name: String::new(), bytes: Vec::new() }));
+        return Ok(refused(post, refusal, list, &Read::default()));
     }
     make(folder)?;
     while !rest.is_empty() {
@@ -67,7 +72,7 @@ fn documents_to(post: &Post, list: &Read, documents: &[(PathBuf, OsString)], fol
         let batch = choughbell::bundle(group.iter().map(|(document, _)| document.bytes.as_slice()));
         let result = match choughbell::batch_of(&list.bytes, &batch) {
             Ok(result) => result,
-            Err(refusal) => return Ok(refused(post, refusal, list, &Read { name: String::new(), bytes: batch })),
+            Err(refusal) => return Ok(refused(post, refusal, list, &Read::whole(String::new(), batch))),
         };
         for ((document, name), entry) in group.iter().zip(choughbell::entries(&result.bytes)) {
             if !entry.is_empty() {
@@ -89,10 +94,10 @@ fn some<'a>(post: &Post, documents: &'a [(PathBuf, OsString)], status: &mut u8) 
     while taken < documents.len() && bytes < CALL {
         let (path, name) = &documents[taken];
         let source = Source::File(path.clone());
-        match source.read(DOCUMENT_LIMIT) {
+        match Read::of(&source, DOCUMENT_LIMIT) {
             Ok(document) => {
-                bytes += document.len();
-                group.push((Read { name: source.name(), bytes: document }, name));
+                bytes += document.bytes.len();
+                group.push((document, name));
             }
             Err(Trouble { status: number, message }) => {
                 first(status, number);
@@ -117,7 +122,7 @@ fn make(folder: &Path) -> Result<(), Trouble> {
 }
 
 fn batch_to(post: &Post, list: &Read, source: &Source, sink: &Sink) -> Result<u8, Trouble> {
-    let batch = Read { name: source.name(), bytes: source.read(BATCH_LIMIT)? };
+    let batch = Read::of(source, BATCH_LIMIT)?;
     let result = match choughbell::batch_of(&list.bytes, &batch.bytes) {
         Ok(result) => result,
         Err(refusal) => return Ok(refused(post, refusal, list, &batch)),
@@ -130,7 +135,7 @@ fn batch_to(post: &Post, list: &Read, source: &Source, sink: &Sink) -> Result<u8
             continue;
         }
         if let Err(refusal) = choughbell::check(document) {
-            let document = Read { name: format!("{}, document {}", batch.name, i + 1), bytes: document.to_vec() };
+            let document = Read::whole(format!("{}, document {}", batch.name, i + 1), document.to_vec());
             first(&mut status, refused(post, refusal, list, &document));
         }
     }

@@ -2,11 +2,12 @@
 //! narrow line that nothing covers. Where that is so, the wide list's cut of a document serves the narrow list as the document does.
 use crate::input::Source;
 use crate::output;
+use crate::packing;
 use crate::places;
 use crate::report::{self, Read};
 use crate::say;
 use crate::trouble::Trouble;
-use choughbell::{Which, LIST_LIMIT};
+use choughbell::{Refusal, Which};
 
 /// The exit status where a narrow line is not covered. It is no number of an answer: under 0 and 0 both lists are sound.
 pub const UNCOVERED: u8 = 20;
@@ -16,13 +17,23 @@ pub const UNCOVERED: u8 = 20;
 pub struct Asked {
     pub narrow: Source,
     pub wide: Source,
+    /// Both lists are in their packed form.
+    pub packed: bool,
     pub quiet: bool,
     pub json: bool,
 }
 
 pub fn run(asked: &Asked) -> Result<u8, Trouble> {
-    let narrow = read(&asked.narrow)?;
-    let wide = read(&asked.wide)?;
+    let narrow = packing::read(&asked.narrow, asked.packed)?;
+    let wide = packing::read(&asked.wide, asked.packed)?;
+    let narrow = match packing::text(&narrow, asked.packed) {
+        Ok(text) => text,
+        Err(refusal) => return refused(asked, Which::Narrow, refusal, &narrow),
+    };
+    let wide = match packing::text(&wide, asked.packed) {
+        Ok(text) => text,
+        Err(refusal) => return refused(asked, Which::Wide, refusal, &wide),
+    };
     match choughbell::covers_of(&narrow.bytes, &wide.bytes) {
         Ok(true) => {
             answer(asked, "yes\n", || json(1, "covered", &[]))?;
@@ -33,22 +44,20 @@ pub fn run(asked: &Asked) -> Result<u8, Trouble> {
             answer(asked, &named(&lines, &narrow, &wide), || json(0, "not covered", &lines))?;
             Ok(UNCOVERED)
         }
-        Err((which, refusal)) => {
-            let list = if which == Which::Narrow { &narrow } else { &wide };
-            let report = report::report(refusal, list, list);
-            if !asked.json && !asked.quiet {
-                say(&report.message());
-            }
-            if asked.json {
-                output::print(&report.placed(report::three(refusal.number(), refusal.second(), which.number(), refusal.meaning())))?;
-            }
-            Ok(refusal.number() as u8)
-        }
+        Err((which, refusal)) => refused(asked, which, refusal, if which == Which::Narrow { &narrow } else { &wide }),
     }
 }
 
-fn read(source: &Source) -> Result<Read, Trouble> {
-    Ok(Read { name: source.name(), bytes: source.read(LIST_LIMIT)? })
+/// One of the lists is refused: the third number says which.
+fn refused(asked: &Asked, which: Which, refusal: Refusal, list: &Read) -> Result<u8, Trouble> {
+    let report = report::report(refusal, list, list);
+    if !asked.json && !asked.quiet {
+        say(&report.message());
+    }
+    if asked.json {
+        output::print(&report.placed(report::three(refusal.number(), refusal.second(), which.number(), refusal.meaning())))?;
+    }
+    Ok(refusal.number() as u8)
 }
 
 /// The text, or the line of JSON where that is asked for, on the standard output.
@@ -86,7 +95,7 @@ mod tests {
     use super::*;
 
     fn list(name: &str, bytes: &[u8]) -> Read {
-        Read { name: name.to_string(), bytes: bytes.to_vec() }
+        Read::whole(name.to_string(), bytes.to_vec())
     }
 
     #[test]

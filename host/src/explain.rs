@@ -1,30 +1,38 @@
-//! What each number means and what to do about it: the answers 0 to 13, and the exit statuses from 20 on.
+//! What each number means and what to do about it: the answers 0 to 13, and the exit statuses from 20 on. A line with two blanks before it
+//! is a command; tests/explained.sh runs each as it stands.
 
 /// The text on a number, as it is written on the command line.
 pub fn text(number: &[u8]) -> Option<&'static str> {
-    TEXTS.iter().find(|(name, _)| name.as_bytes() == number).map(|&(_, text)| text)
+    TEXTS.iter().find(|(name, ..)| name.as_bytes() == number).map(|&(.., text)| text)
 }
 
-const TEXTS: [(&str, &str); 19] = [
-    ("0", ZERO),
-    ("1", ONE),
-    ("2", TWO),
-    ("3", THREE),
-    ("4", FOUR),
-    ("5", FIVE),
-    ("6", SIX),
-    ("7", SEVEN),
-    ("8", EIGHT),
-    ("9", NINE),
-    ("10", TEN),
-    ("11", ELEVEN),
-    ("12", TWELVE),
-    ("13", THIRTEEN),
-    ("20", UNCOVERED),
-    ("64", USAGE),
-    ("66", NO_INPUT),
-    ("73", CANT_CREATE),
-    ("74", IO),
+/// A line for each number.
+pub fn all() -> String {
+    let lines: String = TEXTS.iter().map(|(number, meaning, _)| format!("{number:>2}  {meaning}\n")).collect();
+    lines + "choughbell explain NUMBER says what to do\n"
+}
+
+/// Each number, its meaning in short, and its text.
+const TEXTS: [(&str, &str, &str); 19] = [
+    ("0", "written, sound or covered", ZERO),
+    ("1", "list over 8,192 bytes", ONE),
+    ("2", "malformed line", TWO),
+    ("3", "line too large, or line 33", THREE),
+    ("4", "document over 16,777,216 bytes", FOUR),
+    ("5", "not UTF-8, or not a character of XML", FIVE),
+    ("6", "document type", SIX),
+    ("7", "not well-formed", SEVEN),
+    ("8", "over a size", EIGHT),
+    ("9", "output shorter than the cut", NINE),
+    ("10", "another encoding is declared", TEN),
+    ("11", "not a batch", ELEVEN),
+    ("12", "no root tag kept", TWELVE),
+    ("13", "not the packed form of a list", THIRTEEN),
+    ("20", "a narrow line is not covered", UNCOVERED),
+    ("64", "wrong usage", USAGE),
+    ("66", "no input", NO_INPUT),
+    ("73", "no output", CANT_CREATE),
+    ("74", "reading or writing failed", IO),
 ];
 
 const ZERO: &str = "\
@@ -55,25 +63,49 @@ const THREE: &str = "\
 3: a line of the list is too large, or it is line 33; the second number is the line.
 A list has at most 32 lines, a line 16 steps, a name 255 bytes, the value in a test 255
 bytes, counted in UTF-8. Repeated lines count.
-Cut once by each half of the list, or name less: // passes over any number of levels.
+Name less: // passes over any number of levels, * stands for any name. Or cut once by each
+half of the list; that makes two documents, to be handed on as two: nothing joins them
+here. A shorter list keeps all that the halves keep if it covers both:
+  head -n 32 long.lst > half1.lst
+  tail -n +33 long.lst > half2.lst
+  choughbell covers --narrow half1.lst --wide short.lst
+  choughbell covers --narrow half2.lst --wide short.lst
 ";
 
 const FOUR: &str = "\
 4: the document has over 16,777,216 bytes. Nothing of it was judged.
-Split it into parts that are documents of their own, and cut each by the same list.
+Split it between two children of the root. Paths begin at the root: so give each part the
+root's start tag, as it stands there, and its end tag. Cut the parts by one list, and join
+the cuts, without the root's tags in between. Where the root is <g>, of 3 bytes, its end
+tag has 4, and line 3 ends with a child of it:
+  { head -n 3 master.xml; printf '</g>'; } > part1.xml
+  { printf '<g>'; tail -n +4 master.xml; } > part2.xml
+  choughbell batch -l short.lst -d cuts part1.xml part2.xml
+  { head -c -4 cuts/part1.xml; tail -c +4 cuts/part2.xml; } > cut.xml
+That is the cut of the whole. A split elsewhere is answered by 7. If the list selects the
+root, its tag comes with its attributes, and more bytes than 3 are left out.
 ";
 
 const FIVE: &str = "\
 5: the document is not in UTF-8, or has a character that XML does not allow; the
 second number is the offset where the first bad sequence begins.
-Save it as UTF-8, or convert it: iconv -f ISO-8859-1 -t UTF-8. XML has no control
-characters but tab, line feed and carriage return, and no U+FFFE and U+FFFF.
+A file that begins with FF FE or FE FF is UTF-16. This converts it, its declaration too:
+  xmllint --encode UTF-8 utf16.xml > new.xml
+Else its declaration says UTF-8 or nothing, and the bytes are of another encoding, which
+you have to know. This converts them and leaves the declaration, which is right then:
+  iconv -f WINDOWS-1252 -t UTF-8 old.xml > new.xml
+XML has no control characters but tab, line feed and carriage return, and no U+FFFE and
+U+FFFF: these have to be taken out where the document is made.
 ";
 
 const SIX: &str = "\
 6: the document has a type, <!DOCTYPE; the second number is its offset.
 Documents with a type are not taken, since a type can declare entities and defaults.
-Take the type out, and write out what it declares: xmllint --noent --dropdtd does both.
+This takes the type out, and writes out the entities and the attributes that it declares:
+  xmllint --nonet --noent --dtdattr --dropdtd --encode UTF-8 typed.xml > new.xml
+Only for files that you trust: entities can name other files, which are then read into the
+document, and can grow very large. White space in tags and how references are written may
+change. A path # keeps the entries of new.xml byte for byte, not those of typed.xml.
 ";
 
 const SEVEN: &str = "\
@@ -99,7 +131,8 @@ command takes as much, so it always has room enough.
 const TEN: &str = "\
 10: the declaration of the document names another encoding than UTF-8; the second
 number is its offset: 0, or 3 behind a byte order mark of UTF-8.
-Convert it so that its declaration says UTF-8 too: xmllint --encode UTF-8 does both.
+This converts the document, its declaration too:
+  xmllint --encode UTF-8 latin.xml > new.xml
 iconv leaves the declaration as it is: then write UTF-8 there, or take the encoding out.
 Do only that where the bytes are UTF-8 already and the declaration alone is wrong, as
 they seem to be behind a byte order mark.
@@ -117,7 +150,8 @@ const THIRTEEN: &str = "\
 There is one packed form of each list, and every byte of it is looked at: the version 1,
 each line's length, its mark, kinds, names and tests, and that nothing follows. A list
 that could not be written as text, as one over 8,192 bytes, has none. See that the file
-is a packed list and came over whole; choughbell pack makes it anew from the text.
+is a packed list and came over whole. This makes it anew from the text:
+  choughbell pack short.lst -o short.bin
 ";
 
 const UNCOVERED: &str = "\
@@ -140,7 +174,8 @@ choughbell --help has them all.
 ";
 
 const NO_INPUT: &str = "\
-66: the list or the document can't be opened, or is a directory.
+66: the list or the document can't be opened, or is a directory, or is the standard input
+and that is closed.
 See that the name is right and that you may read the file.
 ";
 
@@ -151,8 +186,8 @@ file must fit beside it, since the cut is written there first.
 ";
 
 const IO: &str = "\
-74: reading or writing failed: a full disk, a broken pipe. An output that is a regular
-file is as it was.
+74: reading or writing failed: a full disk, a broken pipe, a standard output that is
+closed. An output that is a regular file is as it was.
 ";
 
 #[cfg(test)]
@@ -161,9 +196,9 @@ mod tests {
 
     #[test]
     fn each_text_begins_with_its_number_and_is_short() {
-        for (number, text) in TEXTS {
+        for (number, _, text) in TEXTS {
             assert!(text.starts_with(&format!("{number}: ")), "{number}");
-            assert!((2..=6).contains(&text.lines().count()), "{number}");
+            assert!((2..=12).contains(&text.lines().count()), "{number}");
             assert!(text.lines().all(|line| line.len() <= 90), "{number}");
         }
     }

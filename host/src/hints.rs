@@ -94,12 +94,33 @@ fn not_well_formed(document: &[u8], offset: usize) -> String {
         Some(b'<') if rest.starts_with(b"<?") => instruction(document, offset),
         Some(b'<') if outline.rooted && !inside => "the root is closed, and there is only one",
         Some(b'<') if !named(&rest[1..]) => "a < that begins no tag is written &lt;",
-        Some(b'<') => TAG,
+        Some(b'<') => return unseen(in_tag(rest), TAG),
         Some(b'&') if inside => "a reference is &lt; &gt; &amp; &apos; &quot; or a character's number, as &#233;",
         Some(_) if inside => "text has no ]]>",
-        Some(_) => OUTSIDE,
+        Some(_) => return unseen(rest, OUTSIDE),
     };
     text.to_string()
+}
+
+/// A rule, and before it what can't be seen at the front of some bytes, which seems to keep it.
+fn unseen(bytes: &[u8], rule: &str) -> String {
+    shown::unseen_front(bytes).map_or(rule.to_string(), |name| format!("{name} stands there; {rule}"))
+}
+
+/// A tag from its first character on that can't be seen and stands outside a value; or nothing of it.
+fn in_tag(rest: &[u8]) -> &[u8] {
+    let (mut at, mut quote) = (0, None);
+    while let Ok(c) = shown::front(&rest[at..]) {
+        match (quote, c) {
+            (None, '>') => break,
+            (None, '"' | '\'') => quote = Some(c),
+            (None, _) if shown::unseen(c).is_some() => return &rest[at..],
+            (Some(open), _) if open == c => quote = None,
+            _ => {}
+        }
+        at += c.len_utf8();
+    }
+    b""
 }
 
 /// Whether a name can begin there.

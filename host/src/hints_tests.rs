@@ -66,6 +66,13 @@ fn items() {
 }
 
 #[test]
+fn blanks_that_are_none() {
+    says("<g\u{A0}a='1'/>".as_bytes(), 7, &format!("U+00A0 (no-break space) stands there; {TAG}"));
+    says("<g a='\u{A0}' b=1/>".as_bytes(), 7, TAG);
+    says("<g/>\u{202F}".as_bytes(), 7, &format!("U+202F (narrow no-break space) stands there; {OUTSIDE}"));
+}
+
+#[test]
 fn sizes() {
     says("<g>".repeat(65).as_bytes(), 8, &format!("65 deep: {SIZES}"));
     says(format!("<{}/>", "g".repeat(256)).as_bytes(), 8, SIZES);

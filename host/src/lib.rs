@@ -8,6 +8,10 @@
 //! the buffer what it is afterwards. What a caller of the library's own function owes is that the buffer overlaps neither the list nor the
 //! document; here the types see to that, since `out` is borrowed for writing and the others for reading.
 //!
+//! Any number of threads may call at once: the library allocates nothing, and keeps nothing between calls. A call takes less than 96 KiB of
+//! stack, with a log that is lent less than 64, by the plain engine less than 192, and to mend less than 8. The functions in `_of` allocate
+//! their buffer, after they have looked at the length: for what is over a limit there is none.
+//!
 //! ```
 //! let cut = choughbell::cut_of(b"//v\n", b"<g><p><v/></p></g>").unwrap();
 //! assert_eq!((cut.bytes.as_slice(), cut.selected, cut.name_tests), (&b"<g><p><v></v></p></g>"[..], 1, 3));
@@ -19,6 +23,8 @@
 
 mod answer;
 mod bundle;
+#[cfg(test)]
+mod largest;
 mod mending;
 mod packed;
 
@@ -35,6 +41,7 @@ pub const DOCUMENT_LIMIT: usize = 16_777_216;
 pub const BATCH_LIMIT: usize = 67_108_864;
 
 /// The numbers that a cut hands back: which answer it is, and what goes with it. Of mending they are other ones: see `mend`.
+#[must_use = "the numbers say whether anything is written"]
 #[repr(C)]
 #[derive(Clone, Copy, PartialEq, Eq, Debug)]
 pub struct FourNumbers {
@@ -50,6 +57,7 @@ pub struct FourNumbers {
 
 /// The numbers that a call hands back which counts no name tests: a cut by the plain engine, a batch; a document alone and a packed list,
 /// whose third is always 0; and the check of two lists.
+#[must_use = "the numbers say whether anything is written"]
 #[repr(C)]
 #[derive(Clone, Copy, PartialEq, Eq, Debug)]
 pub struct Numbers {
@@ -95,6 +103,7 @@ const NOTES: usize = 131_072;
 /// assert_eq!(out, [0; 20]);
 /// ```
 pub fn cut(list: &[u8], doc: &[u8], out: &mut [u8]) -> FourNumbers {
+    // SAFETY: each pointer and length are those of a slice that is borrowed for the call, `out` alone for writing.
     unsafe { choughbell_cut(list.as_ptr(), list.len(), doc.as_ptr(), doc.len(), out.as_mut_ptr(), out.len()) }
 }
 
@@ -108,6 +117,7 @@ pub fn cut(list: &[u8], doc: &[u8], out: &mut [u8]) -> FourNumbers {
 /// assert_eq!(&out, b"<g><p><v></v></p></g>");
 /// ```
 pub fn cut_with(list: &[u8], doc: &[u8], out: &mut [u8], log: &mut [u64]) -> FourNumbers {
+    // SAFETY: each pointer and length are those of a slice that is borrowed for the call, `out` and `log` alone for writing.
     unsafe {
         choughbell_cut_with(list.as_ptr(), list.len(), doc.as_ptr(), doc.len(), out.as_mut_ptr(), out.len(), log.as_mut_ptr(), log.len())
     }
@@ -124,10 +134,18 @@ pub struct Cut {
     pub name_tests: u64,
 }
 
+/// The room that a cut needs at most. A document over the limit is refused by 4, which comes before 9: it needs none.
+fn room(doc: &[u8]) -> usize {
+    if doc.len() > DOCUMENT_LIMIT {
+        return 0;
+    }
+    (2 * doc.len()).saturating_sub(1)
+}
+
 /// The cut of a document by a list, in a buffer that suffices: `Refusal::Short` is never the answer.
 pub fn cut_of(list: &[u8], doc: &[u8]) -> Result<Cut, Refusal> {
     // With so much room no list and no document are answered by 9: `never-short` in crates/demands/proofs/Room.antt.
-    let mut bytes = vec![0; (2 * doc.len()).saturating_sub(1)];
+    let mut bytes = vec![0; room(doc)];
     // An element takes two notes at most and has four bytes, so that a short document asks for a short log.
     let mut log = vec![0; NOTES.min(doc.len() / 2)];
     let Written { length, selected, name_tests } = cut_with(list, doc, &mut bytes, &mut log).answer()?;
@@ -142,10 +160,11 @@ pub fn cut_of(list: &[u8], doc: &[u8]) -> Result<Cut, Refusal> {
 /// let (mut ours, mut plain) = ([7; 40], [7; 40]);
 /// let numbers = choughbell::plain(b"//v\n", b"<g><p><v/></p></g>", &mut plain);
 /// assert_eq!((numbers.number, numbers.second, numbers.third), (0, 21, 1));
-/// choughbell::cut(b"//v\n", b"<g><p><v/></p></g>", &mut ours);
+/// assert_eq!(choughbell::cut(b"//v\n", b"<g><p><v/></p></g>", &mut ours).number, 0);
 /// assert_eq!(plain, ours);
 /// ```
 pub fn plain(list: &[u8], doc: &[u8], out: &mut [u8]) -> Numbers {
+    // SAFETY: each pointer and length are those of a slice that is borrowed for the call, `out` alone for writing.
     unsafe { choughbell_plain(list.as_ptr(), list.len(), doc.as_ptr(), doc.len(), out.as_mut_ptr(), out.len()) }
 }
 
@@ -161,7 +180,7 @@ pub struct Plain {
 /// As `cut_of`, by the plain engine.
 pub fn plain_of(list: &[u8], doc: &[u8]) -> Result<Plain, Refusal> {
     // As much room as `cut_of` has; the number is that of `cut`.
-    let mut bytes = vec![0; (2 * doc.len()).saturating_sub(1)];
+    let mut bytes = vec![0; room(doc)];
     let numbers = plain(list, doc, &mut bytes);
     if let Some(refusal) = Refusal::of(numbers.number, numbers.second) {
         return Err(refusal);
@@ -173,6 +192,7 @@ pub fn plain_of(list: &[u8], doc: &[u8]) -> Result<Plain, Refusal> {
 /// Whether a document is sound, within the sizes: what `cut` answers by a list that is sound itself, in a room that suffices. It is never
 /// 1 to 3 or 9.
 pub fn check(doc: &[u8]) -> Result<(), Refusal> {
+    // SAFETY: each pointer and length are those of a slice that is borrowed for the call, for reading alone.
     let numbers = unsafe { choughbell_judge(doc.as_ptr(), doc.len()) };
     Refusal::of(numbers.number, numbers.second).map_or(Ok(()), Err)
 }
@@ -190,6 +210,7 @@ pub fn check(doc: &[u8]) -> Result<(), Refusal> {
 /// assert_eq!(&out, b"\x01\0\0\0\x0E<g><v></v></g>\0\0\0\0+");
 /// ```
 pub fn batch(list: &[u8], batch: &[u8], out: &mut [u8]) -> Numbers {
+    // SAFETY: each pointer and length are those of a slice that is borrowed for the call, `out` alone for writing.
     unsafe { choughbell_batch(list.as_ptr(), list.len(), batch.as_ptr(), batch.len(), out.as_mut_ptr(), out.len()) }
 }
 
@@ -204,8 +225,9 @@ pub struct Batch {
 
 /// The result of a batch by a list, in a buffer that suffices: `Refusal::Short` is never the answer.
 pub fn batch_of(list: &[u8], bytes: &[u8]) -> Result<Batch, Refusal> {
-    // No result has more bytes: `result-under` in crates/batch/proofs/Bounds.antt. A batch over the limit is refused unread.
-    let mut room = vec![0; 2 * bytes.len().min(BATCH_LIMIT)];
+    // No result has more bytes: `result-under` in crates/batch/proofs/Bounds.antt. A batch over the limit is refused
+    // by 11, which comes before 9.
+    let mut room = vec![0; if bytes.len() > BATCH_LIMIT { 0 } else { 2 * bytes.len() }];
     let Numbers { number, second, third } = batch(list, bytes, &mut room);
     match Refusal::of(number, second) {
         Some(refusal) => Err(refusal),
@@ -236,6 +258,7 @@ impl Which {
 /// The numbers of the check of two lists: under 0 the second is 1 if every path of the narrow list is covered by a path of the wide list,
 /// marked if it is, and else 0. Under 1 to 3 the third is 1 or 2 for the list, the narrow one first.
 pub fn covers(narrow: &[u8], wide: &[u8]) -> Numbers {
+    // SAFETY: each pointer and length are those of a slice that is borrowed for the call, for reading alone.
     unsafe { choughbell_covers(narrow.as_ptr(), narrow.len(), wide.as_ptr(), wide.len()) }
 }
 
@@ -326,6 +349,18 @@ mod tests {
         assert_eq!(cut_of(b"", b""), Err(Refusal::NotWellFormed { offset: 0 }));
         assert_eq!(cut_of(b"v\n", b"<g/>"), Err(Refusal::ListMalformed { line: 1 }));
         assert_eq!(cut_of(b"", &vec![b' '; DOCUMENT_LIMIT + 1]), Err(Refusal::DocumentTooLong));
+    }
+
+    #[test]
+    fn nothing_is_reserved_for_what_is_too_long() {
+        let (long, batch) = (vec![b' '; DOCUMENT_LIMIT + 1], vec![1; BATCH_LIMIT + 1]);
+        // A log of a megabyte, and what mending adds, are all.
+        let small = |work: &dyn Fn()| assert!(largest::during(work) <= 8 * NOTES);
+        small(&|| assert_eq!(cut_of(b"", &long), Err(Refusal::DocumentTooLong)));
+        small(&|| assert_eq!(plain_of(b"", &long), Err(Refusal::DocumentTooLong)));
+        small(&|| assert_eq!(mend_of(&long), Err(Refusal::DocumentTooLong)));
+        small(&|| assert_eq!(batch_of(b"", &batch), Err(Refusal::BadBatch { offset: 0 })));
+        assert!(largest::during(|| drop(cut_of(b"", &long[1..]))) > DOCUMENT_LIMIT);
     }
 
     #[test]

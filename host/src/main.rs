@@ -1,11 +1,13 @@
 //! The command `choughbell`: cuts XML by a list of paths, by the proved library. This file goes from the words of the command line to the
 //! exit status; `usage` reads the words, `task` does the work, `help` and `explain` have the texts.
-#![forbid(unsafe_code)]
+#![deny(unsafe_code)]
 mod advice;
 mod attribute;
 mod batch;
 mod caret;
+mod check;
 mod covers;
+mod each;
 mod explain;
 mod help;
 mod hints;
@@ -16,9 +18,12 @@ mod names;
 mod outline;
 mod output;
 mod packing;
+mod paths;
 mod places;
 mod report;
 mod shown;
+#[allow(unsafe_code)]
+mod system;
 mod task;
 mod trouble;
 mod usage;
@@ -30,6 +35,7 @@ use trouble::Trouble;
 use usage::Request;
 
 fn main() -> ExitCode {
+    system::watch();
     let request = match usage::read(env::args_os().skip(1)) {
         Ok(request) => request,
         Err(message) => {
@@ -37,16 +43,22 @@ fn main() -> ExitCode {
             return ExitCode::from(trouble::USAGE);
         }
     };
-    let quiet = match &request {
-        Request::Task(task) => task.quiet,
-        Request::Batch(post) => post.quiet,
-        Request::Packing(packing) => packing.quiet,
-        Request::Covers(asked) => asked.quiet,
-        Request::Mend(task) => task.quiet,
-        _ => false,
+    let (quiet, json) = match &request {
+        Request::Task(task) => (task.quiet, task.json),
+        Request::Check(checking) => (checking.quiet, checking.json),
+        Request::Batch(post) => (post.quiet, false),
+        Request::Packing(packing) => (packing.quiet, packing.json),
+        Request::Covers(asked) => (asked.quiet, asked.json),
+        Request::Mend(task) => (task.quiet, task.json),
+        _ => (false, false),
     };
     match answer(&request) {
-        Ok(status) => ExitCode::from(status),
+        Ok(status) => {
+            if (1..=13).contains(&status) && !quiet && !json {
+                say(&format!("choughbell explain {status} tells more"));
+            }
+            ExitCode::from(status)
+        }
         Err(Trouble { status, message }) => {
             if let Some(message) = message.filter(|_| !quiet) {
                 say(&format!("choughbell: {message}"));
@@ -60,6 +72,7 @@ fn main() -> ExitCode {
 fn answer(request: &Request) -> Result<u8, Trouble> {
     match request {
         Request::Task(task) => return task::run(task),
+        Request::Check(checking) => return check::run(checking),
         Request::Batch(post) => return batch::run(post),
         Request::Packing(packing) => return packing::run(packing),
         Request::Covers(asked) => return covers::run(asked),

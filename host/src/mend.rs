@@ -5,7 +5,6 @@ use crate::json::Object;
 use crate::output::{self, Sink};
 use crate::places;
 use crate::report::{self, Read};
-use crate::say;
 use crate::trouble::Trouble;
 use choughbell::{Mended, DOCUMENT_LIMIT};
 
@@ -19,17 +18,19 @@ pub struct Mending {
 }
 
 pub fn run(task: &Mending) -> Result<u8, Trouble> {
-    let document = Read { name: task.document.name(), bytes: task.document.read(DOCUMENT_LIMIT)? };
+    let document = Read::of(&task.document, DOCUMENT_LIMIT)?;
     match choughbell::mend_of(&document.bytes) {
         Ok(mended) => {
             task.output.write(&mended.bytes)?;
             let line = format!("{}: {}", document.name, summary(&document.bytes, &mended));
-            tell(task, &line, numbers(0, mended.bytes.len() as u64, mended.kept, mended.added, "mended").line())?;
+            let length = mended.bytes.len() as u64;
+            let mut object = numbers(0, length, mended.kept, mended.added, "mended");
+            object.number("length", length);
+            tell(task, &line, object.line())?;
             Ok(0)
         }
         Err(refusal) => {
-            let none = Read { name: String::new(), bytes: Vec::new() };
-            let report = report::report(refusal, &none, &document);
+            let report = report::report(refusal, &Read::default(), &document);
             tell(task, &report.message(), report.placed(numbers(refusal.number(), refusal.second(), 0, 0, refusal.meaning())))?;
             Ok(refusal.number() as u8)
         }
@@ -72,11 +73,14 @@ fn tell(task: &Mending, line: &str, json: String) -> Result<(), Trouble> {
         return output::print(&json);
     }
     if task.json {
-        say(json.trim_end_matches('\n'));
-    } else if !task.quiet {
-        say(line);
+        return output::tell(json.trim_end_matches('\n'));
     }
-    Ok(())
+    // What is lost has to be told, also where it is told to nobody.
+    if task.quiet {
+        Ok(())
+    } else {
+        output::tell(line)
+    }
 }
 
 #[cfg(test)]

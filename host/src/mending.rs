@@ -1,5 +1,5 @@
 //! Mending, for callers in Rust: what is whole of a document that stops half way, with the end tags that are missing.
-use crate::{FourNumbers, Refusal};
+use crate::{FourNumbers, Refusal, DOCUMENT_LIMIT};
 
 extern "C" {
     // As in crates/exported/src/mending.rt: a slice is its pointer and then its length.
@@ -20,6 +20,7 @@ pub const MENDED_MORE: usize = 16_512;
 /// assert_eq!(&out, b"<g><n></n></g>..");
 /// ```
 pub fn mend(doc: &[u8], out: &mut [u8]) -> FourNumbers {
+    // SAFETY: each pointer and length are those of a slice that is borrowed for the call, `out` alone for writing.
     unsafe { choughbell_mend(doc.as_ptr(), doc.len(), out.as_mut_ptr(), out.len()) }
 }
 
@@ -43,7 +44,8 @@ pub struct Mended {
 /// ```
 pub fn mend_of(doc: &[u8]) -> Result<Mended, Refusal> {
     // With so much room no document is answered by 9: `never-short` in crates/mended/proofs/Sizes.antt.
-    let mut bytes = vec![0; doc.len() + MENDED_MORE];
+    // One over the limit is refused by 4, which comes before 9, and needs none.
+    let mut bytes = vec![0; if doc.len() > DOCUMENT_LIMIT { 0 } else { doc.len() + MENDED_MORE }];
     let numbers = mend(doc, &mut bytes);
     if let Some(refusal) = Refusal::of(numbers.number, numbers.second) {
         return Err(refusal);
@@ -55,7 +57,7 @@ pub fn mend_of(doc: &[u8]) -> Result<Mended, Refusal> {
 #[cfg(test)]
 mod tests {
     use super::*;
-    use crate::{check, DOCUMENT_LIMIT};
+    use crate::check;
 
     fn mended(doc: &[u8]) -> (Vec<u8>, u64, u64) {
         let mended = mend_of(doc).unwrap();

@@ -1,6 +1,7 @@
 //! Where a cut goes. A file is replaced as a whole: the cut is written to a temporary file in the same folder, which then takes the file's
-//! name. So a run that fails leaves the old file as it was. What is no regular file, as a pipe, is written directly.
+//! name. So a run that fails or is ended leaves the old file as it was. What is no regular file, as a pipe, is written directly.
 use crate::shown;
+use crate::system;
 use crate::trouble::{self, Trouble};
 use std::ffi::OsStr;
 use std::fs::{self, File, Metadata, OpenOptions};
@@ -13,22 +14,30 @@ use std::process;
 #[derive(PartialEq, Eq, Debug)]
 pub enum Sink {
     Standard,
+    /// An open file by its number, other than the standard output.
+    Stream(u16),
     File(PathBuf),
 }
 
 impl Sink {
-    /// The sink that a word of the command line names. The system's names for the standard output are told here: opened as files they
-    /// would begin anew what the shell has already written there.
+    /// The sink that a word of the command line names. The system's names for open files are told here: opened by name they would begin
+    /// anew what the shell has already written there, or be replaced.
     pub fn named(word: &OsStr) -> Sink {
-        if ["-", "/dev/stdout", "/dev/fd/1", "/proc/self/fd/1"].iter().any(|name| word == *name) {
-            return Sink::Standard;
+        match system::number(word) {
+            _ if word == "-" => Sink::Standard,
+            Some(1) => Sink::Standard,
+            Some(number) => Sink::Stream(number),
+            None => Sink::File(PathBuf::from(word)),
         }
-        Sink::File(PathBuf::from(word))
     }
 
     pub fn write(&self, bytes: &[u8]) -> Result<(), Trouble> {
         match self {
             Sink::Standard => standard(bytes),
+            Sink::Stream(number) => {
+                let written = system::given(*number).and_then(|()| system::stream(*number).write_all(bytes));
+                written.map_err(|e| trouble::writing(&format!("/dev/fd/{number}"), &e))
+            }
             Sink::File(path) => to_file(path, bytes),
         }
     }
@@ -39,9 +48,14 @@ pub fn print(text: &str) -> Result<(), Trouble> {
     standard(text.as_bytes())
 }
 
+/// A line for the standard error that has to be written there.
+pub fn tell(line: &str) -> Result<(), Trouble> {
+    system::given(2).and_then(|()| writeln!(io::stderr(), "{line}")).map_err(|e| trouble::writing("standard error", &e))
+}
+
 fn standard(bytes: &[u8]) -> Result<(), Trouble> {
     let mut out = io::stdout().lock();
-    out.write_all(bytes).and_then(|()| out.flush()).map_err(|e| trouble::writing("standard output", &e))
+    system::given(1).and_then(|()| out.write_all(bytes)).and_then(|()| out.flush()).map_err(|e| trouble::writing("standard output", &e))
 }
 
 fn to_file(path: &Path, bytes: &[u8]) -> Result<(), Trouble> {
@@ -108,7 +122,7 @@ impl Scratch {
         let mut tries = 0;
         loop {
             let scratch = folder(path).join(format!(".choughbell-{}-{tries}", process::id()));
-            match OpenOptions::new().write(true).create_new(true).mode(mode).open(&scratch) {
+            match system::make(&scratch, || OpenOptions::new().write(true).create_new(true).mode(mode).open(&scratch)) {
                 Ok(file) => return Ok((file, Scratch { path: scratch, renamed: false })),
                 // One that a killed run has left.
                 Err(e) if e.kind() == io::ErrorKind::AlreadyExists && tries < 100 => tries += 1,
@@ -120,6 +134,7 @@ impl Scratch {
     fn rename(mut self, path: &Path) -> io::Result<()> {
         fs::rename(&self.path, path)?;
         self.renamed = true;
+        system::done();
         Ok(())
     }
 }
@@ -128,6 +143,7 @@ impl Drop for Scratch {
     fn drop(&mut self) {
         if !self.renamed {
             let _ = fs::remove_file(&self.path);
+            system::done();
         }
     }
 }

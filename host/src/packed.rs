@@ -22,6 +22,7 @@ extern "C" {
 /// assert_eq!(out, [1, 0, 6, 1, 1, 0, 1, b'a', 0, 7]);
 /// ```
 pub fn pack(text: &[u8], out: &mut [u8]) -> Numbers {
+    // SAFETY: each pointer and length are those of a slice that is borrowed for the call, `out` alone for writing.
     unsafe { choughbell_pack(text.as_ptr(), text.len(), out.as_mut_ptr(), out.len()) }
 }
 
@@ -33,6 +34,7 @@ pub fn pack(text: &[u8], out: &mut [u8]) -> Numbers {
 /// assert_eq!((numbers.number, numbers.second, numbers.third), (9, 5, 0));
 /// ```
 pub fn unpack(packed: &[u8], out: &mut [u8]) -> Numbers {
+    // SAFETY: each pointer and length are those of a slice that is borrowed for the call, `out` alone for writing.
     unsafe { choughbell_unpack(packed.as_ptr(), packed.len(), out.as_mut_ptr(), out.len()) }
 }
 

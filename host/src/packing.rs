@@ -1,4 +1,5 @@
-//! A run of `pack` or `unpack`: a list from text to its packed form, or back; and the text of a packed list, for `cut --packed`.
+//! A run of `pack` or `unpack`: a list from text to its packed form, or back; and the text of a list that
+//! another command is given, packed or not.
 use crate::input::Source;
 use crate::output::{self, Sink};
 use crate::report::{self, Read};
@@ -18,13 +19,15 @@ pub struct Packing {
 }
 
 pub fn run(packing: &Packing) -> Result<u8, Trouble> {
-    let limit = if packing.back { PACKED_LIMIT } else { LIST_LIMIT };
-    let list = Read { name: packing.list.name(), bytes: packing.list.read(limit)? };
+    let list = read(&packing.list, packing.back)?;
     let done = if packing.back { choughbell::unpack_of(&list.bytes) } else { choughbell::pack_of(&list.bytes) };
     match done {
         Ok(bytes) => {
             packing.output.write(&bytes)?;
-            numbers(packing, || report::numbers(0, bytes.len() as u64, 0, Some(0), "written").line())?;
+            let length = bytes.len() as u64;
+            let mut object = report::numbers(0, length, 0, Some(0), "written");
+            object.number("length", length);
+            numbers(packing, || object.line())?;
             Ok(0)
         }
         Err(refusal) => refused(packing, refusal, &list),
@@ -43,18 +46,20 @@ fn refused(packing: &Packing, refusal: Refusal, list: &Read) -> Result<u8, Troub
 /// A line of JSON where it is asked for: on the standard output, or on the standard error if the list goes, or would go, to the other.
 fn numbers(packing: &Packing, line: impl FnOnce() -> String) -> Result<(), Trouble> {
     if packing.json && packing.output == Sink::Standard {
-        say(line().trim_end_matches('\n'));
+        output::tell(line().trim_end_matches('\n'))?;
     } else if packing.json {
         output::print(&line())?;
     }
     Ok(())
 }
 
-/// A list that is named as a packed one: its text, by the proved reader, or what was read and why it is refused.
-pub fn text(list: &Source) -> Result<Result<Read, (Read, Refusal)>, Trouble> {
-    let packed = Read { name: list.name(), bytes: list.read(PACKED_LIMIT)? };
-    Ok(match choughbell::unpack_of(&packed.bytes) {
-        Ok(bytes) => Ok(Read { name: packed.name, bytes }),
-        Err(refusal) => Err((packed, refusal)),
-    })
+/// The bytes of a list for another command, packed or not.
+pub fn read(list: &Source, packed: bool) -> Result<Read, Trouble> {
+    Read::of(list, if packed { PACKED_LIMIT } else { LIST_LIMIT })
+}
+
+/// The text of a list, where it is named as a packed one by the proved reader; a text is judged later, by the call that takes it.
+pub fn text(list: &Read, packed: bool) -> Result<Read, Refusal> {
+    let bytes = if packed { choughbell::unpack_of(&list.bytes)? } else { list.bytes.clone() };
+    Ok(Read { name: list.name.clone(), bytes, size: list.size })
 }

@@ -11,8 +11,13 @@ pub fn line_and_column(document: &[u8], offset: usize) -> (usize, usize) {
     let line = before.iter().filter(|&&b| b == b'\n').count() + 1;
     let start = before.iter().rposition(|&b| b == b'\n').map_or(0, |lf| lf + 1);
     let row = before[start..].strip_prefix(b"\xEF\xBB\xBF").filter(|_| start == 0).unwrap_or(&before[start..]);
+    (line, column(row, row.len()))
+}
+
+/// The column of a place in a line.
+pub fn column(line: &[u8], at: usize) -> usize {
     // A byte 80 to BF goes on with a character.
-    (line, row.iter().filter(|&&b| b & 0xC0 != 0x80).count() + 1)
+    line[..at].iter().filter(|&&b| b & 0xC0 != 0x80).count() + 1
 }
 
 /// The front of what stands at an offset: a tag or another item that begins with `<` through the next `>`, a reference through `;`, text up

@@ -2,14 +2,30 @@
 use crate::advice::{self, Advice};
 use crate::caret;
 use crate::hints;
+use crate::input::Source;
 use crate::json::Object;
 use crate::places;
+use crate::trouble::Trouble;
 use choughbell::Refusal;
 
-/// What a run has read: a name for messages, and the bytes.
+/// What a run has read: a name for messages, the bytes, and how long the whole is where that is known.
+#[derive(Default)]
 pub struct Read {
     pub name: String,
     pub bytes: Vec<u8>,
+    pub size: Option<u64>,
+}
+
+impl Read {
+    /// What a source holds, up to one byte more than `limit`.
+    pub fn of(source: &Source, limit: usize) -> Result<Read, Trouble> {
+        Ok(Read { name: source.name(), bytes: source.read(limit)?, size: source.size() })
+    }
+
+    /// Bytes that are all there.
+    pub fn whole(name: String, bytes: Vec<u8>) -> Read {
+        Read { name, size: Some(bytes.len() as u64), bytes }
+    }
 }
 
 /// What is said of a refusal.
@@ -20,8 +36,8 @@ pub struct Report {
 }
 
 enum Place {
-    /// The file as a whole.
-    Whole,
+    /// The file as a whole, and how long it is where it is too long and that is known.
+    Whole(Option<String>),
     /// A line of a list: its number, its bytes and the advice on it.
     Line(u64, Vec<u8>, Advice),
     /// A place in a document.
@@ -46,7 +62,16 @@ pub fn report(refusal: Refusal, list: &Read, document: &Read) -> Report {
         return Report { refusal, file: document.name.clone(), place: in_document(refusal, offset, &document.bytes) };
     }
     let file = if matches!(refusal, Refusal::ListTooLong | Refusal::NotPacked) { list } else { document };
-    Report { refusal, file: file.name.clone(), place: Place::Whole }
+    let long = matches!(refusal, Refusal::ListTooLong | Refusal::DocumentTooLong);
+    let hint = file.size.filter(|_| long).map(|size| format!("it has {}", grouped(size)));
+    Report { refusal, file: file.name.clone(), place: Place::Whole(hint) }
+}
+
+/// A number with a comma before each three digits from the right.
+fn grouped(number: u64) -> String {
+    let digits = number.to_string();
+    let comma = |at: usize| if at > 0 && (digits.len() - at) % 3 == 0 { "," } else { "" };
+    digits.chars().enumerate().map(|(at, digit)| format!("{}{digit}", comma(at))).collect()
 }
 
 fn in_list(refusal: Refusal, number: u64, list: &[u8]) -> Place {
@@ -72,7 +97,8 @@ impl Report {
     pub fn message(&self) -> String {
         let (file, number, meaning) = (&self.file, self.refusal.number(), self.refusal.meaning());
         match &self.place {
-            Place::Whole => format!("{file}: {number}: {meaning}"),
+            Place::Whole(None) => format!("{file}: {number}: {meaning}"),
+            Place::Whole(Some(hint)) => format!("{file}: {number}: {meaning}: {hint}"),
             Place::Line(line, bytes, Advice { at, hint }) => {
                 let (there, caret) = (places::quoted(bytes), caret::caret(bytes, *at));
                 format!("{file}:{line}: {number}: {meaning}: \"{there}\": {hint}\n{caret}")
@@ -93,9 +119,11 @@ impl Report {
     pub fn placed(&self, mut object: Object) -> String {
         object.string("file", &self.file);
         match &self.place {
-            Place::Whole => {}
-            Place::Line(line, bytes, Advice { hint, .. }) => {
+            Place::Whole(None) => {}
+            Place::Whole(Some(hint)) => object.string("hint", hint),
+            Place::Line(line, bytes, Advice { at, hint }) => {
                 object.number("line", *line);
+                object.number("column", places::column(bytes, *at) as u64);
                 object.string("there", &places::quoted(bytes));
                 object.string("hint", hint);
             }
@@ -139,7 +167,7 @@ mod tests {
     use super::*;
 
     fn read(name: &str, bytes: &[u8]) -> Read {
-        Read { name: name.to_string(), bytes: bytes.to_vec() }
+        Read::whole(name.to_string(), bytes.to_vec())
     }
 
     /// The report on the first fault of a list and a document.
@@ -153,6 +181,8 @@ mod tests {
         let report = said(b"/a\n/b\n/a b\n", b"<g/>");
         let hint = "a step is /, //, /self:: or /descendant-or-self::, then * or a name";
         assert_eq!(report.message(), format!("a.lst:3: 2: malformed line: \"/a b\": {hint}\n    /a b\n      ^"));
+        assert!(report.json(Some(0)).contains(r#""file":"a.lst","line":3,"column":3,"there":"/a b""#));
+        assert!(said("/é b\n".as_bytes(), b"").json(Some(0)).contains(r#""line":1,"column":3,"#));
     }
 
     #[test]
@@ -176,6 +206,7 @@ mod tests {
 
     #[test]
     fn a_whole_file_has_none() {
-        assert_eq!(said(&[b'/'; 8193], b"").message(), "a.lst: 1: list over 8,192 bytes");
+        assert_eq!(said(&[b'/'; 8193], b"").message(), "a.lst: 1: list over 8,192 bytes: it has 8,193");
+        assert_eq!([0, 999, 1000, 16_777_217].map(grouped), ["0", "999", "1,000", "16,777,217"]);
     }
 }

@@ -1,5 +1,6 @@
-//! Bytes as a message shows them, on one line: control characters, marks that turn the direction of writing, and bytes that are not UTF-8
-//! are escaped. Bytes may be of any kind here: a document, a list, a file's name.
+//! Bytes as a message shows them, on one line. Control characters, marks that turn the direction of writing, blanks other than the space
+//! and what else can't be seen, backslashes, and bytes that are not UTF-8 are escaped. Bytes may be of any kind here: a document, a list,
+//! a file's name.
 use std::str;
 
 /// The character at the front, or how many bytes there begin none.
@@ -40,11 +41,38 @@ fn one(c: char) -> Shown {
         '\n' => plain(1, "\\n".to_string()),
         '\r' => plain(1, "\\r".to_string()),
         '\t' => plain(1, "\\t".to_string()),
+        '\\' => plain(1, "\\\\".to_string()),
+        '\u{34F}' => coded(c),
         '\u{300}'..='\u{36F}' => Shown { bytes: c.len_utf8(), text: c.to_string(), width: 0 },
-        '\u{200B}'..='\u{200F}' | '\u{2028}'..='\u{202E}' | '\u{2060}'..='\u{206F}' | '\u{FEFF}' | '\u{FFFE}' | '\u{FFFF}' => coded(c),
+        '\u{FEFF}' | '\u{FFFE}' | '\u{FFFF}' => coded(c),
+        _ if unseen(c).is_some() => coded(c),
         _ if c.is_control() => coded(c),
         _ => plain(c.len_utf8(), c.to_string()),
     }
+}
+
+/// What a character is called that can't be seen, or looks like a space and is none: blanks, marks of direction, fillers, selectors.
+pub fn unseen(c: char) -> Option<&'static str> {
+    Some(match c {
+        '\u{A0}' => "no-break space",
+        '\u{202F}' => "narrow no-break space",
+        '\u{1680}' | '\u{2000}'..='\u{200A}' | '\u{205F}' | '\u{3000}' => "another space",
+        '\u{AD}' => "soft hyphen",
+        '\u{200B}'..='\u{200D}' | '\u{2060}' | '\u{180E}' => "without width",
+        '\u{61C}' | '\u{200E}' | '\u{200F}' | '\u{202A}'..='\u{202E}' | '\u{2066}'..='\u{206F}' => "mark of direction",
+        '\u{2028}' | '\u{2029}' => "end of a line or paragraph",
+        '\u{34F}' | '\u{115F}' | '\u{1160}' | '\u{17B4}' | '\u{17B5}' | '\u{3164}' | '\u{FFA0}' => "filler",
+        '\u{2061}'..='\u{2065}' => "unseen sign",
+        '\u{180B}'..='\u{180D}' | '\u{FE00}'..='\u{FE0F}' | '\u{E0100}'..='\u{E01EF}' => "selector",
+        '\u{FFF9}'..='\u{FFFB}' | '\u{E0000}'..='\u{E007F}' => "unseen mark",
+        _ => return None,
+    })
+}
+
+/// Such a character at the front, in words.
+pub fn unseen_front(bytes: &[u8]) -> Option<String> {
+    let c = front(bytes).ok()?;
+    unseen(c).map(|name| format!("U+{:04X} ({name})", c as u32))
 }
 
 /// A character by its number.
@@ -85,7 +113,18 @@ mod tests {
         assert_eq!(all(b"a\tb\r\n\x01\x7F"), "a\\tb\\r\\n\\u{1}\\u{7F}");
         assert_eq!(all(b"\xC3(\xFF\xE2\x82"), "\\xC3(\\xFF\\xE2\\x82");
         assert_eq!(all("\u{202E}\u{FEFF}\u{85}".as_bytes()), "\\u{202E}\\u{FEFF}\\u{85}");
+        assert_eq!(all("a\u{A0}b\u{202F}\u{2000}\u{200A}\u{3000}".as_bytes()), "a\\u{A0}b\\u{202F}\\u{2000}\\u{200A}\\u{3000}");
+        assert_eq!(all("\u{61C}\u{AD}\u{34F}\u{FE0F}".as_bytes()), "\\u{61C}\\u{AD}\\u{34F}\\u{FE0F}");
+        // What is typed as an escape is told from one.
+        assert_eq!(all(b"\\u{A0}\\n"), "\\\\u{A0}\\\\n");
         assert_eq!(all(b""), "");
+    }
+
+    #[test]
+    fn what_is_not_seen_is_named() {
+        assert_eq!(unseen_front("\u{A0}#".as_bytes()).as_deref(), Some("U+00A0 (no-break space)"));
+        assert_eq!(unseen_front("\u{3000}".as_bytes()).as_deref(), Some("U+3000 (another space)"));
+        assert!([" a", "é\u{A0}", "", "\t"].iter().all(|text| unseen_front(text.as_bytes()).is_none()));
     }
 
     #[test]

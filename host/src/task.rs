@@ -1,70 +1,94 @@
-//! A run of `cut` or `check`: reads, asks the library, and writes the cut or says why there is none. Gives the exit status.
+//! A run of `cut`: reads, asks the library, and writes the cut or says why there is none. Gives the exit status.
+use crate::each;
 use crate::input::Source;
+use crate::json::Object;
 use crate::output::{self, Sink};
-use crate::packing;
+use crate::paths::Paths;
 use crate::report::{self, Read};
 use crate::say;
 use crate::trouble::Trouble;
-use choughbell::{Refusal, DOCUMENT_LIMIT, LIST_LIMIT};
+use choughbell::{Refusal, DOCUMENT_LIMIT};
 
 /// What is asked for.
 #[derive(PartialEq, Eq, Debug)]
 pub struct Task {
-    /// The list of `cut`; `check` has none.
-    pub list: Option<Source>,
-    /// The list is in its packed form.
-    pub packed: bool,
+    pub paths: Paths,
     pub document: Source,
-    /// Where the cut goes; nowhere under `check` and `--count`.
+    /// Where the cut goes; nowhere under `--count` and `--each`.
     pub output: Option<Sink>,
+    /// The numbers of the cut, and those of each line.
+    pub count: bool,
+    pub each: bool,
     /// By the plain engine, which counts no name tests.
     pub plain: bool,
     pub quiet: bool,
     pub json: bool,
 }
 
+/// A cut by either engine.
+struct Made {
+    cut: Vec<u8>,
+    selected: u64,
+    name_tests: Option<u64>,
+}
+
 pub fn run(task: &Task) -> Result<u8, Trouble> {
-    let list = match &task.list {
-        Some(list) if task.packed => match packing::text(list)? {
-            Ok(text) => text,
-            Err((packed, refusal)) => return refused(task, refusal, &packed, &packed),
-        },
-        Some(list) => Read { name: list.name(), bytes: list.read(LIST_LIMIT)? },
-        None => Read { name: String::new(), bytes: Vec::new() },
+    let list = task.paths.read()?;
+    let document = Read::of(&task.document, DOCUMENT_LIMIT)?;
+    let list = match task.paths.text(&list) {
+        Ok(text) => text,
+        Err(refusal) => return refused(task, refusal, &list, &document),
     };
-    let document = Read { name: task.document.name(), bytes: task.document.read(DOCUMENT_LIMIT)? };
-    let done = match &task.list {
-        Some(_) if task.plain => {
-            choughbell::plain_of(&list.bytes, &document.bytes).map(|cut| written(task, &cut.bytes, cut.selected, None))
-        }
-        Some(_) => {
-            choughbell::cut_of(&list.bytes, &document.bytes).map(|cut| written(task, &cut.bytes, cut.selected, Some(cut.name_tests)))
-        }
-        None => choughbell::check(&document.bytes).map(|()| sound(task)),
+    let made = if task.plain {
+        choughbell::plain_of(&list.bytes, &document.bytes).map(|cut| Made { cut: cut.bytes, selected: cut.selected, name_tests: None })
+    } else {
+        let cut = choughbell::cut_of(&list.bytes, &document.bytes);
+        cut.map(|cut| Made { cut: cut.bytes, selected: cut.selected, name_tests: Some(cut.name_tests) })
     };
-    match done {
-        Ok(written) => written.map(|()| 0),
+    match made {
+        Ok(made) => written(task, &made, &list, &document).map(|()| 0),
         Err(refusal) => refused(task, refusal, &list, &document),
     }
 }
 
 /// Under 0: the cut goes where it is to go, and the numbers where they are asked for.
-fn written(task: &Task, cut: &[u8], selected: u64, name_tests: Option<u64>) -> Result<(), Trouble> {
-    let length = cut.len() as u64;
-    match &task.output {
-        Some(output) => output.write(cut)?,
-        None if !task.json => {
-            let tried = name_tests.map_or(String::new(), |tests| format!("name tests {tests}\n"));
-            output::print(&format!("kept {selected} {length}\n{tried}"))?
-        }
-        None => {}
+fn written(task: &Task, made: &Made, list: &Read, document: &Read) -> Result<(), Trouble> {
+    let length = made.cut.len() as u64;
+    if let Some(output) = &task.output {
+        output.write(&made.cut)?;
     }
-    numbers(task, || report::numbers(0, length, selected, name_tests, "written").line())
+    // JSON has no messages beside it, so that lines which select nothing are told there by `--each` alone.
+    if task.quiet || (task.json && !task.each) {
+        return numbers(task, || object(made).line());
+    }
+    let each = each::each(&list.bytes, &document.bytes, &made.cut);
+    if task.json {
+        let mut object = object(made);
+        object.numbers("each", &each);
+        return numbers(task, || object.line());
+    }
+    let mut text = String::new();
+    if task.count {
+        let tried = made.name_tests.map_or(String::new(), |tests| format!("name tests {tests}\n"));
+        text = format!("kept {} {length}\n{tried}", made.selected);
+    }
+    if task.each {
+        text += &each::text(&list.bytes, &each);
+    }
+    if task.output.is_none() {
+        output::print(&text)?;
+    }
+    each::idle(list, &each).iter().for_each(|line| say(line));
+    Ok(())
 }
 
-/// `check` has no numbers of its own.
-fn sound(task: &Task) -> Result<(), Trouble> {
-    numbers(task, || report::numbers(0, 0, 0, Some(0), "sound").line())
+/// The numbers, and the second and the third again by what they are.
+fn object(made: &Made) -> Object {
+    let length = made.cut.len() as u64;
+    let mut object = report::numbers(0, length, made.selected, made.name_tests, "written");
+    object.number("length", length);
+    object.number("selected", made.selected);
+    object
 }
 
 fn refused(task: &Task, refusal: Refusal, list: &Read, document: &Read) -> Result<u8, Trouble> {
@@ -83,8 +107,7 @@ fn numbers(task: &Task, line: impl FnOnce() -> String) -> Result<(), Trouble> {
         return Ok(());
     }
     if task.output == Some(Sink::Standard) {
-        say(line().trim_end_matches('\n'));
-        return Ok(());
+        return output::tell(line().trim_end_matches('\n'));
     }
     output::print(&line())
 }

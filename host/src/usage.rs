@@ -1,12 +1,14 @@
-//! The words of the command line: which command it is and what it is to do; or, where they are wrong, a line that says why. File names are
-//! bytes of any kind and stay as they are.
+//! The words of the command line: which command it is and what it is to do; or, where they are wrong, a line that says why. One table has
+//! the options, another the commands and which of the options each takes. File names are bytes of any kind and stay as they are.
 use crate::batch::{Post, Way};
+use crate::check::Checking;
 use crate::covers::Asked;
 use crate::explain;
 use crate::input::Source;
 use crate::mend::Mending;
 use crate::output::Sink;
 use crate::packing::Packing;
+use crate::paths::Paths;
 use crate::shown;
 use crate::task::Task;
 use std::collections::HashSet;
@@ -17,58 +19,91 @@ use std::path::PathBuf;
 #[derive(PartialEq, Eq, Debug)]
 pub enum Request {
     Task(Task),
+    Check(Checking),
     Batch(Post),
     Packing(Packing),
     Covers(Asked),
     Mend(Mending),
-    /// The text on a number.
-    Explain(&'static str),
+    /// The text on a number, or the list of all.
+    Explain(String),
     Help,
     Version,
 }
 
+/// An option: its name, its letter, and what its value is where it takes one.
+struct Known {
+    name: &'static str,
+    letter: Option<u8>,
+    value: Option<&'static str>,
+}
+
+const fn known(name: &'static str, letter: Option<u8>, value: Option<&'static str>) -> Known {
+    Known { name, letter, value }
+}
+
+const FILE: Option<&str> = Some("a file's name");
+const OPTIONS: [Known; 14] = [
+    known("--list", Some(b'l'), FILE),
+    known("--path", Some(b'e'), Some("a path")),
+    known("--output", Some(b'o'), FILE),
+    known("--folder", Some(b'd'), FILE),
+    known("--narrow", None, FILE),
+    known("--wide", None, FILE),
+    known("--packed", None, None),
+    known("--count", None, None),
+    known("--each", None, None),
+    known("--plain", None, None),
+    known("--quiet", Some(b'q'), None),
+    known("--json", None, None),
+    known("--help", Some(b'h'), None),
+    known("--version", Some(b'V'), None),
+];
+
+/// The commands, what reads the rest of their words, and which options they take besides `--help` and `--version`.
+type Reading = fn(&str, Given) -> Result<Request, String>;
+const COMMANDS: [(&str, Reading, &[&str]); 8] = [
+    ("cut", cut, &["--list", "--path", "--packed", "--output", "--count", "--each", "--plain", "--quiet", "--json"]),
+    ("check", check, &["--quiet", "--json"]),
+    ("batch", batch, &["--list", "--path", "--packed", "--output", "--folder", "--quiet"]),
+    ("pack", packing, &["--output", "--quiet", "--json"]),
+    ("unpack", packing, &["--output", "--quiet", "--json"]),
+    ("covers", covers, &["--narrow", "--wide", "--packed", "--quiet", "--json"]),
+    ("mend", mend, &["--output", "--quiet", "--json"]),
+    ("explain", explain, &[]),
+];
+
 /// Options and names as they were given, before it is asked whether they go together.
 #[derive(Default)]
 struct Given {
-    list: Option<OsString>,
-    output: Option<OsString>,
-    folder: Option<OsString>,
-    narrow: Option<OsString>,
-    wide: Option<OsString>,
-    count: bool,
-    plain: bool,
-    packed: bool,
-    quiet: bool,
-    json: bool,
-    help: bool,
+    options: Vec<(&'static str, OsString)>,
     names: Vec<OsString>,
 }
 
 /// What the words ask for. The first is the command.
 pub fn read(mut words: impl Iterator<Item = OsString>) -> Result<Request, String> {
-    let command = words.next().ok_or("there is no command: it is cut, check, batch, pack, unpack, covers, mend or explain")?;
-    match command.as_bytes() {
+    const WHICH: &str = "it is cut, check, batch, pack, unpack, covers, mend or explain";
+    let first = words.next().ok_or(format!("there is no command: {WHICH}"))?;
+    match first.as_bytes() {
         b"help" | b"--help" | b"-h" => return Ok(Request::Help),
-        b"--version" | b"version" | b"-V" => return Ok(Request::Version),
-        b"cut" | b"check" | b"batch" | b"pack" | b"unpack" | b"covers" | b"mend" | b"explain" => {}
-        _ => return Err(format!("there is no command {}: it is cut, check, batch, pack, unpack, covers, mend or explain", word(&command))),
+        b"version" | b"--version" | b"-V" => return Ok(Request::Version),
+        _ => {}
     }
+    let command = COMMANDS.iter().find(|(name, ..)| first == *name);
+    let (name, reading, taken) = command.ok_or(format!("there is no command {}: {WHICH}", word(&first)))?;
     let given = given(words)?;
-    if given.folder.is_some() && command != "batch" && !given.help {
-        return Err("--folder is for batch alone".to_string());
+    if given.has("--help") {
+        return Ok(Request::Help);
     }
-    match command.as_bytes() {
-        _ if given.help => Ok(Request::Help),
-        b"batch" => batch(given),
-        b"cut" => cut(given),
-        _ if given.plain => Err("--plain goes with cut alone".to_string()),
-        b"check" => check(given),
-        b"pack" => packing("pack", given),
-        b"unpack" => packing("unpack", given),
-        b"covers" => covers(given),
-        b"mend" => mend(given),
-        _ => explain(given),
+    if given.has("--version") {
+        return Ok(Request::Version);
     }
+    if let Some((option, _)) = given.options.iter().find(|(option, _)| !taken.contains(option)) {
+        return Err(format!("{name} takes no {option}"));
+    }
+    if given.has("--quiet") && given.has("--json") {
+        return Err("--quiet and --json don't go together".to_string());
+    }
+    reading(name, given)
 }
 
 fn word(word: &OsStr) -> String {
@@ -80,8 +115,8 @@ fn given(mut words: impl Iterator<Item = OsString>) -> Result<Given, String> {
     while let Some(word) = words.next() {
         match word.as_bytes() {
             b"--" => given.names.extend(words.by_ref()),
-            b"-" => given.names.push(word),
-            [b'-', ..] => given.option(&word, &mut words)?,
+            [b'-', b'-', ..] => given.long(&word, &mut words)?,
+            [b'-', letters @ ..] if !letters.is_empty() => given.letters(&word, letters, &mut words)?,
             _ => given.names.push(word),
         }
     }
@@ -89,119 +124,128 @@ fn given(mut words: impl Iterator<Item = OsString>) -> Result<Given, String> {
 }
 
 impl Given {
-    /// Takes an option, and the next word where that is its value.
-    fn option(&mut self, option: &OsStr, words: &mut impl Iterator<Item = OsString>) -> Result<(), String> {
-        let (name, joined) = parts(option.as_bytes());
-        match (name, &joined) {
-            (b"--list" | b"-l", _) => value("--list", &mut self.list, joined, words),
-            (b"--output" | b"-o", _) => value("--output", &mut self.output, joined, words),
-            (b"--folder" | b"-d", _) => value("--folder", &mut self.folder, joined, words),
-            (b"--narrow", _) => value("--narrow", &mut self.narrow, joined, words),
-            (b"--wide", _) => value("--wide", &mut self.wide, joined, words),
-            (b"--count", None) => flag(&mut self.count),
-            (b"--plain", None) => flag(&mut self.plain),
-            (b"--packed", None) => flag(&mut self.packed),
-            (b"--quiet" | b"-q", None) => flag(&mut self.quiet),
-            (b"--json", None) => flag(&mut self.json),
-            (b"--help" | b"-h", None) => flag(&mut self.help),
-            (b"--count" | b"--plain" | b"--packed" | b"--quiet" | b"--json" | b"--help", Some(_)) => {
-                Err(format!("{} takes no value", shown::all(name)))
+    fn has(&self, name: &str) -> bool {
+        self.value(name).is_some()
+    }
+
+    /// The value of an option, which is empty where it takes none.
+    fn value(&self, name: &str) -> Option<&OsStr> {
+        self.options.iter().find(|(option, _)| *option == name).map(|(_, value)| value.as_os_str())
+    }
+
+    /// `--list NAME`, `--list=NAME`, `--count`.
+    fn long(&mut self, whole: &OsStr, words: &mut impl Iterator<Item = OsString>) -> Result<(), String> {
+        let bytes = whole.as_bytes();
+        let end = bytes.iter().position(|&b| b == b'=').unwrap_or(bytes.len());
+        let option = OPTIONS.iter().find(|option| option.name.as_bytes() == &bytes[..end]);
+        let option = option.ok_or(format!("there is no option {}", word(whole)))?;
+        let joined = bytes.get(end + 1..).map(|rest| OsString::from_vec(rest.to_vec()));
+        if option.value.is_none() && joined.is_some() {
+            return Err(format!("{} takes no value", option.name));
+        }
+        self.take(option, joined, words)
+    }
+
+    /// `-l NAME`, `-lNAME`, `-q`, `-ql NAME`: letters of flags, and then perhaps one that takes a value.
+    fn letters(&mut self, whole: &OsStr, letters: &[u8], words: &mut impl Iterator<Item = OsString>) -> Result<(), String> {
+        for (at, letter) in letters.iter().enumerate() {
+            let option = OPTIONS.iter().find(|option| option.letter == Some(*letter));
+            let option = option.ok_or(format!("there is no option {}", word(whole)))?;
+            if option.value.is_none() {
+                self.take(option, None, words)?;
+                continue;
             }
-            _ => Err(format!("there is no option {}", word(option))),
+            let rest = &letters[at + 1..];
+            let joined = Some(rest).filter(|rest| !rest.is_empty()).map(|rest| OsString::from_vec(rest.to_vec()));
+            return self.take(option, joined, words);
+        }
+        Ok(())
+    }
+
+    /// Takes an option, and the next word where that is its value. Only a path may be given again.
+    fn take(&mut self, option: &Known, joined: Option<OsString>, words: &mut impl Iterator<Item = OsString>) -> Result<(), String> {
+        let value = match option.value {
+            None => OsString::new(),
+            Some(kind) => joined.or_else(|| words.next()).ok_or(format!("{} wants {kind}", option.name))?,
+        };
+        if option.value.is_some() && option.name != "--path" && self.has(option.name) {
+            return Err(format!("{} is given twice", option.name));
+        }
+        self.options.push((option.name, value));
+        Ok(())
+    }
+
+    /// Where the output goes.
+    fn output(&self) -> Sink {
+        self.value("--output").map_or(Sink::Standard, Sink::named)
+    }
+
+    /// The only name, of `what`, or the standard input.
+    fn only(&self, command: &str, what: &str) -> Result<Source, String> {
+        match self.names.as_slice() {
+            [] => Ok(Source::Standard),
+            [name] => Ok(Source::named(name)),
+            [_, second, ..] => Err(format!("{command} takes one {what}, and {} is a second", word(second))),
         }
     }
-}
 
-impl Given {
-    /// Only `covers` takes two lists.
-    fn no_two_lists(&self, command: &str) -> Result<(), String> {
-        match (&self.narrow, &self.wide) {
-            (None, None) => Ok(()),
-            _ => Err(format!("{command} takes no --narrow or --wide")),
+    /// The paths of a command that cuts: a list, paths of the command line, or both.
+    fn paths(&self, wanted: &str) -> Result<Paths, String> {
+        let list = self.value("--list").map(Source::named);
+        let more: Vec<&OsStr> = self.options.iter().filter(|(name, _)| *name == "--path").map(|(_, path)| path.as_os_str()).collect();
+        if list.is_none() && more.is_empty() {
+            return Err(wanted.to_string());
         }
+        if more.iter().any(|path| path.as_bytes().contains(&b'\n')) {
+            return Err("--path takes one path, without a line feed".to_string());
+        }
+        let more = more.iter().map(|path| path.as_bytes().to_vec()).collect();
+        Ok(Paths { list, packed: self.has("--packed"), more })
     }
 }
 
-/// An option's name and the value that is joined to it: `--list=NAME`, `-lNAME`.
-fn parts(option: &[u8]) -> (&[u8], Option<OsString>) {
-    let end = match option.iter().position(|&b| b == b'=') {
-        Some(end) if option.starts_with(b"--") => end,
-        _ if option.starts_with(b"--") => option.len(),
-        _ => 2,
-    };
-    let joined = option.get(end..).filter(|rest| !rest.is_empty());
-    let skip = if option.starts_with(b"--") { 1 } else { 0 };
-    (&option[..end], joined.map(|rest| OsString::from_vec(rest[skip..].to_vec())))
-}
-
-fn flag(flag: &mut bool) -> Result<(), String> {
-    *flag = true;
-    Ok(())
-}
-
-fn value(
-    name: &str,
-    place: &mut Option<OsString>,
-    joined: Option<OsString>,
-    words: &mut impl Iterator<Item = OsString>,
-) -> Result<(), String> {
-    let value = joined.or_else(|| words.next()).ok_or(format!("{name} wants a file's name"))?;
-    match place.replace(value) {
-        Some(_) => Err(format!("{name} is given twice")),
-        None => Ok(()),
-    }
-}
-
-fn cut(given: Given) -> Result<Request, String> {
-    given.no_two_lists("cut")?;
-    let document = document("cut", &given)?;
-    let list = given.list.as_deref().ok_or("cut wants a list: -l LIST; by /dev/null the root alone is kept")?;
-    let list = Source::named(list);
-    if list == Source::Standard && document == Source::Standard {
+fn cut(command: &str, given: Given) -> Result<Request, String> {
+    let paths = given.paths("cut wants a list: -l LIST, or -e PATH; by -l /dev/null the root alone is kept")?;
+    let document = given.only(command, "document")?;
+    if paths.list == Some(Source::Standard) && document == Source::Standard {
         return Err("the list and the document can't both come from the standard input".to_string());
     }
-    if given.count && given.output.is_some() {
-        return Err("--count writes no cut, so it takes no --output".to_string());
+    let (count, each) = (given.has("--count"), given.has("--each"));
+    if (count || each) && given.has("--output") {
+        return Err(format!("{} writes no cut, so it takes no --output", if count { "--count" } else { "--each" }));
     }
-    let output = match &given.output {
-        _ if given.count => None,
-        Some(output) => Some(Sink::named(output)),
-        None => Some(Sink::Standard),
-    };
-    let Given { packed, plain, quiet, json, .. } = given;
-    Ok(Request::Task(Task { list: Some(list), packed, document, output, plain, quiet, json }))
+    let output = Some(given.output()).filter(|_| !count && !each);
+    let (plain, quiet, json) = (given.has("--plain"), given.has("--quiet"), given.has("--json"));
+    Ok(Request::Task(Task { paths, document, output, count, each, plain, quiet, json }))
 }
 
-fn check(given: Given) -> Result<Request, String> {
-    given.no_two_lists("check")?;
-    let document = document("check", &given)?;
-    if given.list.is_some() || given.output.is_some() || given.count || given.packed {
-        return Err("check takes no --list, --packed, --output or --count".to_string());
+fn check(_: &str, given: Given) -> Result<Request, String> {
+    let mut documents: Vec<Source> = given.names.iter().map(|name| Source::named(name)).collect();
+    if documents.is_empty() {
+        documents.push(Source::Standard);
     }
-    Ok(Request::Task(Task { list: None, packed: false, document, output: None, plain: false, quiet: given.quiet, json: given.json }))
+    if documents.iter().filter(|&source| *source == Source::Standard).count() > 1 {
+        return Err("two documents can't both come from the standard input".to_string());
+    }
+    Ok(Request::Check(Checking { documents, quiet: given.has("--quiet"), json: given.has("--json") }))
 }
 
-fn batch(given: Given) -> Result<Request, String> {
-    given.no_two_lists("batch")?;
-    let list = given.list.as_deref().ok_or("batch wants a list: -l LIST")?;
-    let list = Source::named(list);
-    if given.count || given.json {
-        return Err("batch takes no --count or --json".to_string());
-    }
-    let way = match (given.folder, given.names.as_slice()) {
-        (Some(_), _) if given.output.is_some() => return Err("--folder and --output don't go together".to_string()),
+fn batch(_: &str, given: Given) -> Result<Request, String> {
+    let paths = given.paths("batch wants a list: -l LIST, or -e PATH")?;
+    let way = match (given.value("--folder"), given.names.as_slice()) {
+        (Some(_), _) if given.has("--output") => return Err("--folder and --output don't go together".to_string()),
         (Some(_), []) => return Err("batch with --folder wants documents".to_string()),
         (Some(folder), names) => Way::Documents(documents(names)?, folder.into()),
         (None, [] | [_]) => {
             let batch = given.names.first().map_or(Source::Standard, |name| Source::named(name));
-            if list == Source::Standard && batch == Source::Standard {
+            if paths.list == Some(Source::Standard) && batch == Source::Standard {
                 return Err("the list and the batch can't both come from the standard input".to_string());
             }
-            Way::Batch(batch, given.output.map_or(Sink::Standard, |output| Sink::named(&output)))
+            Way::Batch(batch, given.output())
         }
         (None, _) => return Err("batch takes one batch, or with -d FOLDER documents".to_string()),
     };
-    Ok(Request::Batch(Post { list, way, quiet: given.quiet }))
+    Ok(Request::Batch(Post { paths, way, quiet: given.has("--quiet") }))
 }
 
 /// Documents with the names of their cuts, of which no two are the same.
@@ -219,76 +263,40 @@ fn documents(names: &[OsString]) -> Result<Vec<(PathBuf, OsString)>, String> {
     Ok(documents)
 }
 
-fn mend(given: Given) -> Result<Request, String> {
-    given.no_two_lists("mend")?;
-    let document = document("mend", &given)?;
-    if given.list.is_some() || given.count || given.packed {
-        return Err("mend takes no --list, --packed or --count".to_string());
-    }
-    let output = given.output.as_deref().map_or(Sink::Standard, Sink::named);
-    Ok(Request::Mend(Mending { document, output, quiet: given.quiet, json: given.json }))
-}
-
-/// The document of a command, and what all ask of options.
-fn document(command: &str, given: &Given) -> Result<Source, String> {
-    if given.quiet && given.json {
-        return Err("--quiet and --json don't go together".to_string());
-    }
-    match given.names.as_slice() {
-        [] => Ok(Source::Standard),
-        [name] => Ok(Source::named(name)),
-        [_, second, ..] => Err(format!("{command} takes one document, and {} is a second", word(second))),
-    }
+fn mend(command: &str, given: Given) -> Result<Request, String> {
+    let document = given.only(command, "document")?;
+    Ok(Request::Mend(Mending { document, output: given.output(), quiet: given.has("--quiet"), json: given.has("--json") }))
 }
 
 /// `pack` and `unpack` take a list as their only name, and give its other form.
 fn packing(command: &str, given: Given) -> Result<Request, String> {
-    given.no_two_lists(command)?;
-    if given.list.is_some() || given.count || given.packed {
-        return Err(format!("{command} takes no --list, --packed or --count: the list is its only name"));
-    }
-    if given.quiet && given.json {
-        return Err("--quiet and --json don't go together".to_string());
-    }
-    let list = match given.names.as_slice() {
-        [] => Source::Standard,
-        [name] => Source::named(name),
-        [_, second, ..] => return Err(format!("{command} takes one list, and {} is a second", word(second))),
-    };
-    let output = given.output.as_deref().map_or(Sink::Standard, Sink::named);
-    Ok(Request::Packing(Packing { back: command == "unpack", list, output, quiet: given.quiet, json: given.json }))
+    let list = given.only(command, "list")?;
+    let (quiet, json) = (given.has("--quiet"), given.has("--json"));
+    Ok(Request::Packing(Packing { back: command == "unpack", list, output: given.output(), quiet, json }))
 }
 
-fn covers(given: Given) -> Result<Request, String> {
-    if given.list.is_some() || given.output.is_some() || given.count || given.packed {
-        return Err("covers takes no --list, --output, --packed or --count".to_string());
-    }
-    if given.quiet && given.json {
-        return Err("--quiet and --json don't go together".to_string());
-    }
+fn covers(_: &str, given: Given) -> Result<Request, String> {
     if let [name, ..] = given.names.as_slice() {
         return Err(format!("covers takes two lists by their options, and {} is none", word(name)));
     }
     let wanted = "covers wants two lists: --narrow LIST --wide LIST";
-    let (narrow, wide) = given.narrow.as_deref().zip(given.wide.as_deref()).ok_or(wanted)?;
+    let (narrow, wide) = given.value("--narrow").zip(given.value("--wide")).ok_or(wanted)?;
     let (narrow, wide) = (Source::named(narrow), Source::named(wide));
     if narrow == Source::Standard && wide == Source::Standard {
         return Err("the two lists can't both come from the standard input".to_string());
     }
-    Ok(Request::Covers(Asked { narrow, wide, quiet: given.quiet, json: given.json }))
+    let (packed, quiet, json) = (given.has("--packed"), given.has("--quiet"), given.has("--json"));
+    Ok(Request::Covers(Asked { narrow, wide, packed, quiet, json }))
 }
 
-fn explain(given: Given) -> Result<Request, String> {
-    given.no_two_lists("explain")?;
-    if given.list.is_some() || given.output.is_some() || given.count || given.packed || given.quiet || given.json {
-        return Err("explain takes no options".to_string());
-    }
+fn explain(_: &str, given: Given) -> Result<Request, String> {
     match given.names.as_slice() {
+        [] => Ok(Request::Explain(explain::all())),
         [number] => match explain::text(number.as_bytes()) {
-            Some(text) => Ok(Request::Explain(text)),
+            Some(text) => Ok(Request::Explain(text.to_string())),
             None => Err(format!("{} is no number that is explained: 0 to 13, 20, 64, 66, 73 or 74", word(number))),
         },
-        _ => Err("explain wants one number".to_string()),
+        _ => Err("explain takes one number, or none to list them".to_string()),
     }
 }
 

@@ -13,7 +13,7 @@ fn file(name: &str) -> Source {
 /// What a command line of `cut` asks for: the list, the document, the output.
 fn cut_of(words: &[&str]) -> (Source, Source, Option<Sink>) {
     match asked(words) {
-        Ok(Request::Task(Task { list: Some(list), document, output, .. })) => (list, document, output),
+        Ok(Request::Task(Task { paths: Paths { list: Some(list), .. }, document, output, .. })) => (list, document, output),
         other => panic!("{other:?}"),
     }
 }
@@ -34,6 +34,8 @@ fn standard_input_and_output_have_names() {
     assert_eq!(cut_of(&["cut", "-l", "a"]), (file("a"), Source::Standard, Some(Sink::Standard)));
     assert_eq!(cut_of(&["cut", "-l-", "m", "-o-"]), (Source::Standard, file("m"), Some(Sink::Standard)));
     assert_eq!(cut_of(&["cut", "-la", "/dev/stdin", "-o/dev/stdout"]), (file("a"), Source::Standard, Some(Sink::Standard)));
+    assert_eq!(cut_of(&["cut", "-la", "/dev/fd/0", "-o/proc/self/fd/1"]), (file("a"), Source::Standard, Some(Sink::Standard)));
+    assert_eq!(cut_of(&["cut", "-l/dev/fd/3", "m", "-o/dev/stderr"]), (file("/dev/fd/3"), file("m"), Some(Sink::Stream(2))));
     assert_eq!(cut_of(&["cut", "-la", "--count"]), (file("a"), Source::Standard, None));
 }
 
@@ -47,23 +49,28 @@ fn a_list_is_packed_and_back() {
     assert_eq!(packing(&["pack", "a"]), expected);
     let expected = Packing { back: true, list: Source::Standard, output: Sink::File(PathBuf::from("o")), quiet: true, json: false };
     assert_eq!(packing(&["unpack", "-q", "-oo", "-"]), expected);
-    assert!(matches!(asked(&["cut", "--packed", "-la"]), Ok(Request::Task(Task { packed: true, .. }))));
-    assert!(matches!(asked(&["cut", "-la"]), Ok(Request::Task(Task { packed: false, .. }))));
+    let packed = |words: &[&str]| match asked(words) {
+        Ok(Request::Task(Task { paths, .. })) => paths.packed,
+        Ok(Request::Batch(post)) => post.paths.packed,
+        other => panic!("{other:?}"),
+    };
+    assert!(packed(&["cut", "--packed", "-la"]) && packed(&["batch", "-la", "--packed"]) && !packed(&["cut", "-la"]));
+    assert!(matches!(asked(&["covers", "--packed", "--narrow=n", "--wide=w"]), Ok(Request::Covers(Asked { packed: true, .. }))));
 }
 
 #[test]
 fn names_are_bytes() {
     let words = [&b"check"[..], b"\xFF.xml"].map(|word| OsString::from_vec(word.to_vec()));
     let document = Source::File(PathBuf::from(OsString::from_vec(b"\xFF.xml".to_vec())));
-    let task = Task { list: None, packed: false, document, output: None, plain: false, quiet: false, json: false };
-    assert_eq!(read(words.into_iter()), Ok(Request::Task(task)));
+    let checking = Checking { documents: vec![document], quiet: false, json: false };
+    assert_eq!(read(words.into_iter()), Ok(Request::Check(checking)));
 }
 
 #[test]
 fn the_plain_engine_is_asked_for() {
     let plain = |words: &[&str]| matches!(asked(words), Ok(Request::Task(Task { plain: true, .. })));
     assert!(plain(&["cut", "-la", "--plain"]) && !plain(&["cut", "-la"]));
-    assert_eq!(asked(&["check", "--plain"]), Err("--plain goes with cut alone".to_string()));
+    assert_eq!(asked(&["check", "--plain"]), Err("check takes no --plain".to_string()));
     assert_eq!(asked(&["cut", "-la", "--plain=no"]), Err("--plain takes no value".to_string()));
 }
 
@@ -72,23 +79,27 @@ fn mend_takes_a_document_and_an_output() {
     let mend = |document, output| Ok(Request::Mend(Mending { document, output, quiet: false, json: false }));
     assert_eq!(asked(&["mend"]), mend(Source::Standard, Sink::Standard));
     assert_eq!(asked(&["mend", "m", "-o", "o"]), mend(file("m"), Sink::File(PathBuf::from("o"))));
-    assert_eq!(asked(&["mend", "-la"]), Err("mend takes no --list, --packed or --count".to_string()));
+    assert_eq!(asked(&["mend", "-la"]), Err("mend takes no --list".to_string()));
 }
 
 #[test]
 fn wrong_words_are_told() {
     let wrong = |words: &[&str]| asked(words).unwrap_err();
     assert_eq!(wrong(&[]), "there is no command: it is cut, check, batch, pack, unpack, covers, mend or explain");
-    assert_eq!(wrong(&["cut", "m"]), "cut wants a list: -l LIST; by /dev/null the root alone is kept");
+    assert_eq!(wrong(&["cut", "m"]), "cut wants a list: -l LIST, or -e PATH; by -l /dev/null the root alone is kept");
     assert_eq!(wrong(&["cut", "-l"]), "--list wants a file's name");
     assert_eq!(wrong(&["cut", "-la", "-lb"]), "--list is given twice");
     assert_eq!(wrong(&["cut", "--count=1"]), "--count takes no value");
     assert_eq!(wrong(&["cut", "-qx"]), "there is no option -qx");
-    assert_eq!(wrong(&["check", "a\n", "b"]), "check takes one document, and b is a second");
-    assert_eq!(wrong(&["check", "--packed"]), "check takes no --list, --packed, --output or --count");
-    assert_eq!(wrong(&["pack", "-la"]), "pack takes no --list, --packed or --count: the list is its only name");
+    assert_eq!(wrong(&["cut", "-la", "a\n", "b"]), "cut takes one document, and b is a second");
+    assert_eq!(wrong(&["check", "-", "b", "/dev/stdin"]), "two documents can't both come from the standard input");
+    assert_eq!(wrong(&["cut", "-la", "--each", "-oo"]), "--each writes no cut, so it takes no --output");
+    assert_eq!(wrong(&["check", "--packed"]), "check takes no --packed");
+    assert_eq!(wrong(&["pack", "-la"]), "pack takes no --list");
+    // A forgotten -l comes before what else is wrong.
+    assert_eq!(wrong(&["cut", "a", "m", "--count", "-oo"]), wrong(&["cut", "m"]));
     assert_eq!(wrong(&["unpack", "a", "b"]), "unpack takes one list, and b is a second");
-    assert_eq!(wrong(&["explain"]), "explain wants one number");
+    assert_eq!(wrong(&["explain", "1", "2"]), "explain takes one number, or none to list them");
 }
 
 #[test]
@@ -102,22 +113,50 @@ fn batch_goes_two_ways() {
     assert_eq!(way(&["batch", "-la"]), Way::Batch(Source::Standard, Sink::Standard));
     assert_eq!(way(&["batch", "-la", "n.post", "-oo"]), Way::Batch(file("n.post"), Sink::File(PathBuf::from("o"))));
     let wrong = |words: &[&str]| asked(words).unwrap_err();
-    assert_eq!(wrong(&["batch", "a.xml"]), "batch wants a list: -l LIST");
+    assert_eq!(wrong(&["batch", "a.xml"]), "batch wants a list: -l LIST, or -e PATH");
     assert_eq!(wrong(&["batch", "-la", "-dc", "x/a.xml", "a.xml"]), "two documents have the name a.xml");
     assert_eq!(wrong(&["batch", "-la", "-dc", ".."]), ".. is no name for a document of a batch");
     assert_eq!(wrong(&["batch", "-la", "-dc", "-"]), "- is no name for a document of a batch");
     assert_eq!(wrong(&["batch", "-la", "-dc"]), "batch with --folder wants documents");
     assert_eq!(wrong(&["batch", "-la", "x", "y"]), "batch takes one batch, or with -d FOLDER documents");
-    assert_eq!(wrong(&["cut", "-la", "-dc"]), "--folder is for batch alone");
+    assert_eq!(wrong(&["cut", "-la", "-dc"]), "cut takes no --folder");
 }
 
 #[test]
 fn covers_takes_two_lists() {
-    let asked_for = Asked { narrow: file("n"), wide: file("w"), quiet: true, json: false };
+    let asked_for = Asked { narrow: file("n"), wide: file("w"), packed: false, quiet: true, json: false };
     assert_eq!(asked(&["covers", "--narrow", "n", "--wide=w", "-q"]), Ok(Request::Covers(asked_for)));
     let wrong = |words: &[&str]| asked(words).unwrap_err();
     assert_eq!(wrong(&["covers", "--narrow", "n"]), "covers wants two lists: --narrow LIST --wide LIST");
     assert_eq!(wrong(&["covers", "--narrow", "n", "--wide", "w", "m"]), "covers takes two lists by their options, and m is none");
     assert_eq!(wrong(&["covers", "--narrow=-", "--wide=-"]), "the two lists can't both come from the standard input");
-    assert_eq!(wrong(&["cut", "-la", "--wide", "w"]), "cut takes no --narrow or --wide");
+    assert_eq!(wrong(&["cut", "-la", "--wide", "w"]), "cut takes no --wide");
+}
+
+#[test]
+fn paths_stand_on_the_command_line() {
+    let paths = |words: &[&str]| match asked(words) {
+        Ok(Request::Task(Task { paths, .. })) => paths,
+        Ok(Request::Batch(post)) => post.paths,
+        other => panic!("{other:?}"),
+    };
+    let more = |list, more: &[&str]| Paths { list, packed: false, more: more.iter().map(|path| path.as_bytes().to_vec()).collect() };
+    assert_eq!(paths(&["cut", "-e", "//v #", "--path=/a", "-e//w"]), more(None, &["//v #", "/a", "//w"]));
+    assert_eq!(paths(&["batch", "-la", "-e", "/a"]), more(Some(file("a")), &["/a"]));
+    let wrong = |words: &[&str]| asked(words).unwrap_err();
+    assert_eq!(wrong(&["cut", "-e"]), "--path wants a path");
+    assert_eq!(wrong(&["cut", "-e", "/a\n/b"]), "--path takes one path, without a line feed");
+    assert_eq!(wrong(&["check", "-e", "/a"]), "check takes no --path");
+}
+
+#[test]
+fn letters_are_joined_and_help_stands_anywhere() {
+    assert_eq!(cut_of(&["cut", "-qla", "m"]), (file("a"), file("m"), Some(Sink::Standard)));
+    assert!(matches!(asked(&["check", "-qq"]), Ok(Request::Check(Checking { quiet: true, .. }))));
+    for words in [&["-V"][..], &["cut", "-V"], &["check", "--count", "--version"], &["explain", "-qV"]] {
+        assert_eq!(asked(words), Ok(Request::Version));
+    }
+    assert_eq!(asked(&["batch", "-qh"]), Ok(Request::Help));
+    assert_eq!(asked(&["cut", "-", "-h"]), Ok(Request::Help));
+    assert_eq!(asked(&["check", "-qx"]), Err("there is no option -qx".to_string()));
 }

@@ -15,7 +15,6 @@ prints '<g><v><n/></v></g>'
 try 'a marked line' 0 cut -l two.lst h.xml
 lines 'kept 2 18' 'name tests 6'
 try 'numbers only' 0 cut --count -l two.lst h.xml
-lines 'kept 1 21' 'name tests 3'
 try 'numbers only, quiet' 0 cut --count --quiet -l v.lst b.xml
 prints '<g><p><v></v></p></g>'
 try 'a cut, quiet' 0 cut --quiet -l v.lst b.xml
@@ -32,10 +31,12 @@ lines 'kept 3 21' 'name tests 3'
 try 'descendant-or-self first' 0 cut --count -l axes.lst b.xml
 printf '/self::g\n' > axes.lst
 lines 'kept 0 7' 'name tests 0'
+says 'axes.lst:1: "/self::g" selects nothing'
 try 'self first' 0 cut --count -l axes.lst b.xml
 printf '/g/*\n/g/self::p\n' > axes.lst
 printf '<g><a::b/><self::p><:p/></self::p></g>' > colons.xml
 prints '<g><a::b></a::b><self::p></self::p></g>'
+says 'axes.lst:2: "/g/self::p" selects nothing'
 try 'names with two colons in a document' 0 cut -l axes.lst colons.xml
 
 # Tests of an attribute behind the last step.
@@ -52,16 +53,20 @@ water"></lake></atlas>'
 try 'two tests, one marked' 0 cut -l tests.lst places.xml
 printf '//place[@type=""]\n//place[@Type="town"]\n/atlas/self::*[@n="2"]\n' > tests.lst
 lines 'kept 0 15' 'name tests 14'
+says 'tests.lst:1: "//place[@type=""]" selects nothing' 'tests.lst:2: "//place[@Type="town"]" selects nothing' \
+    'tests.lst:3: "/atlas/self::*[@n="2"]" selects nothing'
 try 'tests that none passes' 0 cut --count -l tests.lst places.xml
 
 # Name tests, as sums: for each step how many elements it is tried at, over the whole document.
 # tests NAME KEPT NUMBER DOCUMENT LINES..: what --count prints by a list of these lines.
 tests() {
-    name=$1
+    name=$1 kept=$2
     lines "kept $2" "name tests $3"
     document=$4
     shift 4
     printf '%s\n' "$@" > count.lst
+    # A list that selects nothing is told; here it has one line.
+    [ "${kept% *}" != 0 ] || says "count.lst:1: \"$(cat count.lst)\" selects nothing"
     try "name tests: $name" 0 cut --count -l count.lst "$document"
 }
 printf '<g><p><v/></p><q><v><w/></v></q></g>' > six.xml
@@ -92,17 +97,17 @@ try 'numbers only, refused' 7 cut --count -l v.lst wrong.xml
 
 # 1
 repeat 8193 / > long.lst
-says 'long.lst: 1: list over 8,192 bytes'
+says 'long.lst: 1: list over 8,192 bytes: it has 8,193'
 try 'list of 8,193 bytes' 1 cut -l long.lst b.xml
 input=long.lst
-says 'standard input: 1: list over 8,192 bytes'
+says 'standard input: 1: list over 8,192 bytes: it has 8,193'
 try 'long list on standard input' 1 cut -l - b.xml
 says '/dev/zero: 1: list over 8,192 bytes'
 try 'list without end' 1 cut -l /dev/zero b.xml
 repeat 32 "/$(repeat 254 a)
 " > full.lst
 prints '<g></g>'
-try 'list of 8,192 bytes' 0 cut -l full.lst b.xml
+try 'list of 8,192 bytes' 0 cut -q -l full.lst b.xml
 
 # malformed NAME LINE HINT CARET: the third line of a list that is malformed. The caret stands after some blanks.
 malformed() {
@@ -179,7 +184,7 @@ try 'malformed on standard input' 2 cut -l - b.xml
 # 3
 repeat 16 /a > steps.lst && echo >> steps.lst
 prints '<g></g>'
-try '16 steps' 0 cut -l steps.lst b.xml
+try '16 steps' 0 cut -q -l steps.lst b.xml
 { echo /a && repeat 17 /a && echo; } > steps.lst
 says "steps.lst:2: 3: line too large: \"$(repeat 17 /a)\": over 16 steps" "    $(repeat 17 /a)" "    $(repeat 32 ' ')^"
 try '17 steps' 3 cut -l steps.lst b.xml
@@ -192,7 +197,7 @@ says "name.lst:1: 3: line too large: \"/a/self::$(repeat 31 a)...\": a name over
 try 'a name of 256 bytes behind an axis' 3 cut -l name.lst b.xml
 printf '/a/self::%s\n' "$(repeat 255 a)" > name.lst
 prints '<g></g>'
-try 'a name of 255 bytes behind an axis' 0 cut -l name.lst b.xml
+try 'a name of 255 bytes behind an axis' 0 cut -q -l name.lst b.xml
 printf '/a[@%s="x"]\n' "$(repeat 256 k)" > name.lst
 says "name.lst:1: 3: line too large: \"/a[@$(repeat 36 k)...\": a name over 255 bytes" "    /a[@$(repeat 40 k)..." '        ^'
 try 'an attribute of 256 bytes' 3 cut -l name.lst b.xml
@@ -202,7 +207,7 @@ says "value.lst:1: 3: line too large: \"/a[@k=\"$(repeat 33 é)...\": a value ov
 try 'a value of 256 bytes' 3 cut -l value.lst b.xml
 printf '/a[@k="%s"] #\n' "$(repeat 255 x)" > value.lst
 prints '<g></g>'
-try 'a value of 255 bytes' 0 cut -l value.lst b.xml
+try 'a value of 255 bytes' 0 cut -q -l value.lst b.xml
 repeat 33 '/a
 ' > many.lst
 says 'many.lst:33: 3: line too large: "/a": line 33: a list has at most 32 lines' '    /a' '    ^'
@@ -210,4 +215,17 @@ try 'line 33' 3 cut -l many.lst b.xml
 repeat 32 '/a
 ' > many.lst
 prints '<g></g>'
-try 'line 32' 0 cut -l many.lst b.xml
+try 'line 32' 0 cut -q -l many.lst b.xml
+
+# Blanks that are none are shown and named: on a French keyboard the one before # is easily another.
+printf '//v\302\240#\n' > nbsp.lst
+says 'nbsp.lst:1: 2: malformed line: "//v\u{A0}#": U+00A0 (no-break space) stands there; one space and # mark a line, at its end' \
+    '    //v\u{A0}#' '       ^'
+try 'a no-break space before the mark' 2 cut -l nbsp.lst b.xml
+printf '//v\\ #\n' > back.lst
+says "back.lst:1: 2: malformed line: \"//v\\\\ #\": a step is /, //, /self:: or /descendant-or-self::, then * or a name" \
+    '    //v\\ #' '       ^'
+try 'a backslash' 2 cut -l back.lst b.xml
+nbsp=$(printf 'n\302\240b\\xFF.xml')
+says 'choughbell: n\u{A0}b\\xFF.xml: No such file or directory'
+try 'a name with a no-break space and a backslash' 66 check "$nbsp"

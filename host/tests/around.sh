@@ -1,5 +1,5 @@
 # What is beside the command: the header with the examples in C, the stack of a call, and what `make install` puts where.
-for c in example/cut example/judge tests/stack; do
+for c in example/cut example/judge tests/stack tests/null; do
     ran=$((ran + 1))
     # shellcheck disable=SC2086
     ${CC:-cc} -std=c99 -Wall -Wextra -Werror -I "$root/host/include" -o "c-$(basename $c)" \
@@ -8,9 +8,9 @@ done
 
 # judge NAME STATUS DOCUMENT: a run of the example of a document alone.
 judge() {
-    program_before=$program program=$room/c-judge
+    program_before=$program program=$room/c-judge foreign=yes
     try "C: $1" "$2" "$3"
-    program=$program_before
+    program=$program_before foreign=
 }
 lines sound 'characters: 18 of 18 bytes'
 judge 'a sound document' 0 b.xml
@@ -38,9 +38,9 @@ judge 'no bytes' 7 nothing.xml
 
 # example NAME STATUS WORDS..: a run of the example of a cut.
 example() {
-    program_before=$program program=$room/c-cut
+    program_before=$program program=$room/c-cut foreign=yes
     try "C: $1" "$2" "$3" "$4" ${5+"$5"}
-    program=$program_before
+    program=$program_before foreign=
 }
 prints '<g><p><v></v></p></g>'
 says '1 selected, 3 name tests'
@@ -88,12 +88,50 @@ lines "answer 0: $less" 'answer 0: less than 65536 bytes of stack' 'answer 0: le
 try 'C: the stack of a call' 0 most.lst most.xml
 program=$program_before
 
+# The constants of the header, and null with length 0.
+program_before=$program program=$room/c-null
+lines 0.3.0
+try 'C: constants and null' 0
+program=$program_before
+
 # put WHERE WORDS..: `make install` or `make uninstall`, quietly.
 put() { MAKEFLAGS='' make -s -C "$root" "$@" > "$notes/printed" 2>&1 || fault "make $*" "$(tr '\n' '~' < "$notes/printed")"; }
 ran=$((ran + 2))
 put install DESTDIR="$room/stage" PREFIX=/opt/chough
-for file in bin/choughbell share/man/man1/choughbell.1 include/choughbell.h lib/libchoughbell.a; do
+for file in bin/choughbell share/man/man1/choughbell.1 include/choughbell.h lib/libchoughbell.a lib/pkgconfig/choughbell.pc \
+    share/bash-completion/completions/choughbell share/zsh/site-functions/_choughbell share/fish/vendor_completions.d/choughbell.fish; do
     [ -f "stage/opt/chough/$file" ] || fault 'make install' "no $file"
+done
+ran=$((ran + 1))
+pc=stage/opt/chough/lib/pkgconfig/choughbell.pc
+[ "$(sed -n '/^prefix\|^Version/p' $pc | tr '\n' ' ')" = 'prefix=/opt/chough Version: 0.3.0 ' ] || fault 'pkg-config' "$(cat $pc)"
+if command -v pkg-config > "$notes/found"; then
+    got=$(PKG_CONFIG_PATH=$(dirname $pc) pkg-config --cflags --libs choughbell | sed 's/ *$//')
+    [ "$got" = '-I/opt/chough/include -L/opt/chough/lib -lchoughbell' ] || fault 'pkg-config' "$got"
+fi
+
+# Completion: in bash as a user has it, and in all three shells each command and option that the help names.
+# completes NAME EXPECTED WORDS..: what bash offers for the last word, in order.
+completes() {
+    ran=$((ran + 1)) name=$1 expected=$2
+    shift 2
+    got=$(bash -c '. "$0" && COMP_WORDS=("$@") COMP_CWORD=$(($# - 1)) && before=$(($# - 1)) &&
+        _choughbell choughbell "${!#}" "${!before}" && echo "${COMPREPLY[*]}"' "$root/host/completion/choughbell.bash" "$@")
+    [ "$got" = "$expected" ] || fault "completion: $name" "$got"
+}
+if command -v bash > "$notes/found"; then
+    completes 'a command' 'cut check covers' choughbell c
+    completes 'options of cut' '--path --packed --plain' choughbell cut --p
+    completes 'options of check' '--quiet --json --help --version' choughbell check --
+    completes 'a list' v.lst choughbell cut -l v.ls
+    completes 'a number' '6 64 66' choughbell explain 6
+    completes 'no path' '' choughbell cut -e b.x
+fi
+for shell in choughbell.bash _choughbell choughbell.fish; do
+    ran=$((ran + 1))
+    for word in $(start --help | sed -n -e 's/^  choughbell \([a-z]*\).*/\1/p' -e 's/^  .\{4\}--\([a-z]\{1,\}\).*/\1/p'); do
+        grep -q -- "\b$word\b" "$root/host/completion/$shell" || fault "completion: $shell" "no $word"
+    done
 done
 run_before=$run program_before=$program run='' program=$room/stage/opt/chough/bin/choughbell
 prints '<g><p><v></v></p></g>'

@@ -18,7 +18,8 @@ holds 'a refused document' cuts/three.xml '<v></v>'
 printf '<!DOCTYPE g><g/>' > post/four.xml
 : > post/five.xml
 says 'post/five.xml:1:1: 7: not well-formed: at the end: there is no root (offset 0)' \
-    'post/four.xml:1:1: 6: document type: "<!DOCTYPE g>": take the type out; XML without one is the same to this filter (offset 0)'
+    'post/four.xml:1:1: 6: document type: "<!DOCTYPE g>": take the type out; XML without one is the same to this filter (offset 0)' \
+    'choughbell explain 7 tells more'
 start batch -l v.lst -d none post/five.xml post/four.xml > "$notes/printed" 2> "$notes/said" || got=$?
 ran=$((ran + 1))
 status 'the first refusal is the status' 7 "${got:-0}"
@@ -75,10 +76,10 @@ refuses 'another version' '\002' 'its version byte is 2, not 1 (offset 0)'
 refuses 'a length cut short' '\001\000\000\000\001<\000\000\000' 'a length has 3 of its 4 bytes (offset 6)'
 refuses 'a length past the end' '\001\000\000\000\002<' 'a length says 2, and 1 bytes are left (offset 1)'
 
-wrong 'a batch without a list' 'batch wants a list: -l LIST' batch post/one.xml
+wrong 'a batch without a list' 'batch wants a list: -l LIST, or -e PATH' batch post/one.xml
 wrong 'a folder without documents' 'batch with --folder wants documents' batch -l v.lst -d cuts
 wrong 'two documents of one name' 'two documents have the name one.xml' batch -l v.lst -d cuts post/one.xml one.xml
 wrong 'a folder and an output' "--folder and --output don't go together" batch -l v.lst -d cuts -o x post/one.xml
 wrong 'two batches' 'batch takes one batch, or with -d FOLDER documents' batch -l v.lst a.post b.post
-wrong 'a batch and count' 'batch takes no --count or --json' batch --count -l v.lst
-wrong 'a folder for cut' '--folder is for batch alone' cut -l v.lst -d cuts b.xml
+wrong 'a batch and count' 'batch takes no --count' batch --count -l v.lst
+wrong 'a folder for cut' 'cut takes no --folder' cut -l v.lst -d cuts b.xml

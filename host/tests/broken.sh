@@ -34,6 +34,66 @@ exec 9>&-
 status 'killed' 143 "$got"
 holds 'killed' kept.xml old
 
+# Ended by a signal while the cut is written, which the temporary file shows: it is gone, and the old file stays, here an empty one. A run
+# that had written before the signal came is made again. interrupt NAME: STARTED is what starts the program.
+{ printf '<g>' && yes '<v/>' | head -n 4000000 | tr -d '\n' && printf '</g>'; } > widest.xml
+interrupt() {
+    tries=0 got=0
+    while [ "$got" = 0 ] && [ $tries -lt 30 ]; do
+        tries=$((tries + 1))
+        : > kept.xml
+        # shellcheck disable=SC2086
+        $started $run "$program" cut -l v.lst widest.xml -o kept.xml & killed=$!
+        until [ -e .choughbell-$killed-0 ] || [ -s kept.xml ]; do :; done
+        kill -"$1" $killed
+        wait $killed 2> /dev/null || got=$?
+        [ ! -s kept.xml ] || got=0
+        [ -z "${once-}" ] || break
+    done
+}
+for signal in HUP:129 INT:130 TERM:143; do
+    ran=$((ran + 1)) started='env --default-signal=INT'
+    interrupt ${signal%:*}
+    status "ended by ${signal%:*}" "${signal#*:}" "$got"
+    holds "ended by ${signal%:*}" kept.xml ''
+done
+# One that is ignored stays ignored.
+ran=$((ran + 1)) started='env --ignore-signal=HUP' once=yes
+interrupt HUP
+once=
+status 'a signal that is ignored' 0 "$got"
+[ "$(wc -c < kept.xml)" = 28000007 ] || fault 'a signal that is ignored' 'no cut'
+rm -f widest.xml
+printf old > kept.xml
+
+# Standard streams that are closed. An emulator has files of its own under their numbers.
+if [ -z "$run" ]; then
+    # closed NAME STATUS MESSAGE: the run that is just done.
+    closed() {
+        ran=$((ran + 1))
+        status "$1" "$2" "$got"
+        [ "$(cat "$notes/said")" = "choughbell: $3: Bad file descriptor" ] || fault "$1" "$(cat "$notes/said")"
+        got=0
+    }
+    got=0
+    start cut -l v.lst b.xml >&- 2> "$notes/said" || got=$?
+    closed 'a closed standard output' 74 'standard output'
+    start --version >&- 2> "$notes/said" || got=$?
+    closed 'a closed standard output, version' 74 'standard output'
+    start check <&- 2> "$notes/said" || got=$?
+    closed 'a closed standard input' 66 'standard input'
+    start cut -l v.lst b.xml -o /dev/fd/0 <&- 2> "$notes/said" || got=$?
+    closed 'a closed standard input as output' 74 /dev/fd/0
+    ran=$((ran + 3))
+    start cut -l v.lst b.xml --json > "$notes/printed" 2>&- || got=$?
+    status 'a closed standard error, json' 74 "$got"
+    printf '<g><n>Aar' > aar.xml
+    got=0 && start mend aar.xml > "$notes/printed" 2>&- || got=$?
+    status 'a closed standard error, mend' 74 "$got"
+    got=0 && start cut -l v.lst b.xml > "$notes/printed" 2>&- || got=$?
+    status 'a closed standard error that is not used' 0 "$got"
+fi
+
 # Stopped by the system while it writes: a file may have 4,096 bytes. The first run may go on and clean up; the second is killed.
 ran=$((ran + 2)) got=0
 (trap '' XFSZ && ulimit -f 8 && start cut -l v.lst wide.xml -o kept.xml) 2> "$notes/said" || got=$?

@@ -75,21 +75,21 @@ says "bad.lst:2: 2: malformed line: \"v w\": $front" '    v w' '    ^'
 try 'covers: a narrow line' 2 covers --narrow bad.lst --wide long.lst
 says "bad.lst:2: 2: malformed line: \"v w\": $front" '    v w' '    ^'
 try 'covers: a wide line' 2 covers --narrow none.lst --wide bad.lst
-says 'long.lst: 1: list over 8,192 bytes'
+says 'long.lst: 1: list over 8,192 bytes: it has 8,193'
 try 'covers: a wide list too long' 1 covers --narrow v.lst --wide long.lst
 hint="\"there\":\"v w\",\"hint\":\"$front\""
-lines "{\"number\":2,\"second\":2,\"third\":1,\"meaning\":\"malformed line\",\"file\":\"bad.lst\",\"line\":2,$hint}"
+lines "{\"number\":2,\"second\":2,\"third\":1,\"meaning\":\"malformed line\",\"file\":\"bad.lst\",\"line\":2,\"column\":1,$hint}"
 try 'covers: json of a narrow line' 2 covers --narrow bad.lst --wide bad.lst --json
-lines "{\"number\":2,\"second\":2,\"third\":2,\"meaning\":\"malformed line\",\"file\":\"bad.lst\",\"line\":2,$hint}"
+lines "{\"number\":2,\"second\":2,\"third\":2,\"meaning\":\"malformed line\",\"file\":\"bad.lst\",\"line\":2,\"column\":1,$hint}"
 try 'covers: json of a wide line' 2 covers --narrow v.lst --wide bad.lst --json
 says 'choughbell: absent.lst: No such file or directory'
 try 'covers: no list' 66 covers --narrow absent.lst --wide v.lst
 
 usage 'covers wants two lists: --narrow LIST --wide LIST'
 try 'covers: one list' 64 covers --narrow v.lst
-usage 'covers takes no --list, --output, --packed or --count'
+usage 'covers takes no --list'
 try 'covers: a list of another command' 64 covers --narrow v.lst --wide v.lst -l v.lst
 usage "the two lists can't both come from the standard input"
 try 'covers: two times standard input' 64 covers --narrow - --wide /dev/stdin
-usage 'cut takes no --narrow or --wide'
+usage 'cut takes no --narrow'
 try 'covers: options of its own' 64 cut -l v.lst --narrow v.lst b.xml

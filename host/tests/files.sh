@@ -56,6 +56,37 @@ try 'a pipe' 0 cut -l v.lst b.xml -o pipe
 wait $reader
 holds 'a pipe' piped "$cut_b"
 
+# Names of open files are the open files: what stands in the file behind them stays, and what follows comes behind the cut.
+for name in /dev/fd/3 /proc/self/fd/3; do
+    ran=$((ran + 1)) got=0
+    { echo before >&3 && start cut -l v.lst b.xml -o $name && echo ' after' >&3; } 3> streamed 2> "$notes/said" || got=$?
+    status "$name" 0 "$got"
+    holds "$name" streamed "before
+$cut_b after
+"
+done
+for name in /dev/stderr /dev/fd/2 /proc/self/fd/2; do
+    ran=$((ran + 1)) got=0
+    { echo before >&2 && start cut -l v.lst b.xml -o $name && echo ' after' >&2; } 2> streamed || got=$?
+    status "$name" 0 "$got"
+    holds "$name" streamed "before
+$cut_b after
+"
+done
+for name in /dev/stdout /dev/fd/1 /proc/self/fd/1; do
+    ran=$((ran + 1)) got=0
+    { echo before && start cut -l v.lst b.xml -o $name && echo ' after'; } > streamed || got=$?
+    status "$name" 0 "$got"
+    holds "$name" streamed "before
+$cut_b after
+"
+done
+says 'choughbell: /dev/fd/9: Bad file descriptor'
+try 'a file that is not open' 74 cut -l v.lst b.xml -o /dev/fd/9
+input=b.xml
+prints "$cut_b"
+try 'document as /dev/fd/0' 0 cut -l v.lst /dev/fd/0
+
 says 'choughbell: below: Is a directory'
 try 'a directory as output' 73 cut -l v.lst b.xml -o below
 says 'choughbell: below/none/x.xml: no temporary file beside it: No such file or directory'

@@ -52,7 +52,7 @@ holds 'mend: a text of 16 MiB' whole.xml '<g></g>'
 says 'full.xml: kept 16777215 of 16777216 bytes, lost 1 from line 1 on, added 1 end tag'
 try 'mend: a result over the size' 0 mend full.xml -o whole.xml
 [ "$(wc -c < whole.xml)" = 16777219 ] || fault 'mend: a result over the size' 'another length'
-says 'whole.xml: 4: document over 16,777,216 bytes'
+says 'whole.xml: 4: document over 16,777,216 bytes: it has 16,777,219'
 try 'mend: a result over the size is refused' 4 mend whole.xml
 says '/dev/zero: 4: document over 16,777,216 bytes'
 try 'mend: a document without end' 4 mend /dev/zero
@@ -84,9 +84,9 @@ try 'mend: refused, quiet' 12 mend --quiet none.lst
 # --json: on the standard error where the document goes to the standard output.
 printf '<g><n>Aar' > half.xml
 prints '<g><n></n></g>'
-says '{"number":0,"second":14,"kept":6,"added":2,"meaning":"mended"}'
+says '{"number":0,"second":14,"kept":6,"added":2,"meaning":"mended","length":14}'
 try 'mend: json' 0 mend --json half.xml
-lines '{"number":0,"second":14,"kept":6,"added":2,"meaning":"mended"}'
+lines '{"number":0,"second":14,"kept":6,"added":2,"meaning":"mended","length":14}'
 try 'mend: json, to a file' 0 mend --json half.xml -o whole.xml
 holds 'mend: json, to a file' whole.xml '<g><n></n></g>'
 printf '<g' > half.xml
@@ -95,7 +95,7 @@ says '{"number":12,"second":0,"kept":0,"added":0,"meaning":"no root tag kept",'"
 ',"hint":"no start tag before it is whole, so nothing can be kept"}'
 try 'mend: json, refused' 12 mend --json half.xml
 
-usage 'mend takes no --list, --packed or --count'
+usage 'mend takes no --list'
 try 'mend: a list' 64 mend -l v.lst half.xml
 usage 'mend takes one document, and b.xml is a second'
 try 'mend: two documents' 64 mend half.xml b.xml

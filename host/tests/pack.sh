@@ -1,4 +1,4 @@
-# The packed list: `pack`, `unpack` and `cut --packed`. The bytes are worked out by hand from document 02, Q-7.
+# The packed list: `pack`, `unpack`, and --packed of the commands that take a list. The bytes are worked out by hand from document 02, Q-7.
 # bytes FILE NUMBERS..: a file of these bytes, in octal.
 bytes() {
     to=$1 && shift
@@ -23,7 +23,7 @@ bytes one.bin 1
 try 'pack an empty list' 0 pack /dev/null -o made
 gives 'pack an empty list' one.bin
 try 'unpack an empty list' 0 unpack one.bin
-says '{"number":0,"second":1,"third":0,"name_tests":0,"meaning":"written"}'
+says '{"number":0,"second":1,"third":0,"name_tests":0,"meaning":"written","length":1}'
 printf '\001' > "$notes/prints"
 try 'numbers of a packed list' 0 pack --json /dev/null
 
@@ -34,6 +34,17 @@ try 'a cut by a packed list' 0 cut --packed -l v.bin b.xml
 prints '<g></g>'
 try 'a cut by the empty packed list' 0 cut --packed -l one.bin b.xml
 try 'a packed list as text' 2 cut -q -l v.bin b.xml
+
+# So are a batch by one, and the covering of two.
+printf '\001\000\000\000\004<v/>' > v.post
+printf '\001\000\000\000\007<v></v>' > "$notes/prints"
+try 'a batch by a packed list' 0 batch --packed -l v.bin v.post
+try 'documents by a packed list' 0 batch --packed -l v.bin -d packed-cuts b.xml
+holds 'documents by a packed list' packed-cuts/b.xml '<g><p><v></v></p></g>'
+lines yes
+try 'packed lists that cover' 0 covers --packed --narrow v.bin --wide pack.bin
+lines 'pack.bin:1: no path of v.bin covers "//v #"' "pack.bin:2: no path of v.bin covers \"/a/self::*[@k=\"xy\"]\""
+try 'packed lists that do not' 20 covers --packed --narrow pack.bin --wide v.bin
 
 # 13, with nothing written; and 1 to 3 of a text.
 # bad NAME NUMBERS..
@@ -63,6 +74,15 @@ bad 'a byte behind' 1 0 6 0 1 1 1 166 0 0
 bad 'cut short' 1 0 6 0 1 1 1 166
 says 'bad.bin: 13: not the packed form of a list'
 try 'a cut by no packed list' 13 cut --packed -l bad.bin b.xml
+says 'bad.bin: 13: not the packed form of a list'
+try 'a batch by no packed list' 13 batch --packed -l bad.bin -d unpacked b.xml
+[ ! -e unpacked ] || fault 'a batch by no packed list' 'a folder is made'
+says 'bad.bin: 13: not the packed form of a list'
+try 'covers: a narrow list that is not packed' 13 covers --packed --narrow bad.bin --wide v.lst
+lines '{"number":13,"second":0,"third":2,"meaning":"not the packed form of a list","file":"v.lst"}'
+try 'covers: a wide list that is not packed' 13 covers --packed --narrow v.bin --wide v.lst --json
+says 'choughbell: absent.xml: No such file or directory'
+try 'a file that is not there before a list' 66 cut --packed -l bad.bin absent.xml
 says '{"number":13,"second":0,"third":0,"name_tests":0,"meaning":"not the packed form of a list","file":"bad.bin"}'
 try 'numbers of no packed list' 13 unpack --json bad.bin
 try 'no packed list, quiet' 13 unpack -q bad.bin

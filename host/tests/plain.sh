@@ -5,7 +5,7 @@ plain() {
     printf '%s' "$2" > plain.lst
     printf '%s' "$3" > plain.xml
     prints "$4"
-    try "plain: $1" 0 cut --plain -l plain.lst plain.xml
+    try "plain: $1" 0 cut -q --plain -l plain.lst plain.xml
 }
 lf='
 '
@@ -29,9 +29,9 @@ lines 'kept 8 289'
 try 'plain: the sample by the atlas' 0 cut --plain --count -l "$root/examples/atlas.lst" "$root/examples/gazetteer.xml"
 lines 'kept 6 424'
 try 'plain: the sample by the desk' 0 cut --plain --count -l "$root/examples/desk.lst" "$root/examples/gazetteer.xml"
-lines '{"number":0,"second":21,"third":1,"meaning":"written"}'
+lines '{"number":0,"second":21,"third":1,"meaning":"written","length":21,"selected":1}'
 try 'plain: json' 0 cut --plain --count --json -l v.lst b.xml
-lines '{"number":1,"second":0,"third":0,"meaning":"list over 8,192 bytes","file":"long.lst"}'
+lines '{"number":1,"second":0,"third":0,"meaning":"list over 8,192 bytes","file":"long.lst","hint":"it has 8,193"}'
 try 'plain: json, refused' 1 cut --plain --count --json -l long.lst b.xml
 try 'plain: to a file' 0 cut --plain -l v.lst b.xml -o plain.out
 holds 'plain: to a file' plain.out '<g><p><v></v></p></g>'
@@ -45,8 +45,8 @@ printf '//g\n' > levels.lst
 try 'plain: 64 levels' 0 cut --plain --count -l levels.lst levels.xml
 repeat 65 '<g>' > levels.xml
 try 'plain: 65 levels, quiet' 8 cut --plain --quiet -l levels.lst levels.xml
-wrong 'plain and check' '--plain goes with cut alone' check --plain b.xml
-wrong 'plain and explain' '--plain goes with cut alone' explain --plain 7
+wrong 'plain and check' 'check takes no --plain' check --plain b.xml
+wrong 'plain and explain' 'explain takes no --plain' explain --plain 7
 wrong 'a value for plain' '--plain takes no value' cut --plain=yes -l v.lst b.xml
 
 # The document that docs/TEACH.md walks through, and the same with another end tag.

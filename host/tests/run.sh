@@ -16,13 +16,18 @@ chmod 755 "$room"
 cd "$room"
 umask 022
 
-ran=0 wrong=0
+ran=0 wrong=0 foreign=
 
 # Before a run: what it reads, prints and says. Nothing, unless these are called; `prints` takes a text, `lines` and `says` whole lines.
 fresh() { input=/dev/null user= && : > "$notes/prints" && : > "$notes/says"; }
 prints() { printf %s "$1" > "$notes/prints"; }
 lines() { printf '%s\n' "$@" > "$notes/prints"; }
 says() { printf '%s\n' "$@" > "$notes/says"; }
+# Under 1 to 13 what is said ends in a line that leads on, unless it is JSON or the program is not the command.
+leads() {
+    case $1 in [1-9] | 1[0-3]) ;; *) return 0 ;; esac
+    [ -n "$foreign" ] || [ ! -s "$notes/says" ] || grep -q '^{' "$notes/says" || echo "choughbell explain $1 tells more" >> "$notes/says"
+}
 usage() { says "choughbell: $1" 'choughbell --help tells more'; }
 
 # shellcheck disable=SC2086
@@ -42,6 +47,7 @@ try() {
     name=$1 expected=$2 got=0
     shift 2
     ran=$((ran + 1))
+    leads "$expected"
     start "$@" < "$input" > "$notes/printed" 2> "$notes/said" || got=$?
     status "$name" "$expected" "$got"
     same "$name" "$notes/prints" "$notes/printed"
@@ -61,7 +67,7 @@ holds() {
 repeat() { awk -v n="$1" -v t="$2" 'BEGIN { for (i = 0; i < n; i++) printf "%s", t }'; }
 
 fresh
-for part in answers documents sizes pack files mend broken words scripts plain batch covers around; do
+for part in answers documents sizes pack files mend each broken words explained scripts plain batch covers around; do
     . "$here/$part.sh"
 done
 echo "choughbell: $ran runs, $wrong wrong"

@@ -12,13 +12,13 @@ input=big.xml
 try '16,777,216 bytes on standard input' 0 cut -l whole.lst --count
 
 filled 16777217 > big.xml
-says 'big.xml: 4: document over 16,777,216 bytes'
+says 'big.xml: 4: document over 16,777,216 bytes: it has 16,777,217'
 try '16,777,217 bytes' 4 check big.xml
-says 'big.xml: 4: document over 16,777,216 bytes'
+says 'big.xml: 4: document over 16,777,216 bytes: it has 16,777,217'
 try '16,777,217 bytes, cut' 4 cut -l whole.lst big.xml -o cut.xml
 [ "$(wc -c < cut.xml)" = 16777216 ] || fault '16,777,217 bytes, cut' 'the old file is changed'
 input=big.xml
-says 'standard input: 4: document over 16,777,216 bytes'
+says 'standard input: 4: document over 16,777,216 bytes: it has 16,777,217'
 try '16,777,217 bytes on standard input' 4 check
 says '/dev/zero: 4: document over 16,777,216 bytes'
 try 'a document without end' 4 check /dev/zero
@@ -27,7 +27,7 @@ try 'a document without end' 4 check /dev/zero
 { printf '<?xml version="1.0" encoding="x"?>' && head -c 16777182 /dev/zero; } > big.xml
 try '16,777,216 bytes, another encoding' 10 check --quiet big.xml
 printf x >> big.xml
-says 'big.xml: 4: document over 16,777,216 bytes'
+says 'big.xml: 4: document over 16,777,216 bytes: it has 16,777,217'
 try '16,777,217 bytes, another encoding' 4 check big.xml
 rm -f big.xml cut.xml
 
