@@ -17,6 +17,7 @@
 # make suite        all 399 files of the W3C's suite that have no document type, which it fetches, by both
 # make wrong        the gate's wrong programs, of which each should answer some packed case otherwise
 # make peers        whether documents are well-formed, beside two XML processors from Debian
+# make tables       rows for a spreadsheet, read back by Python's csv, and their texts beside expat's
 # make speed        how fast the library is beside ordinary Rust and other parsers; WHAT=characters, matcher or cut names one part of it
 # make post         how long 1,000 small documents take in one batch, beside single calls and one document
 # make count        how many instructions it executes for each byte, beside them

@@ -2,7 +2,7 @@
 
 RUST = docs/src
 
-.PHONY: expected cases peers wrong packs big fuzz suite x86-packs x86-limits x86-trials speed post count parsers
+.PHONY: expected cases peers tables wrong packs big fuzz suite x86-packs x86-limits x86-trials speed post count parsers
 
 # The outputs that programs are held to are those of ordinary Rust, which shares nothing with the Rattle source. They are made again, the
 # packed cases too, and compared, as are the sums of the answers of the other calls; the suite's verdicts are held against the second
@@ -49,6 +49,12 @@ peers: $(MADE)/peers
 	@{ command -v rxp && command -v xmllint; } > $(MADE)/found || $(call fetch,rxp libxml2-utils) || { \
 	    echo 'missing: an XML processor to compare with. Install the Debian packages rxp and libxml2-utils.'; exit 1; }
 	$(MADE)/peers $(VECTORS)/data
+
+# Tables read back by Python's csv, their texts held against expat.
+tables: $(MADE)/vectors
+	rm -rf $(MADE)/tables
+	$(MADE)/vectors tables $(MADE)/tables
+	python3 $(RUST)/peers/tables.py $(MADE)/tables
 
 # The gate's wrong programs on the packed cases, by the source read as Rust, with index checks.
 wrong: $(MADE)/libvectors.rlib

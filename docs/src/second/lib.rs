@@ -3,7 +3,8 @@
 //! characters in `chars`, the productions in `declaration`, `markup`, `reference` and `tag` over `reader`, the items in
 //! `items`, their faults in `faults`, the tree in `tree` and `document`, the choice of places in `select`, the name tests in
 //! `tried`, what an attribute's value means in `value`, the bytes in `write`, what the program prints in `program`.
-//! The other calls of document 02 are in files of their own: Q-2 in `batch`, Q-7 in `packed`, Q-12 in `covers`, Q-11 in `mend`.
+//! The other calls of document 02 are in files of their own: Q-2 in `batch`, Q-7 in `packed`, Q-12 in `covers`, Q-11 in `mend`,
+//! Q-8 in `rows`.
 
 mod batch;
 mod chars;
@@ -20,6 +21,7 @@ mod packed;
 pub mod program;
 mod reader;
 mod reference;
+mod rows;
 mod select;
 mod tag;
 #[cfg(test)]
@@ -34,6 +36,7 @@ pub use batch::batch;
 pub use covers::covers;
 pub use mend::mend;
 pub use packed::{pack, unpack};
+pub use rows::rows;
 
 /// Document 01's answer: the number, the second number and the third; and as the fourth, how many name tests were tried, which
 /// Q-13 of document 02 adds.

@@ -25,7 +25,7 @@ pub fn count(element: &Element) -> u64 {
 }
 
 /// How the paths select the element whose names from the root down are `names`. A marked path wins over a plain one.
-fn selection(names: &[&str], attributes: &[Attribute], paths: &[Path]) -> Selection {
+pub fn selection(names: &[&str], attributes: &[Attribute], paths: &[Path]) -> Selection {
     if paths.iter().any(|path| path.is_marked && selects(path, names, attributes)) {
         Selection::Marked
     } else if paths.iter().any(|path| selects(path, names, attributes)) {

@@ -24,6 +24,7 @@ mod passing;
 mod program;
 mod readings;
 mod references;
+mod rows;
 mod same_place;
 mod selection;
 mod tags;

@@ -9,6 +9,7 @@ use crate::crc::crc32;
 use crate::made::{Case, Random};
 use crate::mend::MEND;
 use crate::packed::{PACK, UNPACK};
+use crate::rows::ROWS;
 
 /// A call, and all that it is tried on.
 pub struct Call {
@@ -25,7 +26,7 @@ pub struct Call {
 }
 
 /// Every call that has cases.
-pub const CALLS: &[&Call] = &[&BATCH, &PACK, &UNPACK, &COVERS, &MEND];
+pub const CALLS: &[&Call] = &[&BATCH, &PACK, &UNPACK, &COVERS, &MEND, &ROWS];
 
 /// A case, and by hand: its numbers, and the bytes written under 0.
 #[derive(Clone)]

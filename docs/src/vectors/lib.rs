@@ -11,4 +11,5 @@ pub mod made;
 pub mod mend;
 pub mod pack;
 pub mod packed;
+pub mod rows;
 pub mod suite;

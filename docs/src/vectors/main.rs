@@ -12,13 +12,15 @@ use vectors::asked::{ask, line, second};
 use vectors::calls::CALLS;
 use vectors::made::{self, Case, Random};
 use vectors::pack::{self, read, PACKS};
+use vectors::rows;
 use vectors::suite;
 
 /// The seed of the pack `made`, and how many cases it has at least. The last batch is not broken off.
 const SEED: u64 = 19_980_210;
 const MADE: usize = 24_000;
 
-const COMMANDS: &str = "pack FOLDER | answers FOLDER | calls [FOLDER] | verdicts [--folder DIR] | counts FOLDER | show FOLDER PACK N";
+const COMMANDS: &str =
+    "pack FOLDER | answers FOLDER | calls [FOLDER] | tables FOLDER | verdicts [--folder DIR] | counts FOLDER | show FOLDER PACK N";
 
 fn main() -> ExitCode {
     let words: Vec<String> = std::env::args().skip(1).collect();
@@ -28,6 +30,7 @@ fn main() -> ExitCode {
         ["answers", folder] => answers(folder),
         ["calls"] => calls(),
         ["calls", folder] => write_calls(folder),
+        ["tables", folder] => write_tables(folder),
         ["verdicts"] => suite::verdicts(suite::FILES, second),
         ["verdicts", "--folder", folder] => suite::verdicts(folder, second),
         ["counts", folder] => counts(folder),
@@ -96,6 +99,16 @@ fn write_calls(folder: &str) -> Result<bool, String> {
         let answers: String = cases.iter().map(|case| call.line(case) + "\n").collect();
         save(folder, call.name, &pack::write(&cases))?;
         save(folder, &format!("{}.answers", call.name), answers.as_bytes())?;
+    }
+    Ok(true)
+}
+
+/// Writes documents and their tables by the second program, for others to read.
+fn write_tables(folder: &str) -> Result<bool, String> {
+    fs::create_dir_all(folder).map_err(|e| format!("{folder}: {e}"))?;
+    for (n, (doc, table)) in rows::tables().iter().enumerate() {
+        save(folder, &format!("{n}.xml"), doc)?;
+        save(folder, &format!("{n}.csv"), table)?;
     }
     Ok(true)
 }
