@@ -4,7 +4,7 @@
 //! `items`, their faults in `faults`, the tree in `tree` and `document`, the choice of places in `select`, the name tests in
 //! `tried`, what an attribute's value means in `value`, the bytes in `write`, what the program prints in `program`.
 //! The other calls of document 02 are in files of their own: Q-2 in `batch`, Q-7 in `packed`, Q-12 in `covers`, Q-11 in `mend`,
-//! Q-8 in `rows`.
+//! Q-8 in `rows`, Q-14 in `four`.
 
 mod batch;
 mod chars;
@@ -12,6 +12,7 @@ mod covers;
 mod declaration;
 mod document;
 mod faults;
+mod four;
 mod items;
 mod limits;
 mod list;
@@ -34,6 +35,7 @@ mod write;
 
 pub use batch::batch;
 pub use covers::covers;
+pub use four::four;
 pub use mend::mend;
 pub use packed::{pack, unpack};
 pub use rows::rows;

@@ -11,6 +11,7 @@ mod covers;
 mod declaration;
 mod encoding;
 mod examples;
+mod four;
 mod limits;
 mod list_sizes;
 mod lists;

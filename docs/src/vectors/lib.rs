@@ -7,6 +7,7 @@ pub mod batch;
 pub mod calls;
 pub mod covers;
 pub mod crc;
+pub mod four;
 pub mod made;
 pub mod mend;
 pub mod pack;

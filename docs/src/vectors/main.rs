@@ -10,6 +10,7 @@ use std::fs;
 use std::process::ExitCode;
 use vectors::asked::{ask, line, second};
 use vectors::calls::CALLS;
+use vectors::four;
 use vectors::made::{self, Case, Random};
 use vectors::pack::{self, read, PACKS};
 use vectors::rows;
@@ -88,6 +89,8 @@ fn calls() -> Result<bool, String> {
         is_right &= call.agrees();
         println!("{}\n{}", call.summary("by hand", &call.by_hand()), call.summary("by the generator", &call.generated()));
     }
+    is_right &= four::agrees();
+    println!("{}\n{}", four::summary("by hand", &four::by_hand()), four::summary("by the generator", &four::generated()));
     Ok(is_right)
 }
 
