@@ -1,6 +1,6 @@
 // What callers in Rust and C can call: numbers pass as themselves, a slice as a pointer and then a length. An answer that is an enum in the
-// library is a number here, or three: document 01's "Numbers handed back", 10 for another encoding and 11 for a batch. A cut has a fourth,
-// document 02's number of name tests.
+// library is a number here, or three: document 01's "Numbers handed back", and 10 for another encoding. A cut has a fourth, document 02's
+// number of name tests. Here the cut, the judgement of a document and its characters; the other calls have modules of their own.
 ghost use mathlib.Core.Path.{_≡_};
 ghost use lib.ListN.{length};
 ghost use Rattle.document.specs.Judge.{whyNumber, judgeOf};
