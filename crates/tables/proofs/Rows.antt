@@ -26,7 +26,8 @@ use Rattle.rows.specs.Text.{textIn}
 use Rattle.rows.specs.Table.{recordBy, records}
 use Rattle.tables.specs.Said.{TextSays}
 use Rattle.tables.specs.Said as told
-use Rattle.tables.specs.Table.{Special, comma, quote, cr, lf, Doubled, twice, once, FieldSays, plain, quoted, joined, RecordSays, RowsSay}
+use Rattle.tables.specs.Table.{Special, comma, quote, cr, lf, Doubled, twice, once, FieldSays, plain, quoted, joined, RecordSays}
+use Rattle.tables.specs.Table.{RowsSay}
 use Rattle.tables.specs.Table as row
 use Rattle.tables.proofs.Said.{content-says, text-only}
 

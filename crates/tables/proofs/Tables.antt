@@ -37,7 +37,8 @@ table-by list d {ps} {f} p q r =
     ap (λ (x : List ℕ). bytes "path,text\r\n" ++ x) (rw (← p, ← q) (rows-only ps [] f refl r))
 
 -- a list and a document that are accepted have a table, and it is the one that is computed
-pub table-says : (list d : List ℕ) → listAnswer list ≡ lists.Sound → judgeOf d ≡ judged.Sound → Tables list d (tableOf list d) (countOf list d)
+pub table-says : (list d : List ℕ) → listAnswer list ≡ lists.Sound → judgeOf d ≡ judged.Sound
+    → Tables list d (tableOf list d) (countOf list d)
 table-says list d p q =
     let c = cut-cuts list d p q in
     let (w, r) = document-rows (c .paths) (c .accepted .derived) in
