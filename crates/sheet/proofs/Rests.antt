@@ -36,20 +36,20 @@ use Rattle.sheet.proofs.Counts.{selectedOver}
 -- ---- tokens from a place on
 
 -- an item ends behind its place and inside the document, or its tokens are the last
-tokens-by : {d : List ℕ} {at : ℕ} {us ts : ℕ → List Token} → ((e : ℕ) → at < e → e ≤ length d → us e ≡ ts e) → (i : Item) → Inside d at i
+tokens-by : (d : List ℕ) (at : ℕ) (us ts : ℕ → List Token) → ((e : ℕ) → at < e → e ≤ length d → us e ≡ ts e) → (i : Item) → Inside d at i
     → itemTokens d at i (us (endOf at i)) ≡ itemTokens d at i (ts (endOf at i))
-tokens-by {d} {at} f (Declaration e) h = ap (itemTokens d at (Declaration e)) (f e (h .0) (h .1))
-tokens-by {d} {at} f (Instruction e) h = ap (itemTokens d at (Instruction e)) (f e (h .0) (h .1))
-tokens-by {d} {at} f (Comment e) h = ap (itemTokens d at (Comment e)) (f e (h .0) (h .1))
-tokens-by {d} {at} f (Section e) h = ap (itemTokens d at (Section e)) (f e (h .0) (h .1))
-tokens-by {d} {at} f (Reference n e) h = ap (itemTokens d at (Reference n e)) (f e (h .0) (h .1))
-tokens-by {d} {at} f (Text e) h = ap (itemTokens d at (Text e)) (f e (h .0) (h .1))
-tokens-by {d} {at} f (Start n k e m t) h = ap (itemTokens d at (Start n k e m t)) (f e (omega (arith, h .0, h .1)) (h .2))
-tokens-by {d} {at} f (Finish n e) h = ap (itemTokens d at (Finish n e)) (f e (omega (arith, h .0)) (h .1))
-tokens-by f Doctype h = refl
-tokens-by f Malformed h = refl
-tokens-by f TooLarge h = refl
-tokens-by f Nothing h = refl
+tokens-by d at us ts f (Declaration e) h = ap (itemTokens d at (Declaration e)) (f e (h .0) (h .1))
+tokens-by d at us ts f (Instruction e) h = ap (itemTokens d at (Instruction e)) (f e (h .0) (h .1))
+tokens-by d at us ts f (Comment e) h = ap (itemTokens d at (Comment e)) (f e (h .0) (h .1))
+tokens-by d at us ts f (Section e) h = ap (itemTokens d at (Section e)) (f e (h .0) (h .1))
+tokens-by d at us ts f (Reference n e) h = ap (itemTokens d at (Reference n e)) (f e (h .0) (h .1))
+tokens-by d at us ts f (Text e) h = ap (itemTokens d at (Text e)) (f e (h .0) (h .1))
+tokens-by d at us ts f (Start n k e m t) h = ap (itemTokens d at (Start n k e m t)) (f e (omega (arith, h .0, h .1)) (h .2))
+tokens-by d at us ts f (Finish n e) h = ap (itemTokens d at (Finish n e)) (f e (omega (arith, h .0)) (h .1))
+tokens-by d at us ts f Doctype h = refl
+tokens-by d at us ts f Malformed h = refl
+tokens-by d at us ts f TooLarge h = refl
+tokens-by d at us ts f Nothing h = refl
 
 tokens-enough : (k j : ℕ) (d : List ℕ) (at : ℕ) (first : Bool) → length d - at < k → length d - at < j
     → tokensFrom k d at first ≡ tokensFrom j d at first
@@ -57,7 +57,7 @@ unfolding tokensFrom
 tokens-enough zero j d at first h l = absurd (omega arith)
 tokens-enough (suc k) zero d at first h l = absurd (omega arith)
 tokens-enough (suc k) (suc j) d at first h l =
-    tokens-by {us = λ (e : ℕ). tokensFrom k d e false} {ts = λ (e : ℕ). tokensFrom j d e false}
+    tokens-by d at (λ (e : ℕ). tokensFrom k d e false) (λ (e : ℕ). tokensFrom j d e false)
     (λ e a b. tokens-enough k j d e false (omega arith) (omega arith))
     (itemAt first d at) (item-inside first d at)
 
@@ -105,10 +105,10 @@ module _ {v : Judge} {d : List ℕ} {at : ℕ} {first : Bool} {up : List Name} {
   counted-turn = ap (λ (ts : List Token). n + selectedOver v ts up) (sym tokens-are) ∙ r .counted
 
   -- one item on, where its tokens have the records x and k elements selected
-  rest-on : {up′ : List Name} {x : List ℕ} {k : ℕ} → recordsOver v (itemTokens d at i behind) up ≡ x ++ recordsOver v behind up′
+  rest-on : (up′ : List Name) (x : List ℕ) (k : ℕ) → recordsOver v (itemTokens d at i behind) up ≡ x ++ recordsOver v behind up′
       → selectedOver v (itemTokens d at i behind) up ≡ k + selectedOver v behind up′ → at < endOf at i → endOf at i ≤ length d
       → Rest v d (endOf at i) false up′ (w ++ x) (n + k)
-  rest-on {up′} {x} p q l h =
+  rest-on up′ x k p q l h =
       record {
         fuel = left .0;
         enough = omega (arith, r .enough, left .1);
@@ -153,7 +153,8 @@ pub rest-tag : {v : Judge} {d : List ℕ} {at : ℕ} {first : Bool} {up : List N
 rest-tag {v} {d} {at} {up = up} r {n} {h} {e} {m} {t} q l g =
     let j = left r q in
     let room : length d - e < j .0 = omega (arith, r .enough, j .1) in
-    rest-on r q
+    rest-on r q (opens m (nameFrom d (at + 1) n) up)
+    (recordBy (on v (tagOf d at n h e) up) (nameFrom d (at + 1) n ∷ up) (elementText m d e)) (one (on v (tagOf d at n h e) up))
     (tag-records v d at n h e m t up (behind r q) (text-behind (j .0) d e room))
     (tag-selected v d at n h e m t up (behind r q)) l g
 
@@ -189,4 +190,4 @@ rest-other {v} {d} {at} s {w} {k} r {i} q z o l g =
     let x = other-records v d at s i z o (behind r q) in
     let plain : w ++ [] ≡ w = append-nil w in
     let none : k + 0 ≡ k = omega arith in
-    rw (plain, none) at (rest-on r q {x = []} {k = 0} (x .0) (x .1 ∙ sym (zero-add _)) l g)
+    rw (plain, none) at (rest-on r q (afterItem d at i s .names) [] 0 (x .0) (x .1 ∙ sym (zero-add (selectedOver v (behind r q) (afterItem d at i s .names)))) l g)

@@ -46,7 +46,7 @@ by-deeper P true l a c = a
 by-deeper P false l a c = c
 
 -- a tag at a place, whose name has n bytes and whose head ends at b and the tag at f; its parent's state, and the fit of its name
-module _ {list d starts lens : List ℕ} {states : List MatchState} {level : ℕ} (sound : listAnswer list ≡ Sound)
+module _ (list : List ℕ) (sound : listAnswer list ≡ Sound) {d starts lens : List ℕ} {states : List MatchState} {level : ℕ}
     (v : Held (listPaths list) states d starts lens level) (l : level < 64) {parent : MatchState} (ep : parent ≡ getD states level none)
     (at n b f : ℕ) {fit : Fit} (ef : fit ≡ fitFor (listPaths list) (nameFrom d (at + 1) n)) where
   abbrev ps : List Path

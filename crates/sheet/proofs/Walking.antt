@@ -61,13 +61,13 @@ use Rattle.rows.specs.Field.{header}
 use Rattle.rows.specs.Table.{recordBy, tableOf}
 use Rattle.rows.specs.Tokens.{recordsOver}
 use Rattle.rows.specs.Laid.{PlainNames, elementText}
+use Rattle.rows.proofs.Plain.{plain-names}
 use Rattle.rows.proofs.Tokens.{sound-table}
 use Rattle.sheet.specs.Passed.{Passed}
 use Rattle.sheet.specs.declared.Run.{Run}
 use Rattle.sheet.specs.declared.Outcome.the-variants.{Fine as Ended, Fault}
 use Rattle.sheet.proofs.Counts.{sound-count}
 use Rattle.sheet.proofs.Rests.{Rest, rest-start, rest-over, count-over, rest-tag, rest-other}
-use Rattle.sheet.proofs.Plain.{plain-names}
 use Rattle.sheet.proofs.Verdicts.{by-deeper}
 use Rattle.sheet.proofs.Verdicts as verdict
 
@@ -151,9 +151,11 @@ module _ {d starts lens : List ℕ} {opened : Open} {at : ℕ} {first : Bool} (v
 
       pub tag-plain : Opens d starts lens (opened .level .0) → PlainNames d starts′ lens′ (opened .level .0 + 1)
       tag-plain o =
-          plain-names (opens-here o) (omega (arith, tag-level))
+          let names = opens-here o in
+          plain-names (omega (arith, tag-level))
           (ap length es ∙ length-set starts (opened .level .0) (at + 1) ∙ v .names .starts-long)
           (ap length el ∙ length-set lens (opened .level .0) (lenOf i) ∙ v .names .lens-long)
+          (names .inside) (λ i l. names .named i l .small) (λ i l. names .named i l .named)
 
 -- ---- the invariant
 
@@ -301,20 +303,20 @@ module _ {list tb d o₁ : List ℕ} {base : ℕ} {states : List MatchState} {me
       module _ {n b f : ℕ} {m t : Bool} (s : i ≡ Start n b f m t) (sound : listAnswer list ≡ SoundList)
           {parent : MatchState} (ep : parent ≡ getD states (opened .level .0) none)
           {fit : Fit} (ef : fit ≡ fitFor (listPaths list) (part d (at + 1) (at + 1 + n))) where
-        fit-is : fit ≡ fitFor (listPaths list) (nameFrom d (at + 1) n)
+        pub fit-is : fit ≡ fitFor (listPaths list) (nameFrom d (at + 1) n)
         fit-is = ef ∙ ap (fitFor (listPaths list)) (name-part d (at + 1) n)
 
         -- the list's verdict on the element
         abbrev pub TagVerdict : Verdict → Type 0
-        TagVerdict = verdict.TagVerdict sound (v .held) (tag-level (v .judging) e q h s) ep at n b f fit-is
+        TagVerdict = verdict.TagVerdict list sound (v .held) (tag-level (v .judging) e q h s) ep at n b f fit-is
 
         abbrev pub TagStored : List MatchState → Type 0
-        TagStored = verdict.TagStored sound (v .held) (tag-level (v .judging) e q h s) ep at n b f fit-is
+        TagStored = verdict.TagStored list sound (v .held) (tag-level (v .judging) e q h s) ep at n b f fit-is
 
         pub tag-judged : {w : Verdict}
             → ByTests (listPaths list) (attributesIn 0 (take (b - (at + 1 + n)) (drop (at + 1 + n) d))) parent fit w → TagVerdict w
         tag-judged =
-            verdict.verdict-judged sound (v .held) (tag-level (v .judging) e q h s) ep at n b f fit-is
+            verdict.verdict-judged list sound (v .held) (tag-level (v .judging) e q h s) ep at n b f fit-is
             (tag-behind (v .judging) e q h s) (tag-head (v .judging) e q h s)
 
         abbrev up : List Name
@@ -345,7 +347,7 @@ module _ {list tb d o₁ : List ℕ} {base : ℕ} {states : List MatchState} {me
               laid = wrote-more (v .laid) (rw (ew, names-here (v .judging) e q h s es el) at (r .0));
               held =
                   rw (es, kept, eo)
-                  (verdict.held-next sound (v .held) (tag-level (v .judging) e q h s) ep at n b f fit-is
+                  (verdict.held-next list sound (v .held) (tag-level (v .judging) e q h s) ep at n b f fit-is
                   (starts-room (v .judging) e q h s) (lens-room (v .judging) e q h s) (v .long) et m);
               opens = rw (es, kept, eo) (opens-next m);
               far = omega (arith, v .far, r .1 .0, tag-ahead (v .judging) e q h s);
