@@ -34,10 +34,11 @@ use Rattle.trees.specs.Written.{countOf}
 use Rattle.rows.specs.Field.{record-of}
 use Rattle.rows.specs.Table.{recordBy, tableOf}
 use Rattle.sheet.specs.Answer.{byList, faultOf, byDocument, byRoom, answerBy, answerOf, after, bytesBy, bytesAfter}
-use Rattle.sheet.specs.Passed.{judgedBy, Told, Passed}
+use Rattle.sheet.specs.Passed.{Started, judgedBy, Told, Passed}
 use Rattle.sheet.specs.declared.Answer.{Answer}
 use Rattle.sheet.specs.declared.Answer.the-variants.{Written, ListTooLong, ListMalformed, ListTooLarge, TooLong}
 use Rattle.sheet.specs.declared.Answer.the-variants.{OtherEncoding, NotChar, Doctype, Malformed, TooLarge, Short}
+use Rattle.sheet.specs.declared.Run.{Run}
 use Rattle.sheet.specs.declared.Outcome.{Outcome}
 use Rattle.sheet.specs.declared.Outcome.the-variants.{Fine, Fault}
 
@@ -53,21 +54,17 @@ record-none Unselected up s e = (refl, refl)
 record-none Selected up s e = (cc, cc)
 record-none Marked up s e = (cc, cc)
 
--- the three promises of its contract
-abbrev pub Started : Verdict → List Name → List ℕ → List ℕ → ℕ → ℕ → ℕ → ℕ → List ℕ → Type 0
-Started w up s o to count to′ count′ o′ = Wrote o to (recordBy w up s) to′ o′ × ((to′ ≤ to + 268435456) × (count′ ≡ count + one w))
-
-module _ (w : Verdict) (up : List Name) (s : List ℕ) {b : Bool} (e : b ≡ isSelected w) where
-  pub started-one : b ≡ true → {o o′ : List ℕ} {to to′ : ℕ} (count : ℕ) → Wrote o to (record-of up s) to′ o′ × (to′ ≤ to + 268435456)
-      → Started w up s o to count to′ (count + 1) o′
-  started-one q count r =
+module _ {w : Verdict} {up : List Name} {s : List ℕ} {b : Bool} (e : b ≡ isSelected w) {run r : Run} where
+  pub started-one : b ≡ true → {o o′ : List ℕ} {to : ℕ} → Wrote o (run .to) (record-of up s) to o′ × (to ≤ run .to + 268435456)
+      → r .to ≡ to → r .count ≡ run .count + 1 → Started w up s o run r o′
+  started-one q {o} {o′} {to} l et ec =
       let z = record-one w up s (sym e ∙ q) in
-      (rw (z .0) (r .0), (r .1, omega (arith, z .1)))
+      record { wrote = rw (z .0, et) (l .0); near = omega (arith, et, l .1); num = omega (arith, ec, z .1) }
 
-  pub started-none : b ≡ false → (o : List ℕ) (to count : ℕ) → Started w up s o to count to count o
-  started-none q o to count =
+  pub started-none : b ≡ false → {o : List ℕ} → r ≡ run → Started w up s o run r o
+  started-none q er =
       let z = record-none w up s (sym e ∙ q) in
-      (rw (z .0) wrote-none, (omega arith, omega (arith, z .1)))
+      rw er (record { wrote = rw (z .0) wrote-none; near = omega arith; num = omega (arith, z .1) })
 
 -- ---- `fault_of`
 

@@ -63,7 +63,7 @@ use Rattle.rows.specs.Tokens.{recordsOver}
 use Rattle.rows.specs.Laid.{PlainNames, elementText}
 use Rattle.rows.proofs.Plain.{plain-names}
 use Rattle.rows.proofs.Tokens.{sound-table}
-use Rattle.sheet.specs.Passed.{Passed}
+use Rattle.sheet.specs.Passed.{Started, Passed}
 use Rattle.sheet.specs.declared.Run.{Run}
 use Rattle.sheet.specs.declared.Outcome.the-variants.{Fine as Ended, Fault}
 use Rattle.sheet.proofs.Counts.{sound-count}
@@ -333,8 +333,7 @@ module _ {list tb d o₁ : List ℕ} {base : ℕ} {states : List MatchState} {me
         pub walk-tag : {w : Verdict} → TagVerdict w → {states′ : List MatchState} → TagStored states′
             → {memo′ : List Known} (slot : ℕ) {y : Known} → memo′ ≡ set memo slot y → Recalls false tb y
             → {slots′ : List ℕ} → Written slots slots′ → {run′ : Run} {o′ : List ℕ}
-            → Wrote o (run .to) (recordBy w (namesOf d starts′ lens′ (opened .level .0 + 1)) (elementText m d f)) (run′ .to) o′
-            × ((run′ .to ≤ run .to + 268435456) × (run′ .count ≡ run .count + one w))
+            → Started w (namesOf d starts′ lens′ (opened .level .0 + 1)) (elementText m d f) o run run′ o′
             → {opened′ : Open} → opened′ ≡ openAfter (Start n b f m t) opened
             → Walking list tb d o₁ base states′ memo′ slots′ starts′ lens′ opened′ run′ f false o′
         walk-tag {w} ew {states′} et slot em er el′ {run′} {o′} r {opened′} eo =
@@ -344,19 +343,19 @@ module _ {list tb d o₁ : List ℕ} {base : ℕ} {states : List MatchState} {me
               rest =
                   rw (names-are, count-is)
                   (rest-tag (v .rest) (sym s ∙ e) (tag-ahead (v .judging) e q h s) (tag-inside (v .judging) e q h s));
-              laid = wrote-more (v .laid) (rw (ew, names-here (v .judging) e q h s es el) at (r .0));
+              laid = wrote-more (v .laid) (rw (ew, names-here (v .judging) e q h s es el) at (r .wrote));
               held =
                   rw (es, kept, eo)
                   (verdict.held-next list sound (v .held) (tag-level (v .judging) e q h s) ep at n b f fit-is
                   (starts-room (v .judging) e q h s) (lens-room (v .judging) e q h s) (v .long) et m);
               opens = rw (es, kept, eo) (opens-next m);
-              far = omega (arith, v .far, r .1 .0, tag-ahead (v .judging) e q h s);
-              few = omega (arith, v .few, r .1 .1, one-most w, tag-ahead (v .judging) e q h s);
+              far = omega (arith, v .far, r .near, tag-ahead (v .judging) e q h s);
+              few = omega (arith, v .few, r .num, one-most w, tag-ahead (v .judging) e q h s);
               long = stored-long states (opened .level .0) _ et ∙ v .long;
               recalls = rw em (recalls-set memo (v .recalls) slot er);
               memo-long = ap length em ∙ length-set memo slot _ ∙ v .memo-long;
               slots-long = written-long el′ ∙ v .slots-long;
-              room = wrote-long (r .0) ∙ v .room;
+              room = wrote-long (r .wrote) ∙ v .room;
             }
           where
             after : opened′ ≡ openAfter i opened
@@ -369,7 +368,7 @@ module _ {list tb d o₁ : List ℕ} {base : ℕ} {states : List MatchState} {me
             names-are = rw s at (names-after (v .judging) e q h es el after)
 
             count-is : run′ .count ≡ run .count + one said
-            count-is = r .1 .1 ∙ ap (λ (x : Verdict). run .count + one x) ew
+            count-is = r .num ∙ ap (λ (x : Verdict). run .count + one x) ew
 
             opens-next : (empty : Bool)
                 → Opens d (set starts (opened .level .0) (at + 1)) (set lens (opened .level .0) n) (deeper empty (opened .level .0))

@@ -21,12 +21,10 @@ ghost use Rattle.readers.specs.Named.{otherEncoding};
 ghost use Rattle.document.specs.Judge.{startOf};
 ghost use Rattle.document.specs.Levels.{namesOf};
 ghost use Rattle.matcher.specs.Fit.{Serves};
-ghost use Rattle.trees.specs.Cut.{isSelected, one};
-ghost use Rattle.writer.specs.Wrote.{Wrote};
-ghost use Rattle.rows.specs.Table.{recordBy};
+ghost use Rattle.trees.specs.Cut.{isSelected};
 ghost use Rattle.rows.specs.Laid.{PlainNames, elementText};
 ghost use Rattle.sheet.specs.Answer.{faultOf, answerBy, bytesBy, answerOf, bytesAfter};
-ghost use Rattle.sheet.specs.Passed.{Passed};
+ghost use Rattle.sheet.specs.Passed.{Started, Passed};
 use chars::whole::Checked;
 use chars::whole::check;
 use compiled::Compiled;
@@ -110,10 +108,8 @@ fn start(
     requires { ⌜ (now table ≡ classTable) × (length (now doc) ≤ 16777216) × (end ≤ length (now doc))
         × PlainNames (now doc) (now starts) (now lens) (level + 1) × (run .to < 1152921504606846976) × (run .count < 16777216) ⌝ }
     ensures { λ r.
-        ⌜ Wrote (now (out .entry)) (run .to)
-        (recordBy verdict (namesOf (now (doc .entry)) (now (starts .entry)) (now (lens .entry)) (level + 1))
-        (elementText empty (now (doc .entry)) end)) (r .to) (now (out .exit)) ⌝ }
-    ensures { λ r. ⌜ (r .to ≤ run .to + 268435456) × (r .count ≡ run .count + one verdict) ⌝ }
+        ⌜ Started verdict (namesOf (now (doc .entry)) (now (starts .entry)) (now (lens .entry)) (level + 1))
+        (elementText empty (now (doc .entry)) end) (now (out .entry)) run r (now (out .exit)) ⌝ }
 {
     if is_selected(verdict) {
         let to = lay_record(table, doc, starts, lens, level + 1, end, empty, out, run.to);

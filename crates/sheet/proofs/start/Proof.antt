@@ -1,4 +1,5 @@
 -- `start` meets its contract: the record of an element that is selected, and none of another.
+use mathlib.Core.Path.{refl}
 use borrow.Author.Needs.{needs}
 use Rattle.sheet.proofs.Answering.{started-one, started-none}
 use Rattle.sheet.proofs.start.Statement.{statement}
@@ -21,11 +22,11 @@ same-length c = search needs
 
 returns : tie.Need-returns
 returns c =
-    started-one _ _ _ (c .before .before .before .before .before .before .is-selected .ensures) (c .before .before .before .before .before .if1 .taken) _ (c .before .before .before .lay-record .ensures)
+    started-one (c .before .before .before .before .before .before .is-selected .ensures) (c .before .before .before .before .before .if1 .taken) (c .before .before .before .lay-record .ensures) refl refl
 
 returns-2 : tie.Need-returns-2
 returns-2 c =
-    started-none _ _ _ (c .before .is-selected .ensures) (c .if1 .left) _ _ _
+    started-none (c .before .is-selected .ensures) (c .if1 .left) refl
 
 pub start-spec : {M : Type 1} → statement M
 start-spec =
