@@ -1,5 +1,6 @@
 // The match states by level, made again from the names by level: so a client keeps none between two tapes.
 ghost use Prim.Native.Nat.{_≤_};
+ghost use lib.ListN.{length};
 ghost use Rattle.paths.specs.Judge.{listPaths};
 ghost use Rattle.matcher.specs.Fit.{Serves};
 ghost use Rattle.output.specs.Levels.{Placed};
@@ -24,7 +25,7 @@ pub fn states_of(
     lens: &[usize; Open::LEVELS],
     level: usize,
 ) -> States
-    requires { ⌜ Serves (now list) (now t) × Placed (now doc) (now starts) (now lens) level ⌝ }
+    requires { ⌜ Serves (now list) (now t) × (length (now doc) ≤ 16777216) × Placed (now doc) (now starts) (now lens) level ⌝ }
     ensures { λ r.
         ⌜ Standing (listPaths (now (list .entry))) (r .all) (now (doc .entry)) (now (starts .entry)) (now (lens .entry)) level ⌝ }
 {
