@@ -213,21 +213,17 @@ module _ {counts : Bool} {list tb d t : List ℕ} {items : ℕ} {starts₀ lens�
               → {tried : ℕ} → (tried ≡ cond counts (testsBy parent fit) 0) × (tried ≤ 512) → {run′ : Run} {o′ g′ : List ℕ}
               → Moves d starts′ lens′ (opened .level .0) run o g
               (onTag v (nameAt d starts′ lens′ (opened .level .0)) (part d at b) (part d at f) m) 2 (deeper m (opened .level .0)) run′ o′ g′
-              → {opened′ : Open} → opened′ ≡ openAfter next opened
+              → {opened′ : Open} → opened′ ≡ openAfter (Start n b f m c) opened
               → Going counts list tb d t items starts₀ lens₀ s o₁ g₁ states′ memo′ slots′ starts′ lens′ opened′ run′ f false (tests + tried)
               (k + 1) o′ g′
-          going-tag sound ep ef by st slot em er ws et mv {opened′} eo =
+          going-tag sound ep ef by st slot em er ws et mv eo =
               record {
                 each = λ o₀ x.
                     let p = w .each o₀ x in
                     pass-tag p refl refl going-fine (was .1) es (lens-are es el) sound ep ef
-                    (verdict-judged p refl refl going-fine (was .1) es (lens-are es el) sound ep ef by) st slot em er ws et mv
-                    (open-is ∙ ap (λ (j : Item). openAfter j opened) (was .1));
-                spot = spot-next es (lens-are es el) open-is (sym (ap (endOf at) (was .1)));
+                    (verdict-judged p refl refl going-fine (was .1) es (lens-are es el) sound ep ef by) st slot em er ws et mv eo;
+                spot = spot-next es (lens-are es el) (eo ∙ sym (ap (λ (j : Item). openAfter j opened) (was .1))) (sym (ap (endOf at) (was .1)));
                 turn = omega arith;
                 begun = w .begun;
                 taped = w .taped;
               }
-            where
-              open-is : opened′ ≡ openAfter here opened
-              open-is = eo ∙ like .opens opened

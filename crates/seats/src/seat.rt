@@ -47,8 +47,13 @@ pub struct Seat {
 impl Seat {
     // Before the first item, which begins at this place.
     pub fn none(at: usize) -> Seat
-        ensures { λ r. ⌜ r ≡ record { run = record { reached = record { 0 = 0 }; kept = 0; len = 0; count = 0; noted = 0 };
-            opened = record { level = record { 0 = 0 }; rooted = false }; at = at; first = true; tests = 0 } ⌝ }
+        ensures { λ r. ⌜ r ≡ record {
+          run = record { reached = record { 0 = 0 }; kept = 0; len = 0; count = 0; noted = 0 };
+          opened = record { level = record { 0 = 0 }; rooted = false };
+          at = at;
+          first = true;
+          tests = 0;
+        } ⌝ }
     {
         Seat {
             run: Run::none(),
