@@ -148,7 +148,8 @@ module _ {counts : Bool} {list tb d t : List ℕ} {items : ℕ} {starts₀ lens�
         going-placed = pass-placed going refl refl going-fine es lens-are
 
         pub going-other : OneOf untagged (kindOf item.the-type next) → {run′ : Run} {o′ g′ : List ℕ}
-            → Moves d starts′ lens′ (opened .level .0) run o g (onOther d at next) 1 (levelAfter next (opened .level .0)) run′ o′ g′
+            → Moves d starts′ lens′ (opened .level .0) at run o g (onOther d at next) 1 (levelAfter next (opened .level .0))
+            (endOf at next) run′ o′ g′
             → {opened′ : Open} → opened′ ≡ openAfter next opened → {n : ℕ} → n ≡ endOf at next
             → Going counts list tb d t items starts₀ lens₀ s o₁ g₁ states memo slots starts′ lens′ opened′ run′ n false tests (k + 1) o′ g′
         going-other u {run′} {o′} {g′} m {opened′} eo {n} en =
@@ -169,8 +170,9 @@ module _ {counts : Bool} {list tb d t : List ℕ} {items : ℕ} {starts₀ lens�
             end-is : n ≡ endOf at here
             end-is = en ∙ like .ends
 
-            moved : Moves d starts′ lens′ (opened .level .0) run o g (onOther d at here) 1 (levelAfter here (opened .level .0)) run′ o′ g′
-            moved = rw (like .makes, like .level (opened .level .0)) at m
+            moved : Moves d starts′ lens′ (opened .level .0) at run o g (onOther d at here) 1 (levelAfter here (opened .level .0))
+                (endOf at here) run′ o′ g′
+            moved = rw (like .makes, like .level (opened .level .0), like .ends) at m
 
       -- ---- a start tag or empty tag
 
@@ -211,8 +213,9 @@ module _ {counts : Bool} {list tb d t : List ℕ} {items : ℕ} {starts₀ lens�
               → {memo′ : List Known} (slot : ℕ) {y : Known} → memo′ ≡ set memo slot y → Recalls counts tb y
               → {slots′ : List ℕ} → Written slots slots′
               → {tried : ℕ} → (tried ≡ cond counts (testsBy parent fit) 0) × (tried ≤ 512) → {run′ : Run} {o′ g′ : List ℕ}
-              → Moves d starts′ lens′ (opened .level .0) run o g
-              (onTag v (nameAt d starts′ lens′ (opened .level .0)) (part d at b) (part d at f) m) 2 (deeper m (opened .level .0)) run′ o′ g′
+              → Moves d starts′ lens′ (opened .level .0) at run o g
+              (onTag v (nameAt d starts′ lens′ (opened .level .0)) (part d at b) (part d at f) m) 2 (deeper m (opened .level .0)) f run′ o′
+              g′
               → {opened′ : Open} → opened′ ≡ openAfter (Start n b f m c) opened
               → Going counts list tb d t items starts₀ lens₀ s o₁ g₁ states′ memo′ slots′ starts′ lens′ opened′ run′ f false (tests + tried)
               (k + 1) o′ g′

@@ -1,6 +1,6 @@
--- Where a client stands between two tapes: what it keeps stands for an engine from which the rest of the pass comes to what it comes to from
--- the start; so does the scan of the document. It is what a pass knows of itself (`Passing` of the crate passes), less the states and what is
--- known of elements.
+-- Where a client stands between two tapes: what it keeps stands for an engine from which the rest of the pass comes to what it comes to
+-- from the start; so does the scan of the document. It is what a pass knows of itself (`Passing` of the crate passes), less the states and
+-- what is known of elements.
 use mathlib.Core.Path.{_≡_}
 use mathlib.Core.Bool.{Bool}
 use mathlib.Core.List.{List}
@@ -26,8 +26,8 @@ pub record Seated (counts : Bool) (list d o₀ starts lens : List ℕ) (s : Seat
   pub judging : Judging d starts lens (s .opened) (s .at) (s .first)
   pub x : Engine
   pub rest : Rest (verdicts (listPaths list)) (countedTests counts (listPaths list)) d (s .at) (s .first) x (s .tests)
-  pub stands : Stands d starts lens o₀ (s .opened .level .0) (s .run .reached .0) (s .run .kept) (s .run .len) (s .run .count)
-      (s .run .noted) o g x
+  pub stands : Stands d starts lens o₀ (s .opened .level .0) (s .run .reached .0) (s .run .kept) (s .at) (s .run .len)
+      (s .run .count) (s .run .noted) o g x
   pub opens : Opens d starts lens (s .opened .level .0)
   pub order : s .run .reached .0 ≤ s .opened .level .0
   pub far : s .run .len ≤ s .at * 4294967296

@@ -1,5 +1,5 @@
--- A client's way through the items of a tape: what it asks for, and what it comes to. A client that sits out asks for nothing, and all of it
--- stays. Behind a prime stands what is there afterwards.
+-- A client's way through the items of a tape: what it asks for, and what it comes to. A client that sits out asks for nothing, and all of
+-- it stays. Names with a prime are of what is there afterwards.
 use mathlib.Core.Path.{_≡_}
 use mathlib.Core.Bool.{Bool, true, false}
 use mathlib.Core.List.{List}

@@ -206,6 +206,7 @@ tag-step-requires c κs =
     let s = c .before .before .before .before .before .before .before .before .before .before .before .before .before .before .next .given .1 in
     let k = c .before .before .before .before .before .before .before .before .before .before .before .before .before .before .before .before .keep .ensures in (
       pass-ready (going w) (c .before .before .before .before .before .before .before .before .before .before .before .before .before .before .before .before .before .before .before .before .before .before .before .before .before .before .before .before .before .before .before .before .before .before .pre .1) (c .before .before .before .before .before .before .before .before .before .before .before .before .before .before .before .before .before .before .before .before .before .before .before .before .before .before .before .before .before .before .before .before .before .before .pre .2) (going-near w l),
+      going w .stands .behind,
       going w .order,
       going-from w l e s,
       going-to w l e s,
@@ -248,6 +249,7 @@ other-step-requires c κs =
     let e = c .before .before .before .before .before .before .before .before .item-on .ensures in
     let k = c .before .before .before .before .before .keep .ensures in (
       pass-ready (going w) (c .before .before .before .before .before .before .before .before .before .before .before .before .before .before .before .before .before .before .before .before .before .before .before .pre .1) (c .before .before .before .before .before .before .before .before .before .before .before .before .before .before .before .before .before .before .before .before .before .before .before .pre .2) (going-near w l),
+      going w .stands .behind,
       going w .order,
       going-inside w l e,
       going w .judging .within,
