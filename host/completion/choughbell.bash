@@ -3,7 +3,7 @@ _choughbell() {
     local word=$2 before=$3 command=${COMP_WORDS[1]} options
     COMPREPLY=()
     if [ "$COMP_CWORD" = 1 ]; then
-        mapfile -t COMPREPLY < <(compgen -W 'cut check batch pack unpack covers mend explain --help --version' -- "$word")
+        mapfile -t COMPREPLY < <(compgen -W 'cut check batch pack unpack covers mend show explain --help --version' -- "$word")
         return
     fi
     case $command in
@@ -11,6 +11,7 @@ _choughbell() {
     check) options='--quiet --json' ;;
     batch) options='--list --path --packed --output --folder --quiet' ;;
     pack | unpack | mend) options='--output --quiet --json' ;;
+    show) options='--list --path --packed --output --quiet' ;;
     covers) options='--narrow --wide --packed --quiet --json' ;;
     explain) options= ;;
     *) return ;;

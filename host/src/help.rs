@@ -14,6 +14,7 @@ choughbell cuts XML by a list of paths, by a filter that is proved.
   choughbell covers --narrow LIST --wide LIST     whether one list is covered by another
   choughbell mend [DOCUMENT] [-o OUTPUT]          what is whole of one that stops half way,
                                                   and the end tags that are missing
+  choughbell show -l LIST [DOCUMENT] [-o PAGE]    a page to look at: what becomes of each part
   choughbell explain [NUMBER]                     what an answer or an exit status means
 
 A file that is not named, or named -, is the standard input or output.

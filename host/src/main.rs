@@ -18,9 +18,13 @@ mod names;
 mod outline;
 mod output;
 mod packing;
+mod page;
+mod parts;
 mod paths;
+mod picked;
 mod places;
 mod report;
+mod show;
 mod shown;
 #[allow(unsafe_code)]
 mod system;
@@ -50,6 +54,7 @@ fn main() -> ExitCode {
         Request::Packing(packing) => (packing.quiet, packing.json),
         Request::Covers(asked) => (asked.quiet, asked.json),
         Request::Mend(task) => (task.quiet, task.json),
+        Request::Show(showing) => (showing.quiet, false),
         _ => (false, false),
     };
     match answer(&request) {
@@ -77,6 +82,7 @@ fn answer(request: &Request) -> Result<u8, Trouble> {
         Request::Packing(packing) => return packing::run(packing),
         Request::Covers(asked) => return covers::run(asked),
         Request::Mend(task) => return mend::run(task),
+        Request::Show(showing) => return show::run(showing),
         Request::Explain(text) => output::print(text)?,
         Request::Help => output::print(help::HELP)?,
         Request::Version => output::print(help::VERSION)?,

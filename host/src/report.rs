@@ -68,7 +68,7 @@ pub fn report(refusal: Refusal, list: &Read, document: &Read) -> Report {
 }
 
 /// A number with a comma before each three digits from the right.
-fn grouped(number: u64) -> String {
+pub fn grouped(number: u64) -> String {
     let digits = number.to_string();
     let comma = |at: usize| if at > 0 && (digits.len() - at) % 3 == 0 { "," } else { "" };
     digits.chars().enumerate().map(|(at, digit)| format!("{}{digit}", comma(at))).collect()

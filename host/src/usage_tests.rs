@@ -85,7 +85,7 @@ fn mend_takes_a_document_and_an_output() {
 #[test]
 fn wrong_words_are_told() {
     let wrong = |words: &[&str]| asked(words).unwrap_err();
-    assert_eq!(wrong(&[]), "there is no command: it is cut, check, batch, pack, unpack, covers, mend or explain");
+    assert_eq!(wrong(&[]), "there is no command: it is cut, check, batch, pack, unpack, covers, mend, show or explain");
     assert_eq!(wrong(&["cut", "m"]), "cut wants a list: -l LIST, or -e PATH; by -l /dev/null the root alone is kept");
     assert_eq!(wrong(&["cut", "-l"]), "--list wants a file's name");
     assert_eq!(wrong(&["cut", "-la", "-lb"]), "--list is given twice");

@@ -7,7 +7,7 @@ wrong() {
     shift 2
     try "wrong usage: $name" 64 "$@"
 }
-commands='it is cut, check, batch, pack, unpack, covers, mend or explain'
+commands='it is cut, check, batch, pack, unpack, covers, mend, show or explain'
 wrong 'nothing' "there is no command: $commands"
 wrong 'another command' "there is no command trim: $commands" trim b.xml
 wrong 'an option first' "there is no command --quiet: $commands" --quiet check b.xml
