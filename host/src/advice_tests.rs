@@ -12,6 +12,19 @@ fn says(line: &[u8], at: usize, hint: &str) {
 }
 
 #[test]
+fn what_ends_a_line() {
+    says(b"//v # lakes", 5, BEHIND);
+    says(b"/a # ", 4, BEHIND);
+    says(b"/a #\r", 4, "a line ends in a line feed alone, without a carriage return");
+    says(b"/a\r/b\r/c", 2, RETURNS);
+    says(b"/a[@k=\"x\"] #\r/b", 12, RETURNS);
+    assert_eq!(malformed(b"/a\r", false), advice(2, RETURNS));
+    says(b"\xFF\xFE/\0a\0", 0, UTF16);
+    says(b"/\0a\0", 0, UTF16);
+    says(b"\0/\0a\0", 0, UTF16);
+}
+
+#[test]
 fn beginnings() {
     says(b"", 0, "an empty line");
     says(b"\r", 0, "an empty line");
@@ -78,7 +91,6 @@ fn marks_and_ends() {
     says(b"/a#", 2, MARK);
     says(b"/a  #", 2, MARK);
     says(b"/a\t#", 2, MARK);
-    says(b"/a # ", 2, MARK);
     says(b"/a ", 2, MARK);
     says(b"/a\r", 2, "a line ends in a line feed alone, without a carriage return");
     says(b"/a #\r", 4, "a line ends in a line feed alone, without a carriage return");

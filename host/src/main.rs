@@ -28,9 +28,11 @@ mod show;
 mod shown;
 #[allow(unsafe_code)]
 mod system;
+mod tag;
 mod task;
 mod trouble;
 mod usage;
+mod widths;
 
 use std::env;
 use std::io::{self, Write};

@@ -137,9 +137,11 @@ fn refused_page(refusal: Refusal, report: &Report, list: &Read, document: &Read)
         let lines: Vec<&[u8]> = bytes.split(|&b| b == b'\n').take(if list.bytes.is_empty() { 0 } else { 33 }).collect();
         page += &format!("<div class=\"head\">\n{}</div>\n", listed(&lines, None, refusal.line()));
     }
-    if let Some(offset) = refusal.offset() {
-        let at = (offset as usize).min(document.bytes.len());
-        page += &page::refused(&document.bytes, at..places::item_end(&document.bytes, at));
+    if let (Some(offset), Some(fault)) = (refusal.offset(), report.fault()) {
+        let end = places::item_end(&document.bytes, (offset as usize).min(document.bytes.len()));
+        // A tag may seem to end before its fault, as at a > in a value.
+        let end = if fault < end { end } else { places::item_end(&document.bytes, fault) };
+        page += &page::refused(&document.bytes, fault..end);
     }
     page + &page::foot("Nothing is written of a document that is refused.")
 }

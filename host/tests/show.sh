@@ -63,6 +63,8 @@ shows 'a refused document' 7 v.lst refused.xml '! </g>'
 tells 'a refused document' 'refused.xml:2:4: 7: not well-formed: &quot;&lt;/g&gt;&quot;: &lt;v&gt; of line 2 is open (offset 7)'
 says 'refused.xml:2:4: 7: not well-formed: "</g>": <v> of line 2 is open (offset 7)'
 try 'show: a refused document is told' 7 show -l v.lst refused.xml -o page.html
+printf '<g>one\ntwo ]]></g>\n' > refused.xml
+shows 'the fault itself' 7 v.lst refused.xml '! ]]>'
 printf '<g>\377</g>' > byte.xml
 try 'show: a byte' 5 show -ql v.lst byte.xml -o page.html
 tells 'a byte' '<mark><kbd>\xFF</kbd></mark>'
