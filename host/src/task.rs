@@ -82,12 +82,15 @@ fn written(task: &Task, made: &Made, list: &Read, document: &Read) -> Result<(),
     Ok(())
 }
 
-/// The numbers, and the second and the third again by what they are.
+/// The numbers, and the later ones again by what they are.
 fn object(made: &Made) -> Object {
     let length = made.cut.len() as u64;
     let mut object = report::numbers(0, length, made.selected, made.name_tests, "written");
     object.number("length", length);
     object.number("selected", made.selected);
+    if let Some(name_tests) = made.name_tests {
+        object.number("tests", name_tests);
+    }
     object
 }
 
