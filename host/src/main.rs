@@ -37,6 +37,7 @@ mod widths;
 use std::env;
 use std::io::{self, Write};
 use std::process::ExitCode;
+use std::sync::atomic::{AtomicBool, Ordering::Relaxed};
 use trouble::Trouble;
 use usage::Request;
 
@@ -59,6 +60,7 @@ fn main() -> ExitCode {
         Request::Show(showing) => (showing.quiet, false),
         _ => (false, false),
     };
+    QUIET.store(quiet, Relaxed);
     match answer(&request) {
         Ok(status) => {
             if (1..=13).contains(&status) && !quiet && !json {
@@ -90,6 +92,16 @@ fn answer(request: &Request) -> Result<u8, Trouble> {
         Request::Version => output::print(help::VERSION)?,
     }
     Ok(0)
+}
+
+/// Whether messages are left out.
+static QUIET: AtomicBool = AtomicBool::new(false);
+
+/// A message that is left out where nothing is to be said.
+fn note(message: &str) {
+    if !QUIET.load(Relaxed) {
+        say(message);
+    }
 }
 
 /// A message on the standard error. Where that can't be written, there is nobody to tell.

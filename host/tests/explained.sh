@@ -49,6 +49,11 @@ follow 13
 try 'explain 13' 0 unpack explained/short.bin -o explained/back.lst
 same 'explain 13' explained/short.lst explained/back.lst
 
+# 73
+echo '<g>old</g>' > explained/mounted.xml
+follow 73
+same 'explain 73' explained/whole.xml explained/mounted.xml
+
 # taken NUMBER TEXT: what a conversion makes is taken, and has this text in its element v.
 taken() {
     printf '//v #\n' > explained/v.lst
