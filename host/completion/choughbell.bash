@@ -9,7 +9,7 @@ _choughbell() {
     case $command in
     cut) options='--list --path --packed --output --count --each --plain --quiet --json' ;;
     check) options='--quiet --json' ;;
-    batch) options='--list --path --packed --output --folder --quiet' ;;
+    batch) options='--list --path --packed --output --folder --quiet --json' ;;
     pack | unpack | mend) options='--output --quiet --json' ;;
     show) options='--list --path --packed --output --quiet' ;;
     covers) options='--narrow --wide --packed --quiet --json' ;;

@@ -15,5 +15,5 @@ complete -c choughbell -n '__fish_seen_subcommand_from cut' -l plain -d 'by the 
 complete -c choughbell -n '__fish_seen_subcommand_from covers' -l narrow -r -F -d 'the list to be covered'
 complete -c choughbell -n '__fish_seen_subcommand_from covers' -l wide -r -F -d 'the list that covers'
 complete -c choughbell -n '__fish_seen_subcommand_from cut check batch pack unpack covers mend show' -s q -l quiet -d 'the exit status alone'
-complete -c choughbell -n '__fish_seen_subcommand_from cut check pack unpack covers mend' -l json -d 'the numbers as JSON'
+complete -c choughbell -n '__fish_seen_subcommand_from cut check batch pack unpack covers mend' -l json -d 'the numbers as JSON'
 complete -c choughbell -n '__fish_seen_subcommand_from explain' -f -a '0 1 2 3 4 5 6 7 8 9 10 11 12 13 20 64 66 73 74'

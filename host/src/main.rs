@@ -23,6 +23,7 @@ mod parts;
 mod paths;
 mod picked;
 mod places;
+mod progress;
 mod report;
 mod show;
 mod shown;
@@ -53,7 +54,7 @@ fn main() -> ExitCode {
     let (quiet, json) = match &request {
         Request::Task(task) => (task.quiet, task.json),
         Request::Check(checking) => (checking.quiet, checking.json),
-        Request::Batch(post) => (post.quiet, false),
+        Request::Batch(post) => (post.quiet, post.json),
         Request::Packing(packing) => (packing.quiet, packing.json),
         Request::Covers(asked) => (asked.quiet, asked.json),
         Request::Mend(task) => (task.quiet, task.json),

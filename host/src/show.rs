@@ -9,6 +9,7 @@ use crate::parts::{self, Fate};
 use crate::paths::Paths;
 use crate::picked::{self, Element};
 use crate::places;
+use crate::progress;
 use crate::report::{self, grouped, Read, Report};
 use crate::say;
 use crate::trouble::Trouble;
@@ -35,7 +36,7 @@ pub fn run(showing: &Showing) -> Result<u8, Trouble> {
     };
     match choughbell::cut_of(&list.bytes, &document.bytes) {
         Ok(cut) => {
-            let (page, counts) = cut_page(&list, &document, &cut);
+            let (page, counts) = progress::during("making the page", || cut_page(&list, &document, &cut));
             showing.output.write(page.as_bytes())?;
             if !showing.quiet {
                 each::idle(&list, &counts).iter().for_each(|line| say(line));

@@ -66,7 +66,7 @@ type Reading = fn(&str, Given) -> Result<Request, String>;
 const COMMANDS: [(&str, Reading, &[&str]); 9] = [
     ("cut", cut, &["--list", "--path", "--packed", "--output", "--count", "--each", "--plain", "--quiet", "--json"]),
     ("check", check, &["--quiet", "--json"]),
-    ("batch", batch, &["--list", "--path", "--packed", "--output", "--folder", "--quiet"]),
+    ("batch", batch, &["--list", "--path", "--packed", "--output", "--folder", "--quiet", "--json"]),
     ("pack", packing, &["--output", "--quiet", "--json"]),
     ("unpack", packing, &["--output", "--quiet", "--json"]),
     ("covers", covers, &["--narrow", "--wide", "--packed", "--quiet", "--json"]),
@@ -259,7 +259,7 @@ fn batch(_: &str, given: Given) -> Result<Request, String> {
         }
         (None, _) => return Err("batch takes one batch, or with -d FOLDER documents".to_string()),
     };
-    Ok(Request::Batch(Post { paths, way, quiet: given.has("--quiet") }))
+    Ok(Request::Batch(Post { paths, way, quiet: given.has("--quiet"), json: given.has("--json") }))
 }
 
 /// Documents with the names of their cuts, of which no two are the same.

@@ -203,3 +203,23 @@ if mount --bind under.xml mounted.xml 2> "$notes/mount"; then
     holds 'a file that is mounted' mounted.xml old
     umount mounted.xml
 fi
+
+# On a terminal a long run says that it goes on, on a line that it takes back, and nothing of that with --quiet or where there is none.
+if [ -z "$run" ] && command -v script > "$notes/found"; then
+    ran=$((ran + 3))
+    repeat 32 "//*$(repeat 15 /self::*)[@k=\"x\"]
+" > slow.lst
+    { printf '<g>' && yes '<v k="y"/>' | head -n 200000 | tr -d '\n' && printf '</g>'; } > slow.xml
+    seen() {
+        script -qec "'$program' cut --plain $1 -l slow.lst slow.xml -o slow.cut $2" "$notes/typed" < /dev/null > "$notes/printed" || :
+    }
+    # More than this is said in the end: the lines that select nothing.
+    seen '' ''
+    tr '\r' '\n' < "$notes/printed" | grep -q '^cutting, 1 s' || fault 'a long run on a terminal' "$(head -c 300 "$notes/printed")"
+    grep -q "$(printf '\r\033\\[K')" "$notes/printed" || fault 'a long run on a terminal' 'the line is not taken back'
+    seen -q ''
+    [ ! -s "$notes/printed" ] || fault 'a long run on a terminal, quietly' "$(head -c 300 "$notes/printed")"
+    seen '' '2> slow.said'
+    ! grep -q cutting "$notes/printed" slow.said || fault 'a long run elsewhere' "$(head -c 300 slow.said)"
+    rm -f slow.xml
+fi
