@@ -26,7 +26,8 @@ A file that is not named, or named -, is the standard input or output.
                        keep the whole entry
   -e, --path PATH      one path, in place of a list or behind its lines; may be given again
       --packed         LIST is in its packed form; of covers, both are
-  -o, --output OUTPUT  is replaced when all is there to write, and else stays as it was
+  -o, --output OUTPUT  is replaced when all is there to write, and else stays as it was;
+                       keeps its owner and group where that is permitted
   -d, --folder FOLDER  where the cuts of a batch go, under the names of the documents
       --count          print only: kept, the elements selected, the length of the cut; and
                        on a second line: name tests, how many were tried
@@ -39,8 +40,9 @@ A file that is not named, or named -, is the standard input or output.
                        narrow line that nothing covers
   -q, --quiet          no message and no numbers, only the exit status and what is to be
                        written
-      --json           print the numbers as one line of JSON, on the standard output, or on
-                       the standard error where the document goes to the other
+      --json           print the numbers as one line of JSON, of batch one for each document
+                       too; on the standard output, or on the standard error where the
+                       document goes to the other
   -h, --help           this text
   -V, --version        the version
       --               what follows is no option
