@@ -106,7 +106,11 @@ struct Text<'a> {
 pub fn parts(document: &[u8], parts: &[Part], named: bool) -> String {
     let mut text = Text::new(document);
     let mut from = 0;
-    for part in parts {
+    for (i, part) in parts.iter().enumerate() {
+        // Without the names of lines, neighbours that look alike are one.
+        if !named && parts.get(i + 1).map_or(false, |next| next.fate == part.fate) {
+            continue;
+        }
         let range = from..part.to;
         from = part.to;
         match if part.fate == Fate::Dropped { folded(document, &range) } else { None } {

@@ -21,7 +21,10 @@ fn rows_have_numbers_and_letters() {
     let expected = "<div class=\"text\"><div><a id=\"L1\">1 C  </a><i>&lt;g&gt;</i>\n\
         <a id=\"L2\">2 TD </a> <s>a</s><sup>1,3</sup><u>&lt;v/&gt;</u>\n<a id=\"L3\">3 C  </a><i>&lt;/g&gt;</i></div>\n</div>\n";
     assert_eq!(html, expected);
-    assert!(!parts(document, &[part(Fate::Tag, 15, 1)], false).contains("<sup>"));
+    let two = [part(Fate::Tag, 3, 1), part(Fate::Tag, 15, 1)];
+    assert_eq!(parts(document, &two, true).matches("<u>").count(), 4);
+    let together = parts(document, &two, false);
+    assert!(together.matches("<u>").count() == 3 && !together.contains("<sup>"), "{together}");
 }
 
 #[test]

@@ -144,7 +144,7 @@ fn refused_page(refusal: Refusal, report: &Report, list: &Read, document: &Read)
         let end = if fault < end { end } else { places::item_end(&document.bytes, fault) };
         page += &page::refused(&document.bytes, fault..end);
     }
-    page + &page::foot("Nothing is written of a document that is refused.")
+    page + &page::foot("Where the list or the document is refused, nothing is cut.")
 }
 
 #[cfg(test)]
