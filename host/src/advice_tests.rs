@@ -124,3 +124,24 @@ fn large_lines() {
     assert_eq!(too_large("/self::*".repeat(17).as_bytes(), 1), advice(128, "over 16 steps"));
     assert_eq!(too_large(b"/a", 1), advice(0, "a line has at most 16 steps, a name or a value at most 255 bytes"));
 }
+
+/// Lines of bits and pieces: each that is refused has its place in the line, between two characters.
+#[test]
+fn any_refused_line_has_a_place() {
+    let bits =
+        ["/", "//", "a", "日", "\u{301}", "*", "[@", "k", "=\"", "x", "\"]", " #", " ", "#", "\r", "::", "self::", "\0", "\u{A0}", "1"];
+    let (mut seed, mut refused) = (3u64, 0);
+    for _ in 0..20_000 {
+        let mut line = "/".to_string();
+        for _ in 0..6 {
+            seed = seed.wrapping_mul(6_364_136_223_846_793_005).wrapping_add(1_442_695_040_888_963_407);
+            line += bits[(seed >> 33) as usize % bits.len()];
+        }
+        if choughbell::covers_of(format!("{line}\n").as_bytes(), b"").is_err() {
+            let Advice { at, hint } = malformed(line.as_bytes(), true);
+            assert!(line.is_char_boundary(at) && !hint.is_empty(), "{line:?}");
+            refused += 1;
+        }
+    }
+    assert!(refused > 10_000, "{refused}");
+}

@@ -26,8 +26,7 @@ A file that is not named, or named -, is the standard input or output.
                        keep the whole entry
   -e, --path PATH      one path, in place of a list or behind its lines; may be given again
       --packed         LIST is in its packed form; of covers, both are
-  -o, --output OUTPUT  is replaced when all is there to write, and else stays as it was;
-                       keeps its owner and group where that is permitted
+  -o, --output OUTPUT  is replaced when all is there to write, and else stays as it was
   -d, --folder FOLDER  where the cuts of a batch go, under the names of the documents
       --count          print only: kept, the elements selected, the length of the cut; and
                        on a second line: name tests, how many were tried

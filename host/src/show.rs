@@ -188,4 +188,57 @@ mod tests {
         assert!(!page(b"", &vec![b' '; DOCUMENT_LIMIT + 1]).contains("class=\"text\""));
         assert!(page(b"", b"").contains("class=\"text\""));
     }
+
+    /// Documents of bits and pieces: each that is refused has a message and a page, and the fault is marked in what stands there.
+    #[test]
+    fn any_refused_document_has_a_page() {
+        let bits: [&[u8]; 28] = [
+            b"<g>",
+            b"</g>",
+            b"<g",
+            b"<1",
+            b"<",
+            b">",
+            b"/>",
+            b" a=\"1\"",
+            b"b='",
+            b"'",
+            b"\"",
+            b"&",
+            b"&lt;",
+            b"&#",
+            b"&#x110000;",
+            b"]]>",
+            b"<!--",
+            b"--",
+            b"-->",
+            b"<![CDATA[",
+            b"<?p",
+            b"?>",
+            b"\n",
+            b" ",
+            "\u{A0}".as_bytes(),
+            "日é".as_bytes(),
+            b"\xFF",
+            b"<!DOCTYPE",
+        ];
+        let (mut seed, mut refused) = (7u64, 0);
+        for _ in 0..20_000 {
+            let mut document = b"<g>".to_vec();
+            for _ in 0..6 {
+                seed = seed.wrapping_mul(6_364_136_223_846_793_005).wrapping_add(1_442_695_040_888_963_407);
+                document.extend(bits[(seed >> 33) as usize % bits.len()]);
+            }
+            if let Err(refusal) = choughbell::check(&document) {
+                let (list, read) = (read("a.lst", b""), read("m.xml", &document));
+                let report = report::report(refusal, &list, &read);
+                let fault = report.fault().expect("a place in the document");
+                assert!(refusal.offset().unwrap() as usize <= fault && fault <= document.len());
+                let page = refused_page(refusal, &report, &list, &read);
+                assert!(page.contains("class=\"text\"") && !report.message().is_empty());
+                refused += 1;
+            }
+        }
+        assert!(refused > 10_000, "{refused}");
+    }
 }
