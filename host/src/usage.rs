@@ -9,6 +9,7 @@ use crate::mend::Mending;
 use crate::output::Sink;
 use crate::packing::Packing;
 use crate::paths::Paths;
+use crate::show::Showing;
 use crate::shown;
 use crate::task::Task;
 use std::collections::HashSet;
@@ -24,6 +25,7 @@ pub enum Request {
     Packing(Packing),
     Covers(Asked),
     Mend(Mending),
+    Show(Showing),
     /// The text on a number, or the list of all.
     Explain(String),
     Help,
@@ -61,14 +63,15 @@ const OPTIONS: [Known; 14] = [
 
 /// The commands, what reads the rest of their words, and which options they take besides `--help` and `--version`.
 type Reading = fn(&str, Given) -> Result<Request, String>;
-const COMMANDS: [(&str, Reading, &[&str]); 8] = [
+const COMMANDS: [(&str, Reading, &[&str]); 9] = [
     ("cut", cut, &["--list", "--path", "--packed", "--output", "--count", "--each", "--plain", "--quiet", "--json"]),
     ("check", check, &["--quiet", "--json"]),
-    ("batch", batch, &["--list", "--path", "--packed", "--output", "--folder", "--quiet"]),
+    ("batch", batch, &["--list", "--path", "--packed", "--output", "--folder", "--quiet", "--json"]),
     ("pack", packing, &["--output", "--quiet", "--json"]),
     ("unpack", packing, &["--output", "--quiet", "--json"]),
     ("covers", covers, &["--narrow", "--wide", "--packed", "--quiet", "--json"]),
     ("mend", mend, &["--output", "--quiet", "--json"]),
+    ("show", show, &["--list", "--path", "--packed", "--output", "--quiet"]),
     ("explain", explain, &[]),
 ];
 
@@ -81,7 +84,7 @@ struct Given {
 
 /// What the words ask for. The first is the command.
 pub fn read(mut words: impl Iterator<Item = OsString>) -> Result<Request, String> {
-    const WHICH: &str = "it is cut, check, batch, pack, unpack, covers, mend or explain";
+    const WHICH: &str = "it is cut, check, batch, pack, unpack, covers, mend, show or explain";
     let first = words.next().ok_or(format!("there is no command: {WHICH}"))?;
     match first.as_bytes() {
         b"help" | b"--help" | b"-h" => return Ok(Request::Help),
@@ -204,12 +207,23 @@ impl Given {
     }
 }
 
-fn cut(command: &str, given: Given) -> Result<Request, String> {
-    let paths = given.paths("cut wants a list: -l LIST, or -e PATH; by -l /dev/null the root alone is kept")?;
+/// The paths and the document of a command that cuts one.
+fn cutting(command: &str, given: &Given) -> Result<(Paths, Source), String> {
+    let paths = given.paths(&format!("{command} wants a list: -l LIST, or -e PATH; by -l /dev/null the root alone is kept"))?;
     let document = given.only(command, "document")?;
     if paths.list == Some(Source::Standard) && document == Source::Standard {
         return Err("the list and the document can't both come from the standard input".to_string());
     }
+    Ok((paths, document))
+}
+
+fn show(command: &str, given: Given) -> Result<Request, String> {
+    let (paths, document) = cutting(command, &given)?;
+    Ok(Request::Show(Showing { paths, document, output: given.output(), quiet: given.has("--quiet") }))
+}
+
+fn cut(command: &str, given: Given) -> Result<Request, String> {
+    let (paths, document) = cutting(command, &given)?;
     let (count, each) = (given.has("--count"), given.has("--each"));
     if (count || each) && given.has("--output") {
         return Err(format!("{} writes no cut, so it takes no --output", if count { "--count" } else { "--each" }));
@@ -245,7 +259,7 @@ fn batch(_: &str, given: Given) -> Result<Request, String> {
         }
         (None, _) => return Err("batch takes one batch, or with -d FOLDER documents".to_string()),
     };
-    Ok(Request::Batch(Post { paths, way, quiet: given.has("--quiet") }))
+    Ok(Request::Batch(Post { paths, way, quiet: given.has("--quiet"), json: given.has("--json") }))
 }
 
 /// Documents with the names of their cuts, of which no two are the same.
