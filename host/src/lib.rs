@@ -1,16 +1,17 @@
 //! The proved filter, for callers in Rust: functions on byte slices. `cut` writes into a lent buffer, as the library does; `cut_of` brings
 //! a buffer of its own; `check` judges a document alone. `plain` and `plain_of` cut by the plain engine, a second one to be read,
-//! and give the same numbers and bytes; they count no name tests. `batch` and `batch_of` cut many documents in one call. `pack` and
-//! `unpack` bring a list into its packed form and back, `covers` and `covers_of` compare two lists, `mend` and `mend_of` keep what is whole
-//! of a document that stops half way.
+//! and give the same numbers and bytes; they count no name tests. `batch` and `batch_of` cut many documents in one call; `four`,
+//! `four_with` and `four_of` cut one document for four clients. `pack` and `unpack` bring a list into its packed form and back, `covers`
+//! and `covers_of` compare two lists, `mend` and `mend_of` keep what is whole of a document that stops half way.
 //!
 //! The static library comes from Rattle. Its contract asks nothing of the lists and documents that it is given, and says of every byte of
 //! the buffer what it is afterwards. What a caller of the library's own function owes is that the buffer overlaps neither the list nor the
 //! document; here the types see to that, since `out` is borrowed for writing and the others for reading.
 //!
 //! Any number of threads may call at once: the library allocates nothing, and keeps nothing between calls. A call takes less than 96 KiB of
-//! stack, with a log that is lent less than 64, by the plain engine less than 192, and to mend less than 8. The functions in `_of` allocate
-//! their buffer, after they have looked at the length: for what is over a limit there is none.
+//! stack, with a log that is lent less than 64, by the plain engine less than 192, for four clients less than 384 and with logs that are
+//! lent less than 256, and to mend less than 8. The functions in `_of` allocate their buffer, after they have looked at the length: for
+//! what is over a limit there is none.
 //!
 //! ```
 //! let cut = choughbell::cut_of(b"//v\n", b"<g><p><v/></p></g>").unwrap();
@@ -23,6 +24,7 @@
 
 mod answer;
 mod bundle;
+mod four;
 #[cfg(test)]
 mod largest;
 mod mending;
@@ -30,6 +32,7 @@ mod packed;
 
 pub use answer::{Refusal, Written};
 pub use bundle::{bundle, entries};
+pub use four::{four, four_of, four_with};
 pub use mending::{mend, mend_of, Mended, MENDED_MORE};
 pub use packed::{pack, pack_of, unpack, unpack_of, PACKED_LIMIT};
 

@@ -6,6 +6,7 @@ mod attribute;
 mod batch;
 mod caret;
 mod check;
+mod clients;
 mod covers;
 mod each;
 mod explain;
@@ -45,6 +46,7 @@ fn main() -> ExitCode {
     };
     let (quiet, json) = match &request {
         Request::Task(task) => (task.quiet, task.json),
+        Request::Clients(clients) => (clients.quiet, clients.json),
         Request::Check(checking) => (checking.quiet, checking.json),
         Request::Batch(post) => (post.quiet, false),
         Request::Packing(packing) => (packing.quiet, packing.json),
@@ -72,6 +74,7 @@ fn main() -> ExitCode {
 fn answer(request: &Request) -> Result<u8, Trouble> {
     match request {
         Request::Task(task) => return task::run(task),
+        Request::Clients(clients) => return clients::run(clients),
         Request::Check(checking) => return check::run(checking),
         Request::Batch(post) => return batch::run(post),
         Request::Packing(packing) => return packing::run(packing),

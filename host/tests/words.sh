@@ -18,8 +18,7 @@ wrong 'no list' "$wanted" cut b.xml
 wrong 'a forgotten -l' "$wanted" cut v.lst b.xml
 wrong 'a list without a name' "--list wants a file's name" cut b.xml -l
 wrong 'an output without a name' "--output wants a file's name" cut -l v.lst b.xml --output
-wrong 'two lists' '--list is given twice' cut -l v.lst --list=v.lst b.xml
-wrong 'two outputs' '--output is given twice' cut -l v.lst -o x -o y b.xml
+wrong 'two outputs' '--output is given twice' mend -o x -o y b.xml
 wrong 'two documents' 'cut takes one document, and h.xml is a second' cut -l v.lst b.xml h.xml
 wrong 'standard input to check, two times' "two documents can't both come from the standard input" check - b.xml /dev/fd/0
 wrong 'each and output' '--each writes no cut, so it takes no --output' cut -l v.lst --each -o x b.xml

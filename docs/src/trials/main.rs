@@ -13,6 +13,7 @@
 mod batch;
 mod big;
 mod covers;
+mod four;
 mod fuzz;
 #[path = "../speed/gazetteer.rs"]
 mod gazetteer;
@@ -39,6 +40,7 @@ const CALLS: &[Trial] = &[
     ("packed", packed::packs, packed::fuzz),
     ("covers", covers::packs, covers::fuzz),
     ("mend", mend::packs, mend::fuzz),
+    ("four", four::packs, four::fuzz),
 ];
 
 fn main() {

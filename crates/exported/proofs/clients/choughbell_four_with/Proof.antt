@@ -37,7 +37,8 @@ same-length-8 c = search needs
 
 returns : tie.Need-returns
 returns c =
-    let said = c .before .before .before .before .before .before .before .before .before .before .before .before .before .before .before .before .before .four-with .ensures in (
+    let logs = c .before .before .before .before .before .before .before .before in
+    let said = logs .before .before .before .before .before .before .before .before .before .four-with .ensures in (
       results-same (c .results-of .ensures) (said .0) (said .1 .0) (said .1 .1 .0) (said .1 .1 .1 .0),
       (said .1 .1 .1 .1 .0, (said .1 .1 .1 .1 .1 .0, (said .1 .1 .1 .1 .1 .1 .0, said .1 .1 .1 .1 .1 .1 .1))),
     )
