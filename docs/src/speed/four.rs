@@ -71,11 +71,12 @@ fn main() {
 
 /// The medians of the four ways, which take turns. The buffers are cleared before the first round only: all ways write the same into them.
 fn timed(lists: [&[u8]; 4], doc: &[u8]) -> Vec<f64> {
-    let mut works: Vec<Work> = (0..WAYS.len()).map(|way| {
+    let asking = |way| {
         let mut outs = [(); 4].map(|()| vec![0; 2 * doc.len()]);
         let mut logs = [(); 4].map(|()| vec![0; NOTES]);
         work(move || ask(way, black_box(lists), black_box(doc), &mut outs, &mut logs))
-    }).collect();
+    };
+    let mut works: Vec<Work> = (0..WAYS.len()).map(asking).collect();
     // What is touched for the first time costs the system's time: not counted.
     works.iter_mut().for_each(|work| drop(work()));
     medians(&mut works)
