@@ -78,6 +78,8 @@ fn timed(lists: [&[u8]; 4], doc: &[u8]) -> Vec<f64> {
     };
     let mut works: Vec<Work> = (0..WAYS.len()).map(asking).collect();
     // What is touched for the first time costs the system's time: not counted.
-    works.iter_mut().for_each(|work| drop(work()));
+    for work in &mut works {
+        work();
+    }
     medians(&mut works)
 }
