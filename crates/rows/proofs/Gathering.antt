@@ -138,7 +138,8 @@ ahead d at Nothing h n = absurd (n refl)
 rest-by : (left : ℕ) (d : List ℕ) (at n : ℕ) → length d < left + at → at ≤ length d
     → (k : ℕ) × (left ≡ suc k)
     × (textOver n (tokensFrom left d at false)
-    ≡ partText (partOf (itemAt false d at)) n (part d at (endOf at (itemAt false d at))) (tokensFrom k d (endOf at (itemAt false d at)) false))
+    ≡ partText (partOf (itemAt false d at)) n (part d at (endOf at (itemAt false d at)))
+    (tokensFrom k d (endOf at (itemAt false d at)) false))
 unfolding tokensFrom
 rest-by zero d at n h i = absurd (omega arith)
 rest-by (suc k) d at n h i = (k, refl, over-part d at (itemAt false d at) n _)
@@ -228,7 +229,10 @@ module _ {d : List ℕ} {from : ℕ} {q : Bool} {o o₁ : List ℕ} {to i depth 
         done = v .done ++ saidOf (part d i e);
         left = k;
         enough = omega (arith, v .enough, l);
-        all = v .all ∙ ap (λ (y : List ℕ). v .done ++ y) (x ∙ aside-here p depth t z (part d i e) (tokensFrom k d e false)) ∙ sym (append-assoc (v .done) _ _);
+        all =
+            v .all
+            ∙ ap (λ (y : List ℕ). v .done ++ y) (x ∙ aside-here p depth t z (part d i e) (tokensFrom k d e false))
+            ∙ sym (append-assoc (v .done) _ _);
         laid = lays-more (v .laid) w;
         inside = m;
         deep = omega (arith, v .deep);

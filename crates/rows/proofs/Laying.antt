@@ -201,7 +201,8 @@ pub lined-over : {raw : List ℕ} {q : Bool} {o o₁ : List ℕ} {to at : ℕ} {
     → length raw ≤ i → Lays q o to (lines raw) (record { to = at; special = sp }) o₁ × (at ≤ to + 2 * length raw)
 unfolding linesFrom
 lined-over {raw} {after = after} {i = i} v h =
-    let e : lines raw ≡ v .done = v .all ∙ ap (λ (x : List ℕ). v .done ++ linesFrom after x) (drop-of-length-le raw h) ∙ append-nil (v .done) in
+    let e : lines raw ≡ v .done =
+    v .all ∙ ap (λ (x : List ℕ). v .done ++ linesFrom after x) (drop-of-length-le raw h) ∙ append-nil (v .done) in
     (rw e (v .laid), omega (arith, v .near, v .inside))
 
 pub ruleset lining = (lay-cr, lay-kept, lay-skipped, lined-start, lined-step, lined-over, needs)

@@ -1,5 +1,5 @@
--- A field, a path and a record, part by part: the field of a text that was searched first; the names joined, level by level; a path holds no
--- byte for which a field is quoted; a record.
+-- A field, a path and a record, part by part: the field of a text that was searched first; the names joined, level by level; that a path
+-- holds no byte for which a field is quoted; a record.
 use mathlib.Core.Path.{_≡_, refl, sym, ap, _∙_}
 use mathlib.Core.Bool.{Bool, true, false, cond, _||_}
 use mathlib.Core.List.{List, [], _∷_, _++_}
@@ -17,7 +17,8 @@ use Rattle.document.specs.Levels.{namesOf}
 use Rattle.writer.specs.Wrote.{Wrote}
 use Rattle.writer.proofs.Laying.{wrote-none, wrote-more, wrote-long}
 use Rattle.rows.specs.Field.{isSpecial, special, inner, quote, field, pathOf, record-of}
-use Rattle.rows.specs.Laid.{Lays, joint, PlainNames}
+use Rattle.rows.specs.Tokens.{textFrom}
+use Rattle.rows.specs.Laid.{Lays, joint, PlainNames, elementText}
 use Rattle.rows.specs.declared.field.Laid.{Laid}
 use Rattle.rows.proofs.Laying.{special-append}
 
@@ -128,6 +129,11 @@ plain-field : (s : List ℕ) → special s ≡ false → field s ≡ s ++ []
 unfolding field
 plain-field s e = rw e
 
+-- no text is an empty field
+field-none : {o : List ℕ} {at : ℕ} → Wrote o at (field []) at o
+unfolding field
+field-none = wrote-none
+
 -- ---- a record
 
 pub record-laid : (up : List Name) (s : List ℕ) {o o₁ o₂ o₃ o₄ : List ℕ} {to a b c e : ℕ} → special (pathOf up) ≡ false
@@ -135,5 +141,22 @@ pub record-laid : (up : List Name) (s : List ℕ) {o o₁ o₂ o₃ o₄ : List 
     → Wrote o to (record-of up s) e o₄
 unfolding record-of
 record-laid up s p w x y z = rw (plain-field (pathOf up) p) (wrote-more (wrote-more (wrote-more w wrote-none) (wrote-more x y)) z)
+
+-- of an element by its tag: its path is laid, and a comma
+module _ {d starts lens : List ℕ} {level : ℕ} (p : PlainNames d starts lens level) {o o₁ o₂ : List ℕ} {to a b : ℕ}
+    (w : Wrote o to (pathOf (namesOf d starts lens level)) a o₁ × (a ≤ to + 16448)) (x : Wrote o₁ a (0x2C ∷ []) b o₂) where
+  path-quiet : special (pathOf (namesOf d starts lens level)) ≡ false
+  path-quiet = path-plain p level (omega arith)
+
+  pub record-full : (end : ℕ) {m : Bool} {o₃ o₄ : List ℕ} {c e : ℕ} → m ≡ false
+      → Wrote o₂ b (field (textFrom 0 d end)) c o₃ × (c ≤ b + 134217730) → Wrote o₃ c (0xD ∷ 0xA ∷ []) e o₄
+      → Wrote o to (record-of (namesOf d starts lens level) (elementText m d end)) e o₄ × (e ≤ to + 268435456)
+  record-full end f (y, n) z =
+      (rw f (record-laid (namesOf d starts lens level) (textFrom 0 d end) path-quiet (w .0) x y z), omega (arith, w .1, x .long, z .long))
+
+  pub record-bare : (end : ℕ) {m : Bool} {o₃ : List ℕ} {e : ℕ} → m ≡ true → Wrote o₂ b (0xD ∷ 0xA ∷ []) e o₃
+      → Wrote o to (record-of (namesOf d starts lens level) (elementText m d end)) e o₃ × (e ≤ to + 268435456)
+  record-bare end f z =
+      (rw f (record-laid (namesOf d starts lens level) [] path-quiet (w .0) x field-none z), omega (arith, w .1, x .long, z .long))
 
 pub ruleset joined = (joined-start, joined-deep, joined-fits, joined-inside, joined-near, joined-step, joined-end, needs)

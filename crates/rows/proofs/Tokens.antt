@@ -37,7 +37,8 @@ over-records v (elem t kids close rest) up ts =
     let below = records v (t .name ∷ up) kids in
     let text : textOver 0 (tokens kids (finish close ∷ tokens rest ts)) ≡ textIn kids =
     over-text kids (finish close ∷ tokens rest ts) ∙ append-nil (textIn kids) in
-    let kin : recordsOver v (tokens kids (finish close ∷ tokens rest ts)) (t .name ∷ up) ≡ below ++ (records v up rest ++ recordsOver v ts up) =
+    let kin : recordsOver v (tokens kids (finish close ∷ tokens rest ts)) (t .name ∷ up)
+    ≡ below ++ (records v up rest ++ recordsOver v ts up) =
     over-records v kids (t .name ∷ up) (finish close ∷ tokens rest ts) ∙ ap (λ (x : List ℕ). below ++ x) (over-records v rest up ts) in
     rw (text, kin) (simp append-assoc)
 

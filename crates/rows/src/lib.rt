@@ -1,5 +1,5 @@
-// Records for a spreadsheet, laid into a buffer as far as it reaches: a field, what an item says, the text directly in an element, a record.
-// Which elements have one is not known here. What a record is stands in specs/Field.antt and specs/Text.antt.
+// Records for a spreadsheet, laid into a buffer as far as it reaches: a field, what an item says, the text directly in an element, a
+// record. Which elements have one is not known here. What a record is stands in specs/Field.antt and specs/Text.antt.
 //
 //     <p>Aar<!-- river -->&#44; <b>or</b> Aare</p>      g/p,"Aar,  Aare"      the field is quoted, for it holds a comma
 //        ^                                  ^

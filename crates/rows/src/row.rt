@@ -78,8 +78,8 @@ pub fn lay_record(
         × PlainNames (now doc) (now starts) (now lens) level × (to < 1152921504606846976) ⌝ }
     ensures { λ r.
         ⌜ Wrote (now (out .entry)) to
-        (record-of (namesOf (now (doc .entry)) (now (starts .entry)) (now (lens .entry)) level) (elementText empty (now (doc .entry)) end)) r
-        (now (out .exit)) ⌝ }
+        (record-of (namesOf (now (doc .entry)) (now (starts .entry)) (now (lens .entry)) level)
+        (elementText empty (now (doc .entry)) end)) r (now (out .exit)) ⌝ }
     ensures { λ r. ⌜ r ≤ to + 268435456 ⌝ }
 {
     let a = lay_path(doc, starts, lens, level, out, to);

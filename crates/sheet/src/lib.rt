@@ -12,16 +12,19 @@
 // length is counted in 64 bits.
 ghost use mathlib.Core.Path.{_≡_};
 ghost use mathlib.Core.Bool.{false};
-ghost use Prim.Native.Nat.{_≤_};
+ghost use Prim.Native.Nat.{_+_, _≤_, _<_};
 ghost use lib.ListN.{length, drop};
 ghost use Rattle.points.specs.Class.{classTable};
 ghost use Rattle.chars.specs.Check.{checkOf};
 ghost use Rattle.chars.specs.declared.whole.Checked.the-variants.{All};
 ghost use Rattle.readers.specs.Named.{otherEncoding};
 ghost use Rattle.document.specs.Judge.{startOf};
+ghost use Rattle.document.specs.Levels.{namesOf};
 ghost use Rattle.matcher.specs.Fit.{Serves};
+ghost use Rattle.trees.specs.Cut.{isSelected};
+ghost use Rattle.rows.specs.Laid.{PlainNames, elementText};
 ghost use Rattle.sheet.specs.Answer.{faultOf, answerBy, bytesBy, answerOf, bytesAfter};
-ghost use Rattle.sheet.specs.Passed.{Passed};
+ghost use Rattle.sheet.specs.Passed.{Started, Passed};
 use chars::whole::Checked;
 use chars::whole::check;
 use compiled::Compiled;
@@ -79,7 +82,9 @@ struct Run {
 }
 
 // "The mark # changes nothing here": whether an element has a record.
-fn is_selected(verdict: Verdict) -> bool {
+fn is_selected(verdict: Verdict) -> bool
+    ensures { λ r. ⌜ r ≡ isSelected verdict ⌝ }
+{
     match verdict {
         Verdict::Unselected => false,
         Verdict::Selected => true,
@@ -99,7 +104,13 @@ fn start(
     empty: bool,
     out: &mut [u8],
     run: Run,
-) -> Run {
+) -> Run
+    requires { ⌜ (now table ≡ classTable) × (length (now doc) ≤ 16777216) × (end ≤ length (now doc))
+        × PlainNames (now doc) (now starts) (now lens) (level + 1) × (run .to < 1152921504606846976) × (run .count < 16777216) ⌝ }
+    ensures { λ r.
+        ⌜ Started verdict (namesOf (now (doc .entry)) (now (starts .entry)) (now (lens .entry)) (level + 1))
+        (elementText empty (now (doc .entry)) end) (now (out .entry)) run r (now (out .exit)) ⌝ }
+{
     if is_selected(verdict) {
         let to = lay_record(table, doc, starts, lens, level + 1, end, empty, out, run.to);
         return Run {
@@ -134,7 +145,8 @@ fn pass(table: &Classes, list: &[u8], t: &Compiled, doc: &[u8], out: &mut [u8]) 
     loop {
         let seen = next_item(table, doc, &starts, &lens, opened, at, first);
         let next = seen.item;
-        match seen.placed {
+        let placed = seen.placed;
+        match placed {
             Placement::Fault(why) => {
                 return Outcome::Fault(why, at);
             }

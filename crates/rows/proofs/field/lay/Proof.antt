@@ -18,7 +18,9 @@ same-length c = search byting
 
 returns : tie.Need-returns
 returns c =
-    lay-twice (c .before .before .before .before .before .before .before .before .before .is-special .ensures) (c .before .before .before .before .before .before .before .before .if1 .taken) (c .before .before .before .before .before .before .put .ensures) (c .before .before .put2 .ensures)
+    lay-twice (c .before .before .before .before .before .before .before .before .before .is-special .ensures)
+    (c .before .before .before .before .before .before .before .before .if1 .taken)
+    (c .before .before .before .before .before .before .put .ensures) (c .before .before .put2 .ensures)
 
 put-requires-3 : tie.Need-put-requires-3
 put-requires-3 c κs = search byting

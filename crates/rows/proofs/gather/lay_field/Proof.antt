@@ -18,15 +18,25 @@ quote-requires c κs = search needs
 
 lay-text-requires-2 : tie.Need-lay-text-requires-2
 lay-text-requires-2 c κs =
-    let p = c .before .before .before .before .before .before .before .before .before .before .pre in
-    (p .0, p .1, p .2, omega (arith, quoted-near (c .before .before .before .before .before .before .lay-text .result .special) (c .before .before .before .quote .ensures), p .3))
+    let p = c .before .before .before .before .before .before .before .before .before .before .pre in (
+      p .0,
+      p .1,
+      p .2,
+      omega (
+        arith,
+        quoted-near (c .before .before .before .before .before .before .lay-text .result .special)
+            (c .before .before .before .quote .ensures),
+        p .3,
+      ),
+    )
 
 quote-requires-2 : tie.Need-quote-requires-2
 quote-requires-2 c κs =
     omega (
       arith,
       c .before .before .before .lay-text2 .ensures .1,
-      quoted-near (c .before .before .before .before .before .before .before .before .before .before .lay-text .result .special) (c .before .before .before .before .before .before .before .quote .ensures),
+      quoted-near (c .before .before .before .before .before .before .before .before .before .before .lay-text .result .special)
+          (c .before .before .before .before .before .before .before .quote .ensures),
       c .before .before .before .before .before .before .before .before .before .before .before .before .before .before .pre .3,
     )
 
@@ -35,8 +45,11 @@ same-length c = search needs
 
 returns : tie.Need-returns
 returns c =
-    let s = c .before .before .before .before .before .before .before .before .before .before .before .before .before .before .before .before .before .args in
-    field-laid (textFrom 0 (s .doc .now) (s .at)) (c .before .before .before .before .before .before .before .before .before .before .before .before .before .lay-text .ensures .0 .holds) (c .before .before .before .before .before .before .before .before .before .before .quote .ensures)
+    let s = c .before .before .before .before .before .before .before .before .before .before .before .before .before .before .before
+    .before .before .args in
+    field-laid (textFrom 0 (s .doc .now) (s .at)) (c .before .before .before .before .before .before .before .before .before .before .before
+    .before .before .lay-text .ensures .0 .holds) (c .before .before .before .before .before .before .before .before .before .before .quote
+    .ensures)
     (c .before .before .before .before .before .before .lay-text2 .ensures) (c .before .before .quote2 .ensures)
 
 pub lay-field-spec : {M : Type 1} → statement M

@@ -34,7 +34,8 @@ same-length-2 c = search encoding
 
 returns-2 : tie.Need-returns-2
 returns-2 c =
-    char-two (c .before .before .before .before .before .before .if1 .left) (c .before .before .before .before .before .if2 .taken) (c .before .before .before .before .later .ensures) (c .before .before .lay-two .ensures)
+    char-two (c .before .before .before .before .before .before .if1 .left) (c .before .before .before .before .before .if2 .taken)
+    (c .before .before .before .before .later .ensures) (c .before .before .lay-two .ensures)
 
 add-lay : tie.Need-add-lay
 add-lay c = search encoding
@@ -59,8 +60,12 @@ same-length-3 c = search encoding
 
 returns-3 : tie.Need-returns-3
 returns-3 c =
-    char-three (c .before .before .before .before .before .before .before .before .before .before .before .before .before .if2 .left) (c .before .before .before .before .before .before .before .before .before .before .before .before .if3 .taken) (c .before .before .before .before .before .before .before .later2 .ensures) (c .before .before .before .before .before .before .later3 .ensures)
-    (c .before .before .before .before .before .before .before .before .before .before .lay2 .ensures) (c .before .before .before .before .lay-two2 .ensures)
+    char-three (c .before .before .before .before .before .before .before .before .before .before .before .before .before .if2 .left)
+    (c .before .before .before .before .before .before .before .before .before .before .before .before .if3 .taken)
+    (c .before .before .before .before .before .before .before .later2 .ensures)
+    (c .before .before .before .before .before .before .later3 .ensures)
+    (c .before .before .before .before .before .before .before .before .before .before .lay2 .ensures)
+    (c .before .before .before .before .lay-two2 .ensures)
 
 add-lay-two-2 : tie.Need-add-lay-two-2
 add-lay-two-2 c = search encoding
@@ -88,8 +93,12 @@ same-length-4 c = search encoding
 
 returns-4 : tie.Need-returns-4
 returns-4 c =
-    char-four (c .before .before .before .before .before .before .before .before .before .before .before .before .before .if3 .left) (c .before .before .before .before .before .before .before .before .before .before .before .before .later4 .ensures) (c .before .before .before .before .before .before .before .later5 .ensures) (c .before .before .before .before .before .before .later6 .ensures)
-    (c .before .before .before .before .before .before .before .before .before .before .lay-two3 .ensures) (c .before .before .before .before .lay-two4 .ensures)
+    char-four (c .before .before .before .before .before .before .before .before .before .before .before .before .before .if3 .left)
+    (c .before .before .before .before .before .before .before .before .before .before .before .before .later4 .ensures)
+    (c .before .before .before .before .before .before .before .later5 .ensures)
+    (c .before .before .before .before .before .before .later6 .ensures)
+    (c .before .before .before .before .before .before .before .before .before .before .lay-two3 .ensures)
+    (c .before .before .before .before .lay-two4 .ensures)
 
 pub lay-char-spec : {M : Type 1} → statement M
 lay-char-spec =

@@ -29,7 +29,8 @@ same-length-2 c = search lining
 returns-3 : tie.Need-returns-3
 returns-3 c =
     let s = c .before .before .before .before .before .before .before .args in
-    lay-kept (s .after) (s .b) (c .before .before .before .before .before .if1 .left) (c .before .before .before .before .if2 .left) (c .before .before .lay2 .ensures)
+    lay-kept (s .after) (s .b) (c .before .before .before .before .before .if1 .left) (c .before .before .before .before .if2 .left)
+    (c .before .before .lay2 .ensures)
 
 pub lay-line-spec : {M : Type 1} → statement M
 lay-line-spec =

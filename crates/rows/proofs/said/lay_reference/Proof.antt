@@ -21,10 +21,13 @@ same-length c = search referring
 
 returns : tie.Need-returns
 returns c =
-    says-laid (c .before .before .before .before .before .before .before .before .before .before .args .raw .now) (c .before .before .before .before .before .before .before .reference .ensures) (c .before .before .before .before .before .c .given .1) (c .before .before .lay-char .ensures)
+    says-laid (c .before .before .before .before .before .before .before .before .before .before .args .raw .now)
+    (c .before .before .before .before .before .before .before .reference .ensures) (c .before .before .before .before .before .c .given .1)
+    (c .before .before .lay-char .ensures)
 
 returns-2 : tie.Need-returns-2
-returns-2 c = says-fault (c .before .before .before .before .before .args .raw .now) (c .before .before .reference .ensures) (c .enum-told .given .1)
+returns-2 c = says-fault (c .before .before .before .before .before .args .raw .now) (c .before .before .reference .ensures)
+    (c .enum-told .given .1)
 
 pub lay-reference-spec : {M : Type 1} → statement M
 lay-reference-spec =

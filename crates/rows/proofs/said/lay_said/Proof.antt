@@ -18,7 +18,9 @@ same-length c = search itemising
 
 returns : tie.Need-returns
 returns c =
-    said-section (c .before .before .before .before .before .before .before .before .before .args .raw .now) (c .before .before .before .before .before .stands .ensures) (c .before .before .before .before .if1 .taken) (c .before .before .lay-section .ensures)
+    said-section (c .before .before .before .before .before .before .before .before .before .args .raw .now)
+    (c .before .before .before .before .before .stands .ensures) (c .before .before .before .before .if1 .taken)
+    (c .before .before .lay-section .ensures)
 
 slice-aggregate-stands-2 : tie.Need-slice-aggregate-stands-2
 slice-aggregate-stands-2 c = search itemising
@@ -28,7 +30,9 @@ stands-requires-2 c κs = search itemising
 
 returns-2 : tie.Need-returns-2
 returns-2 c =
-    said-markup (c .before .before .before .before .before .before .before .before .args .raw .now) (c .before .before .before .before .stands .ensures) (c .before .before .before .if1 .left) (c .before .stands2 .ensures) (c .if2 .taken)
+    said-markup (c .before .before .before .before .before .before .before .before .args .raw .now)
+    (c .before .before .before .before .stands .ensures) (c .before .before .before .if1 .left) (c .before .stands2 .ensures)
+    (c .if2 .taken)
 
 slice-aggregate-stands-3 : tie.Need-slice-aggregate-stands-3
 slice-aggregate-stands-3 c = search itemising
@@ -44,8 +48,12 @@ same-length-2 c = search itemising
 
 returns-3 : tie.Need-returns-3
 returns-3 c =
-    said-reference (c .before .before .before .before .before .before .before .before .before .before .before .before .before .before .before .args .raw .now) (c .before .before .before .before .before .before .before .before .before .before .before .stands .ensures) (c .before .before .before .before .before .before .before .before .before .before .if1 .left) (c .before .before .before .before .before .before .before .before .stands2 .ensures)
-    (c .before .before .before .before .before .before .before .if2 .left) (c .before .before .before .before .before .stands3 .ensures) (c .before .before .before .before .if3 .taken) (c .before .before .lay-reference .ensures)
+    said-reference (c .before .before .before .before .before .before .before .before .before .before .before .before .before .before
+    .before .args .raw .now) (c .before .before .before .before .before .before .before .before .before .before .before .stands .ensures)
+    (c .before .before .before .before .before .before .before .before .before .before .if1 .left)
+    (c .before .before .before .before .before .before .before .before .stands2 .ensures)
+    (c .before .before .before .before .before .before .before .if2 .left) (c .before .before .before .before .before .stands3 .ensures)
+    (c .before .before .before .before .if3 .taken) (c .before .before .lay-reference .ensures)
 
 lay-lines-requires : tie.Need-lay-lines-requires
 lay-lines-requires c κs = search itemising
@@ -55,8 +63,12 @@ same-length-3 c = search itemising
 
 returns-4 : tie.Need-returns-4
 returns-4 c =
-    said-text (c .before .before .before .before .before .before .before .before .before .before .before .before .before .before .before .args .raw .now) (c .before .before .before .before .before .before .before .before .before .before .before .stands .ensures) (c .before .before .before .before .before .before .before .before .before .before .if1 .left) (c .before .before .before .before .before .before .before .before .stands2 .ensures)
-    (c .before .before .before .before .before .before .before .if2 .left) (c .before .before .before .before .before .stands3 .ensures) (c .before .before .before .before .if3 .left) (c .before .before .lay-lines .ensures)
+    said-text (c .before .before .before .before .before .before .before .before .before .before .before .before .before .before .before
+    .args .raw .now) (c .before .before .before .before .before .before .before .before .before .before .before .stands .ensures)
+    (c .before .before .before .before .before .before .before .before .before .before .if1 .left)
+    (c .before .before .before .before .before .before .before .before .stands2 .ensures)
+    (c .before .before .before .before .before .before .before .if2 .left) (c .before .before .before .before .before .stands3 .ensures)
+    (c .before .before .before .before .if3 .left) (c .before .before .lay-lines .ensures)
 
 pub lay-said-spec : {M : Type 1} → statement M
 lay-said-spec =

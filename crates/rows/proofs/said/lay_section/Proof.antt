@@ -29,7 +29,8 @@ same-length c = search sectioning
 
 returns-2 : tie.Need-returns-2
 returns-2 c =
-    section-laid (c .before .before .before .before .before .before .before .before .args .raw .now) (c .before .before .before .before .before .if1 .left) refl (c .before .before .lay-lines .ensures)
+    section-laid (c .before .before .before .before .before .before .before .before .args .raw .now)
+    (c .before .before .before .before .before .if1 .left) refl (c .before .before .lay-lines .ensures)
 
 pub lay-section-spec : {M : Type 1} → statement M
 lay-section-spec =

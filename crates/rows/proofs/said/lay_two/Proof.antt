@@ -15,7 +15,8 @@ same-length c = search pairing
 
 returns : tie.Need-returns
 returns c =
-    lays-two (c .before .before .before .before .before .before .before .before .lay .ensures) (c .before .before .before .before .lay2 .ensures)
+    lays-two (c .before .before .before .before .before .before .before .before .lay .ensures)
+    (c .before .before .before .before .lay2 .ensures)
 
 pub lay-two-spec : {M : Type 1} → statement M
 lay-two-spec = tie.close (tie.spec lay-requires lay-requires-2 same-length returns)
