@@ -24,6 +24,8 @@ void rattle_choughbell_four_with(const uint8_t *list1, size_t list1_len, const u
                                  uint64_t *log3, size_t log3_len, uint64_t *log4, size_t log4_len, four_numbers *results);
 void *rattle_choughbell_batch(three_numbers *result, const uint8_t *list, size_t list_len, const uint8_t *batch, size_t batch_len,
                               uint8_t *out, size_t out_len);
+void *rattle_choughbell_rows(three_numbers *result, const uint8_t *list, size_t list_len, const uint8_t *doc, size_t doc_len, uint8_t *out,
+                             size_t out_len);
 void *rattle_choughbell_judge(three_numbers *result, const uint8_t *doc, size_t doc_len);
 void *rattle_choughbell_covers(three_numbers *result, const uint8_t *narrow, size_t narrow_len, const uint8_t *wide, size_t wide_len);
 size_t rattle_choughbell_characters(const uint8_t *s, size_t s_len);
@@ -77,6 +79,13 @@ three_numbers choughbell_batch(const uint8_t *list, size_t list_len, const uint8
 {
     three_numbers result;
     rattle_choughbell_batch(&result, list, list_len, batch, batch_len, out, out_len);
+    return result;
+}
+
+three_numbers choughbell_rows(const uint8_t *list, size_t list_len, const uint8_t *doc, size_t doc_len, uint8_t *out, size_t out_len)
+{
+    three_numbers result;
+    rattle_choughbell_rows(&result, list, list_len, doc, doc_len, out, out_len);
     return result;
 }
 

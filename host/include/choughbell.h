@@ -1,4 +1,4 @@
-/* The proved filter, for callers in C: twelve functions of a static library, choughbell 0.3.0. Link with -lchoughbell, or with
+/* The proved filter, for callers in C: thirteen functions of a static library, choughbell 0.3.0. Link with -lchoughbell, or with
  * target/native/libexported.a as `make library` leaves it. They allocate nothing, keep nothing between calls and call nothing but memset
  * and memcpy, so threads may call them at once. A call takes less than 96 KiB of stack; one with a log that is lent less than 64; mending
  * less than 8; one for four clients less than 384, with logs that are lent less than 256.
@@ -133,6 +133,18 @@ void choughbell_four_with(const uint8_t *list1, size_t list1_len, const uint8_t 
  * 9, and each document is gone through once; else a second time, to measure. `out` overlaps neither `list` nor `batch`. */
 struct choughbell_numbers choughbell_batch(const uint8_t *list, size_t list_len, const uint8_t *batch, size_t batch_len, uint8_t *out,
                                            size_t out_len);
+
+/* Writes a table for a spreadsheet to the front of `out`: RFC 4180 records, each ended by CR LF. First the header `path,text`, then one
+ * record for each element that the list selects, in the order of start tags: the names from the root joined by `/`, and the text directly
+ * in the element, CDATA content included, literal CR LF and CR made LF, references replaced. A field is quoted exactly when it holds a
+ * comma, a quote, CR or LF, and quotes inside are doubled. The mark # changes nothing here.
+ *
+ * Under 0 the second number is the length written and the third how many elements are selected, and the bytes after the table stay as they
+ * were. It is else refused as a cut is, and the whole of `out` stays; 9 has the length of the whole table, which may be far longer than the
+ * document, and over 2^32. A text may go on behind children, so a selected element is read on to its end tag: the time is at most that of
+ * depth times bytes. */
+struct choughbell_numbers choughbell_rows(const uint8_t *list, size_t list_len, const uint8_t *doc, size_t doc_len, uint8_t *out,
+                                          size_t out_len);
 
 /* The numbers of a document alone, as above: 4 to 8 or 10 with the second number, or 0 where the document is sound, and then the second
  * number is 0 too. The third is 0. A sound document is cut by every sound list, in a room that suffices. */

@@ -7,6 +7,8 @@ choughbell cuts XML by a list of paths, by a filter that is proved.
 
   choughbell cut -l LIST [DOCUMENT] [-o OUTPUT]   the cut of a document by a list
   choughbell cut {-l LIST -o OUTPUT}.. [DOCUMENT] up to four cuts of it in one reading
+  choughbell rows -l LIST [DOCUMENT] [-o OUTPUT]  a table for a spreadsheet: path and text of
+                                                  each element that the list selects
   choughbell check [DOCUMENT]..                   whether documents would be taken
   choughbell batch -l LIST -d FOLDER DOCUMENT..   the cuts of many documents, into a folder
   choughbell batch -l LIST [BATCH] [-o OUTPUT]    the same from a batch file to another

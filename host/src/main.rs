@@ -25,6 +25,7 @@ mod report;
 mod shown;
 #[allow(unsafe_code)]
 mod system;
+mod table;
 mod task;
 mod trouble;
 mod usage;
@@ -52,6 +53,7 @@ fn main() -> ExitCode {
         Request::Packing(packing) => (packing.quiet, packing.json),
         Request::Covers(asked) => (asked.quiet, asked.json),
         Request::Mend(task) => (task.quiet, task.json),
+        Request::Rows(table) => (table.quiet, table.json),
         _ => (false, false),
     };
     match answer(&request) {
@@ -80,6 +82,7 @@ fn answer(request: &Request) -> Result<u8, Trouble> {
         Request::Packing(packing) => return packing::run(packing),
         Request::Covers(asked) => return covers::run(asked),
         Request::Mend(task) => return mend::run(task),
+        Request::Rows(table) => return table::run(table),
         Request::Explain(text) => output::print(text)?,
         Request::Help => output::print(help::HELP)?,
         Request::Version => output::print(help::VERSION)?,

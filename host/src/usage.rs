@@ -11,6 +11,7 @@ use crate::output::Sink;
 use crate::packing::Packing;
 use crate::paths::Paths;
 use crate::shown;
+use crate::table::Table;
 use crate::task::Task;
 use std::collections::HashSet;
 use std::ffi::{OsStr, OsString};
@@ -26,6 +27,7 @@ pub enum Request {
     Packing(Packing),
     Covers(Asked),
     Mend(Mending),
+    Rows(Table),
     /// The text on a number, or the list of all.
     Explain(String),
     Help,
@@ -63,8 +65,9 @@ const OPTIONS: [Known; 14] = [
 
 /// The commands, what reads the rest of their words, and which options they take besides `--help` and `--version`.
 type Reading = fn(&str, Given) -> Result<Request, String>;
-const COMMANDS: [(&str, Reading, &[&str]); 8] = [
+const COMMANDS: [(&str, Reading, &[&str]); 9] = [
     ("cut", cut, &["--list", "--path", "--packed", "--output", "--count", "--each", "--plain", "--quiet", "--json"]),
+    ("rows", rows, &["--list", "--path", "--packed", "--output", "--quiet", "--json"]),
     ("check", check, &["--quiet", "--json"]),
     ("batch", batch, &["--list", "--path", "--packed", "--output", "--folder", "--quiet"]),
     ("pack", packing, &["--output", "--quiet", "--json"]),
@@ -86,7 +89,7 @@ struct Given {
 
 /// What the words ask for. The first is the command.
 pub fn read(mut words: impl Iterator<Item = OsString>) -> Result<Request, String> {
-    const WHICH: &str = "it is cut, check, batch, pack, unpack, covers, mend or explain";
+    const WHICH: &str = "it is cut, rows, check, batch, pack, unpack, covers, mend or explain";
     let first = words.next().ok_or(format!("there is no command: {WHICH}"))?;
     match first.as_bytes() {
         b"help" | b"--help" | b"-h" => return Ok(Request::Help),
@@ -217,6 +220,8 @@ impl Given {
     }
 }
 
+const BOTH: &str = "the list and the document can't both come from the standard input";
+
 fn cut(command: &str, given: Given) -> Result<Request, String> {
     if given.again().next().is_some() {
         return clients(command, given);
@@ -224,7 +229,7 @@ fn cut(command: &str, given: Given) -> Result<Request, String> {
     let paths = given.paths("cut wants a list: -l LIST, or -e PATH; by -l /dev/null the root alone is kept")?;
     let document = given.only(command, "document")?;
     if paths.list == Some(Source::Standard) && document == Source::Standard {
-        return Err("the list and the document can't both come from the standard input".to_string());
+        return Err(BOTH.to_string());
     }
     let (count, each) = (given.has("--count"), given.has("--each"));
     if (count || each) && given.has("--output") {
@@ -233,6 +238,16 @@ fn cut(command: &str, given: Given) -> Result<Request, String> {
     let output = Some(given.output()).filter(|_| !count && !each);
     let (plain, quiet, json) = (given.has("--plain"), given.has("--quiet"), given.has("--json"));
     Ok(Request::Task(Task { paths, document, output, count, each, plain, quiet, json }))
+}
+
+fn rows(command: &str, given: Given) -> Result<Request, String> {
+    let paths = given.paths("rows wants a list: -l LIST, or -e PATH")?;
+    let document = given.only(command, "document")?;
+    if paths.list == Some(Source::Standard) && document == Source::Standard {
+        return Err(BOTH.to_string());
+    }
+    let (output, quiet, json) = (given.output(), given.has("--quiet"), given.has("--json"));
+    Ok(Request::Rows(Table { paths, document, output, quiet, json }))
 }
 
 /// Several lists, each with its output behind it. Paths stand in place of a list, or behind it and before its output.

@@ -85,7 +85,7 @@ fn mend_takes_a_document_and_an_output() {
 #[test]
 fn wrong_words_are_told() {
     let wrong = |words: &[&str]| asked(words).unwrap_err();
-    assert_eq!(wrong(&[]), "there is no command: it is cut, check, batch, pack, unpack, covers, mend or explain");
+    assert_eq!(wrong(&[]), "there is no command: it is cut, rows, check, batch, pack, unpack, covers, mend or explain");
     assert_eq!(wrong(&["cut", "m"]), "cut wants a list: -l LIST, or -e PATH; by -l /dev/null the root alone is kept");
     assert_eq!(wrong(&["cut", "-l"]), "--list wants a file's name");
     assert_eq!(wrong(&["batch", "-la", "-lb"]), "--list is given twice");
@@ -197,4 +197,19 @@ fn several_lists_have_an_output_each() {
     let five = ["cut", "m", "-l1", "-op", "-l2", "-oq", "-l3", "-or", "-l4", "-os", "-l5", "-ot"];
     assert_eq!(wrong(&five), "cut serves four lists at most, and these are 5");
     assert_eq!(clients(&five[..10]).clients.len(), 4);
+}
+
+#[test]
+fn rows_take_a_list_a_document_and_an_output() {
+    let paths = |list, more: &[&str]| Paths { list, packed: false, more: more.iter().map(|path| path.as_bytes().to_vec()).collect() };
+    let table = |paths, document, output| Ok(Request::Rows(Table { paths, document, output, quiet: false, json: false }));
+    let expected = table(paths(Some(file("a")), &[]), file("m"), Sink::File(PathBuf::from("o")));
+    assert_eq!(asked(&["rows", "-la", "m", "-oo"]), expected);
+    assert_eq!(asked(&["rows", "-e", "//v"]), table(paths(None, &["//v"]), Source::Standard, Sink::Standard));
+    assert!(matches!(asked(&["rows", "-la", "--packed", "--json"]), Ok(Request::Rows(Table { json: true, .. }))));
+    let wrong = |words: &[&str]| asked(words).unwrap_err();
+    assert_eq!(wrong(&["rows", "m"]), "rows wants a list: -l LIST, or -e PATH");
+    assert_eq!(wrong(&["rows", "-l-"]), "the list and the document can't both come from the standard input");
+    assert_eq!(wrong(&["rows", "-la", "--count"]), "rows takes no --count");
+    assert_eq!(wrong(&["rows", "-la", "-op", "-lb", "-oq"]), "--list is given twice");
 }

@@ -1,5 +1,5 @@
 /* stack LIST DOCUMENT: whether a cut, one with a log that is lent, one by the plain engine, a batch of that document, the check of two
- * lists, mending, and four clients without and with logs take less stack than the header says. Each call runs on a stack of its own, which
+ * lists, mending, rows, and four clients without and with logs take less stack than the header says. Each call runs on a stack of its own, which
  * is painted before; afterwards the paint that is left tells how deep it went. Prints the number and that it was less; the exit status is 0
  * where all were. */
 #define _GNU_SOURCE
@@ -71,6 +71,12 @@ static void call_mend(void)
     numbers = choughbell_mend(doc, doc_len, out, sizeof out);
 }
 
+static void call_rows(void)
+{
+    struct choughbell_numbers three = choughbell_rows(list, list_len, doc, doc_len, out, sizeof out);
+    numbers.number = three.number;
+}
+
 /* The number of four clients is that of the first that is refused. */
 static void first_of(const struct choughbell_four_numbers results[4])
 {
@@ -135,6 +141,7 @@ int main(int argc, char **argv)
     wrong |= takes(call_batch, SAID);
     wrong |= takes(call_covers, SAID);
     wrong |= takes(call_mend, SAID_MEND);
+    wrong |= takes(call_rows, SAID);
     wrong |= takes(call_four, SAID_FOUR);
     wrong |= takes(call_four_with, SAID_FOUR_WITH);
     return wrong;
