@@ -62,9 +62,9 @@ pub enum Outcome {
 }
 
 // An item, and whether it may stand at its place.
-struct Next {
-    item: Item,
-    placed: Placement,
+pub struct Next {
+    pub item: Item,
+    pub placed: Placement,
 }
 
 // Inside an element, the item that begins with `<`, where it is a usual one: an end tag of the element's name, which is compared with it
@@ -178,7 +178,7 @@ fn usual(
 }
 
 // The item at a place, and whether it may stand there. Those that `usual` does not tell are read and placed.
-fn next_item(
+pub fn next_item(
     table: &Classes,
     doc: &[u8],
     starts: &[usize; Open::LEVELS],
@@ -209,7 +209,7 @@ fn next_item(
 // What the list says of an element of this row, where `plain` is what it says by the name alone. Where the steps of no path select it, or
 // no path has a test (`tested`), its attributes are not looked at; else the tests of the paths that select it are tried, and the matcher
 // is handed which of them pass. Attributes stand in the tag, from behind the name, which has so many bytes, to the end of the head.
-fn judged(
+pub fn judged(
     table: &Classes,
     list: &[u8],
     t: &Compiled,
