@@ -3,6 +3,7 @@ use crate::each;
 use crate::input::Source;
 use crate::output::{self, Sink};
 use crate::paths::Paths;
+use crate::progress;
 use crate::report::{self, Read};
 use crate::say;
 use crate::trouble::Trouble;
@@ -25,7 +26,7 @@ pub fn run(table: &Table) -> Result<u8, Trouble> {
         Ok(text) => text,
         Err(refusal) => return refused(table, refusal, &list, &document),
     };
-    match choughbell::rows_of(&list.bytes, &document.bytes) {
+    match progress::during("writing rows", || choughbell::rows_of(&list.bytes, &document.bytes)) {
         Ok(rows) => written(table, &rows, &list, &document).map(|()| 0),
         Err(refusal) => refused(table, refusal, &list, &document),
     }
