@@ -2,7 +2,7 @@
 
 RUST = docs/src
 
-.PHONY: expected cases peers tables wrong packs big fuzz suite x86-packs x86-limits x86-trials speed post count parsers
+.PHONY: expected cases peers tables wrong packs big fuzz suite x86-packs x86-limits x86-trials speed post four count parsers
 
 # The outputs that programs are held to are those of ordinary Rust, which shares nothing with the Rattle source. They are made again, the
 # packed cases too, and compared, as are the sums of the answers of the other calls; the suite's verdicts are held against the second
@@ -50,11 +50,13 @@ peers: $(MADE)/peers
 	    echo 'missing: an XML processor to compare with. Install the Debian packages rxp and libxml2-utils.'; exit 1; }
 	$(MADE)/peers $(VECTORS)/data
 
-# Tables read back by Python's csv, their texts held against expat.
-tables: $(MADE)/vectors
+# Tables read back by Python's csv, their texts held against expat: those of the second program, and those of the library.
+tables: $(MADE)/vectors $(MADE)/trials
 	rm -rf $(MADE)/tables
-	$(MADE)/vectors tables $(MADE)/tables
-	python3 $(RUST)/peers/tables.py $(MADE)/tables
+	$(MADE)/vectors tables $(MADE)/tables/second
+	$(MADE)/trials tables $(MADE)/tables/library
+	python3 $(RUST)/peers/tables.py $(MADE)/tables/second
+	python3 $(RUST)/peers/tables.py $(MADE)/tables/library
 
 # The gate's wrong programs on the packed cases, by the source read as Rust, with index checks.
 wrong: $(MADE)/libvectors.rlib
@@ -104,7 +106,7 @@ x86-trials: x86-library
 # The library as the toolchain compiles it, for the machine at hand, and the crates' source, read as Rust. UNCHECKED= leaves index checks in
 # there. One unit, so that what is inlined does not go by modules.
 TIMED = utf8 points blocks words chars paths lookup compiled matcher recall covers scans plain references values instructions tags items \
-    quick normal attribute tests document writer packed notes output passes cutter descent bundle batch mend exported
+    quick normal attribute tests document writer packed notes output passes cutter four descent bundle batch mend rows sheet exported
 UNCHECKED = --unchecked
 WHAT = characters matcher cut
 
@@ -123,6 +125,11 @@ speed: rust parsers $(MADE)/libchoughbell.rlib $(MADE)/libbaseline.rlib
 post: rust $(MADE)/libchoughbell.rlib
 	rustc --edition 2021 -O -L $(MADE) --extern choughbell=$(MADE)/libchoughbell.rlib -o $(MADE)/post $(RUST)/speed/post.rs
 	$(MADE)/post
+
+# Four clients in one call, beside four single calls.
+four: rust $(MADE)/libchoughbell.rlib
+	rustc --edition 2021 -O -L $(MADE) --extern choughbell=$(MADE)/libchoughbell.rlib -o $(MADE)/four $(RUST)/speed/four.rs
+	$(MADE)/four
 
 # Instructions a byte, by Debian's valgrind.
 count: rust parsers $(MADE)/libchoughbell.rlib $(MADE)/libbaseline.rlib

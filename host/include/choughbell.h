@@ -1,7 +1,7 @@
-/* The proved filter, for callers in C: ten functions of a static library, choughbell 0.3.0. Link with -lchoughbell, or with
+/* The proved filter, for callers in C: thirteen functions of a static library, choughbell 0.3.0. Link with -lchoughbell, or with
  * target/native/libexported.a as `make library` leaves it. They allocate nothing, keep nothing between calls and call nothing but memset
  * and memcpy, so threads may call them at once. A call takes less than 96 KiB of stack; one with a log that is lent less than 64; mending
- * less than 8.
+ * less than 8; one for four clients less than 384, with logs that are lent less than 256.
  *
  * A byte slice is passed as a pointer and a length. What the caller owes, and nothing else is asked:
  *   - each pointer leads to as many bytes as its length says, and is not null, also where the length is 0;
@@ -104,6 +104,24 @@ struct choughbell_four_numbers choughbell_cut_with(const uint8_t *list, size_t l
 struct choughbell_numbers choughbell_plain(const uint8_t *list, size_t list_len, const uint8_t *doc, size_t doc_len, uint8_t *out,
                                            size_t out_len);
 
+/* Cuts one document for four clients, each with a list and an output of its own, in one call. results[0] to results[3] are filled with the
+ * numbers of the clients, in their order. What a client gets, its four numbers and every byte of its output, is what choughbell_cut gives
+ * for its list, the document and its output alone, which is proved: nothing of the other three is seen in it. So a fault in the document
+ * reaches each client whose list is sound, and a fault in a list or too little room its owner only. A seat that is not used has an empty
+ * list, and no room is needed for it: its number is then 9. The lists and the document may be the same bytes; the outputs and `results`
+ * overlap nothing else. */
+void choughbell_four(const uint8_t *list1, size_t list1_len, const uint8_t *list2, size_t list2_len, const uint8_t *list3,
+                     size_t list3_len, const uint8_t *list4, size_t list4_len, const uint8_t *doc, size_t doc_len, uint8_t *out1,
+                     size_t out1_len, uint8_t *out2, size_t out2_len, uint8_t *out3, size_t out3_len, uint8_t *out4, size_t out4_len,
+                     struct choughbell_four_numbers results[4]);
+
+/* The same, with a log for each client that the caller lends, as choughbell_cut_with has one. They overlap nothing else. */
+void choughbell_four_with(const uint8_t *list1, size_t list1_len, const uint8_t *list2, size_t list2_len, const uint8_t *list3,
+                          size_t list3_len, const uint8_t *list4, size_t list4_len, const uint8_t *doc, size_t doc_len, uint8_t *out1,
+                          size_t out1_len, uint8_t *out2, size_t out2_len, uint8_t *out3, size_t out3_len, uint8_t *out4, size_t out4_len,
+                          uint64_t *log1, size_t log1_len, uint64_t *log2, size_t log2_len, uint64_t *log3, size_t log3_len,
+                          uint64_t *log4, size_t log4_len, struct choughbell_four_numbers results[4]);
+
 /* Cuts each document of a batch by one list, and writes the result to the front of `out`. A batch is the byte 1, then for each document its
  * length, four bytes with the highest first, and its bytes. The result has the same layout, with the cut of each document, or length 0
  * where the document is refused by 4 to 8 or 10 (a cut is never empty): an entry is what choughbell_cut writes for the document alone.
@@ -115,6 +133,18 @@ struct choughbell_numbers choughbell_plain(const uint8_t *list, size_t list_len,
  * 9, and each document is gone through once; else a second time, to measure. `out` overlaps neither `list` nor `batch`. */
 struct choughbell_numbers choughbell_batch(const uint8_t *list, size_t list_len, const uint8_t *batch, size_t batch_len, uint8_t *out,
                                            size_t out_len);
+
+/* Writes a table for a spreadsheet to the front of `out`: RFC 4180 records, each ended by CR LF. First the header `path,text`, then one
+ * record for each element that the list selects, in the order of start tags: the names from the root joined by `/`, and the text directly
+ * in the element, CDATA content included, literal CR LF and CR made LF, references replaced. A field is quoted exactly when it holds a
+ * comma, a quote, CR or LF, and quotes inside are doubled. The mark # changes nothing here.
+ *
+ * Under 0 the second number is the length written and the third how many elements are selected, and the bytes after the table stay as they
+ * were. It is else refused as a cut is, and the whole of `out` stays; 9 has the length of the whole table, which may be far longer than the
+ * document, and over 2^32. A text may go on behind children, so a selected element is read on to its end tag: the time is at most that of
+ * depth times bytes. */
+struct choughbell_numbers choughbell_rows(const uint8_t *list, size_t list_len, const uint8_t *doc, size_t doc_len, uint8_t *out,
+                                          size_t out_len);
 
 /* The numbers of a document alone, as above: 4 to 8 or 10 with the second number, or 0 where the document is sound, and then the second
  * number is 0 too. The third is 0. A sound document is cut by every sound list, in a room that suffices. */

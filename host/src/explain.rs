@@ -41,7 +41,8 @@ the list selects, those inside a kept entry too. The fourth is how many name tes
 tried: one for each element and each step of each line that could stand there after the
 steps before it. It is at most elements times steps.
 Under `check` 0 says that the document is sound; the other numbers are 0. Under `mend` the
-third is how many bytes are kept, the fourth how many end tags are added.
+third is how many bytes are kept, the fourth how many end tags are added. Under `rows` the
+second is the length of the table, and there is no fourth.
 ";
 
 const ONE: &str = "\
@@ -125,7 +126,9 @@ const NINE: &str = "\
 9: the output is shorter than the cut; the second number is the length needed.
 This answer is for programs that call the library with a buffer of their own: call again
 with one that long. A cut of a document of n bytes has at most 2n - 1, as is proved. The
-command takes as much, so it always has room enough.
+command takes as much, so it always has room enough. The table of `rows` may be far longer
+than its document: there 9 says that there is no memory for it. Select less, and call
+again for the rest.
 ";
 
 const TEN: &str = "\

@@ -6,6 +6,9 @@ pub const HELP: &str = "\
 choughbell cuts XML by a list of paths, by a filter that is proved.
 
   choughbell cut -l LIST [DOCUMENT] [-o OUTPUT]   the cut of a document by a list
+  choughbell cut {-l LIST -o OUTPUT}.. [DOCUMENT] up to four cuts of it in one reading
+  choughbell rows -l LIST [DOCUMENT] [-o OUTPUT]  a table for a spreadsheet: path and text of
+                                                  each element that the list selects
   choughbell check [DOCUMENT]..                   whether documents would be taken
   choughbell batch -l LIST -d FOLDER DOCUMENT..   the cuts of many documents, into a folder
   choughbell batch -l LIST [BATCH] [-o OUTPUT]    the same from a batch file to another
@@ -26,7 +29,8 @@ A file that is not named, or named -, is the standard input or output.
                        keep the whole entry
   -e, --path PATH      one path, in place of a list or behind its lines; may be given again
       --packed         LIST is in its packed form; of covers, both are
-  -o, --output OUTPUT  is replaced when all is there to write, and else stays as it was
+  -o, --output OUTPUT  is replaced when all is there to write, and else stays as it was; of
+                       several lists each has its own behind it
   -d, --folder FOLDER  where the cuts of a batch go, under the names of the documents
       --count          print only: kept, the elements selected, the length of the cut; and
                        on a second line: name tests, how many were tried
@@ -48,7 +52,8 @@ A file that is not named, or named -, is the standard input or output.
 
 Exit status: 0 written, sound or covered; 1 to 3 a list is refused, 13 a packed list, 4 to 8
 and 10 the document (of a batch, the first that is), 11 the batch; 12 no root tag to mend;
-20 not covered; 64 wrong usage; 66 no input; 73 no output; 74 reading or writing failed.
+20 not covered; 64 wrong usage; 66 no input; 73 no output; 74 reading or writing failed. Of
+several cuts it is that of the first that is not written.
 
 For example, with `//commune/hamlet #` and `//place[@type=\"village\"]` as lines of atlas.lst:
 

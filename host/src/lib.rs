@@ -1,6 +1,7 @@
 //! The proved filter, for callers in Rust: functions on byte slices. `cut` writes into a lent buffer, as the library does; `cut_of` brings
 //! a buffer of its own; `check` judges a document alone. `plain` and `plain_of` cut by the plain engine, a second one to be read,
-//! and give the same numbers and bytes; they count no name tests. `batch` and `batch_of` cut many documents in one call. `pack` and
+//! and give the same numbers and bytes; they count no name tests. `batch` and `batch_of` cut many documents in one call; `four`,
+//! `four_with` and `four_of` cut one document for four clients. `rows` and `rows_of` write a table for a spreadsheet. `pack` and
 //! `unpack` bring a list into its packed form and back, `covers` and `covers_of` compare two lists, `mend` and `mend_of` keep what is whole
 //! of a document that stops half way.
 //!
@@ -9,8 +10,9 @@
 //! document; here the types see to that, since `out` is borrowed for writing and the others for reading.
 //!
 //! Any number of threads may call at once: the library allocates nothing, and keeps nothing between calls. A call takes less than 96 KiB of
-//! stack, with a log that is lent less than 64, by the plain engine less than 192, and to mend less than 8. The functions in `_of` allocate
-//! their buffer, after they have looked at the length: for what is over a limit there is none.
+//! stack, with a log that is lent less than 64, by the plain engine less than 192, for four clients less than 384 and with logs that are
+//! lent less than 256, and to mend less than 8. The functions in `_of` allocate their buffer, after they have looked at the length: for
+//! what is over a limit there is none.
 //!
 //! ```
 //! let cut = choughbell::cut_of(b"//v\n", b"<g><p><v/></p></g>").unwrap();
@@ -23,15 +25,19 @@
 
 mod answer;
 mod bundle;
+mod four;
 #[cfg(test)]
 mod largest;
 mod mending;
 mod packed;
+mod rows;
 
 pub use answer::{Refusal, Written};
 pub use bundle::{bundle, entries};
+pub use four::{four, four_of, four_with};
 pub use mending::{mend, mend_of, Mended, MENDED_MORE};
 pub use packed::{pack, pack_of, unpack, unpack_of, PACKED_LIMIT};
+pub use rows::{rows, rows_of, Rows};
 
 /// A longer list is answer 1.
 pub const LIST_LIMIT: usize = 8_192;
@@ -55,8 +61,8 @@ pub struct FourNumbers {
     pub fourth: u64,
 }
 
-/// The numbers that a call hands back which counts no name tests: a cut by the plain engine, a batch; a document alone and a packed list,
-/// whose third is always 0; and the check of two lists.
+/// The numbers that a call hands back which counts no name tests: a cut by the plain engine, a batch, rows; a document alone and a packed
+/// list, whose third is always 0; and the check of two lists.
 #[must_use = "the numbers say whether anything is written"]
 #[repr(C)]
 #[derive(Clone, Copy, PartialEq, Eq, Debug)]

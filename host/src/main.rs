@@ -6,6 +6,7 @@ mod attribute;
 mod batch;
 mod caret;
 mod check;
+mod clients;
 mod covers;
 mod each;
 mod explain;
@@ -29,6 +30,7 @@ mod show;
 mod shown;
 #[allow(unsafe_code)]
 mod system;
+mod table;
 mod tag;
 mod task;
 mod trouble;
@@ -53,11 +55,13 @@ fn main() -> ExitCode {
     };
     let (quiet, json) = match &request {
         Request::Task(task) => (task.quiet, task.json),
+        Request::Clients(clients) => (clients.quiet, clients.json),
         Request::Check(checking) => (checking.quiet, checking.json),
         Request::Batch(post) => (post.quiet, post.json),
         Request::Packing(packing) => (packing.quiet, packing.json),
         Request::Covers(asked) => (asked.quiet, asked.json),
         Request::Mend(task) => (task.quiet, task.json),
+        Request::Rows(table) => (table.quiet, table.json),
         Request::Show(showing) => (showing.quiet, false),
         _ => (false, false),
     };
@@ -82,11 +86,13 @@ fn main() -> ExitCode {
 fn answer(request: &Request) -> Result<u8, Trouble> {
     match request {
         Request::Task(task) => return task::run(task),
+        Request::Clients(clients) => return clients::run(clients),
         Request::Check(checking) => return check::run(checking),
         Request::Batch(post) => return batch::run(post),
         Request::Packing(packing) => return packing::run(packing),
         Request::Covers(asked) => return covers::run(asked),
         Request::Mend(task) => return mend::run(task),
+        Request::Rows(table) => return table::run(table),
         Request::Show(showing) => return show::run(showing),
         Request::Explain(text) => output::print(text)?,
         Request::Help => output::print(help::HELP)?,

@@ -33,12 +33,21 @@ impl Sink {
         }
     }
 
+    /// How messages call it.
+    pub fn name(&self) -> String {
+        match self {
+            Sink::Standard => "standard output".to_string(),
+            Sink::Stream(number) => format!("/dev/fd/{number}"),
+            Sink::File(path) => shown::all(path.as_os_str().as_bytes()),
+        }
+    }
+
     pub fn write(&self, bytes: &[u8]) -> Result<(), Trouble> {
         match self {
             Sink::Standard => standard(bytes),
             Sink::Stream(number) => {
                 let written = system::given(*number).and_then(|()| system::stream(*number).write_all(bytes));
-                written.map_err(|e| trouble::writing(&format!("/dev/fd/{number}"), &e))
+                written.map_err(|e| trouble::writing(&self.name(), &e))
             }
             Sink::File(path) => to_file(path, bytes),
         }

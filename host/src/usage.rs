@@ -2,6 +2,7 @@
 //! the options, another the commands and which of the options each takes. File names are bytes of any kind and stay as they are.
 use crate::batch::{Post, Way};
 use crate::check::Checking;
+use crate::clients::{Client, Clients, SEATS};
 use crate::covers::Asked;
 use crate::explain;
 use crate::input::Source;
@@ -11,6 +12,7 @@ use crate::packing::Packing;
 use crate::paths::Paths;
 use crate::show::Showing;
 use crate::shown;
+use crate::table::Table;
 use crate::task::Task;
 use std::collections::HashSet;
 use std::ffi::{OsStr, OsString};
@@ -20,11 +22,13 @@ use std::path::PathBuf;
 #[derive(PartialEq, Eq, Debug)]
 pub enum Request {
     Task(Task),
+    Clients(Clients),
     Check(Checking),
     Batch(Post),
     Packing(Packing),
     Covers(Asked),
     Mend(Mending),
+    Rows(Table),
     Show(Showing),
     /// The text on a number, or the list of all.
     Explain(String),
@@ -63,8 +67,9 @@ const OPTIONS: [Known; 14] = [
 
 /// The commands, what reads the rest of their words, and which options they take besides `--help` and `--version`.
 type Reading = fn(&str, Given) -> Result<Request, String>;
-const COMMANDS: [(&str, Reading, &[&str]); 9] = [
+const COMMANDS: [(&str, Reading, &[&str]); 10] = [
     ("cut", cut, &["--list", "--path", "--packed", "--output", "--count", "--each", "--plain", "--quiet", "--json"]),
+    ("rows", rows, &["--list", "--path", "--packed", "--output", "--quiet", "--json"]),
     ("check", check, &["--quiet", "--json"]),
     ("batch", batch, &["--list", "--path", "--packed", "--output", "--folder", "--quiet", "--json"]),
     ("pack", packing, &["--output", "--quiet", "--json"]),
@@ -75,6 +80,9 @@ const COMMANDS: [(&str, Reading, &[&str]); 9] = [
     ("explain", explain, &[]),
 ];
 
+/// What `cut` takes again, for several clients.
+const PAIR: [&str; 2] = ["--list", "--output"];
+
 /// Options and names as they were given, before it is asked whether they go together.
 #[derive(Default)]
 struct Given {
@@ -84,7 +92,7 @@ struct Given {
 
 /// What the words ask for. The first is the command.
 pub fn read(mut words: impl Iterator<Item = OsString>) -> Result<Request, String> {
-    const WHICH: &str = "it is cut, check, batch, pack, unpack, covers, mend, show or explain";
+    const WHICH: &str = "it is cut, rows, check, batch, pack, unpack, covers, mend, show or explain";
     let first = words.next().ok_or(format!("there is no command: {WHICH}"))?;
     match first.as_bytes() {
         b"help" | b"--help" | b"-h" => return Ok(Request::Help),
@@ -102,6 +110,9 @@ pub fn read(mut words: impl Iterator<Item = OsString>) -> Result<Request, String
     }
     if let Some((option, _)) = given.options.iter().find(|(option, _)| !taken.contains(option)) {
         return Err(format!("{name} takes no {option}"));
+    }
+    if let Some(option) = given.again().find(|option| *name != "cut" || !PAIR.contains(option)) {
+        return Err(format!("{option} is given twice"));
     }
     if given.has("--quiet") && given.has("--json") {
         return Err("--quiet and --json don't go together".to_string());
@@ -165,17 +176,22 @@ impl Given {
         Ok(())
     }
 
-    /// Takes an option, and the next word where that is its value. Only a path may be given again.
+    /// Takes an option, and the next word where that is its value.
     fn take(&mut self, option: &Known, joined: Option<OsString>, words: &mut impl Iterator<Item = OsString>) -> Result<(), String> {
         let value = match option.value {
             None => OsString::new(),
             Some(kind) => joined.or_else(|| words.next()).ok_or(format!("{} wants {kind}", option.name))?,
         };
-        if option.value.is_some() && option.name != "--path" && self.has(option.name) {
-            return Err(format!("{} is given twice", option.name));
-        }
         self.options.push((option.name, value));
         Ok(())
+    }
+
+    /// The options with a value that are given once more. Paths may be, and are left out.
+    fn again(&self) -> impl Iterator<Item = &'static str> + '_ {
+        let again = |at: usize, name: &str| self.options[..at].iter().any(|(option, _)| *option == name);
+        let valued = |name: &str| name != "--path" && OPTIONS.iter().any(|option| option.name == name && option.value.is_some());
+        let options = self.options.iter().enumerate().map(|(at, (name, _))| (at, *name));
+        options.filter(move |&(at, name)| valued(name) && again(at, name)).map(|(_, name)| name)
     }
 
     /// Where the output goes.
@@ -207,23 +223,30 @@ impl Given {
     }
 }
 
-/// The paths and the document of a command that cuts one.
-fn cutting(command: &str, given: &Given) -> Result<(Paths, Source), String> {
-    let paths = given.paths(&format!("{command} wants a list: -l LIST, or -e PATH; by -l /dev/null the root alone is kept"))?;
+const BOTH: &str = "the list and the document can't both come from the standard input";
+/// What an empty list does to a cut.
+const ALONE: &str = "; by -l /dev/null the root alone is kept";
+
+/// The paths and the document of a command that cuts one. `empty` says in a message what an empty list does.
+fn cutting(command: &str, given: &Given, empty: &str) -> Result<(Paths, Source), String> {
+    let paths = given.paths(&format!("{command} wants a list: -l LIST, or -e PATH{empty}"))?;
     let document = given.only(command, "document")?;
     if paths.list == Some(Source::Standard) && document == Source::Standard {
-        return Err("the list and the document can't both come from the standard input".to_string());
+        return Err(BOTH.to_string());
     }
     Ok((paths, document))
 }
 
 fn show(command: &str, given: Given) -> Result<Request, String> {
-    let (paths, document) = cutting(command, &given)?;
+    let (paths, document) = cutting(command, &given, ALONE)?;
     Ok(Request::Show(Showing { paths, document, output: given.output(), quiet: given.has("--quiet") }))
 }
 
 fn cut(command: &str, given: Given) -> Result<Request, String> {
-    let (paths, document) = cutting(command, &given)?;
+    if given.again().next().is_some() {
+        return clients(command, given);
+    }
+    let (paths, document) = cutting(command, &given, ALONE)?;
     let (count, each) = (given.has("--count"), given.has("--each"));
     if (count || each) && given.has("--output") {
         return Err(format!("{} writes no cut, so it takes no --output", if count { "--count" } else { "--each" }));
@@ -231,6 +254,52 @@ fn cut(command: &str, given: Given) -> Result<Request, String> {
     let output = Some(given.output()).filter(|_| !count && !each);
     let (plain, quiet, json) = (given.has("--plain"), given.has("--quiet"), given.has("--json"));
     Ok(Request::Task(Task { paths, document, output, count, each, plain, quiet, json }))
+}
+
+fn rows(command: &str, given: Given) -> Result<Request, String> {
+    let (paths, document) = cutting(command, &given, "")?;
+    let (output, quiet, json) = (given.output(), given.has("--quiet"), given.has("--json"));
+    Ok(Request::Rows(Table { paths, document, output, quiet, json }))
+}
+
+/// Several lists, each with its output behind it. Paths stand in place of a list, or behind it and before its output.
+fn clients(command: &str, given: Given) -> Result<Request, String> {
+    const PAIRS: &str = "-l LIST -o OUTPUT, up to four times";
+    if let Some(option) = ["--count", "--each", "--plain"].iter().find(|option| given.has(option)) {
+        return Err(format!("{option} takes one list"));
+    }
+    let document = given.only(command, "document")?;
+    let (packed, quiet, json) = (given.has("--packed"), given.has("--quiet"), given.has("--json"));
+    let unwritten = || format!("each of several lists wants its own output behind it: {PAIRS}");
+    let mut clients: Vec<Client> = Vec::new();
+    let mut open = Given::default();
+    for (option, value) in given.options {
+        match option {
+            "--list" if open.has("--list") => return Err(unwritten()),
+            "--list" | "--path" => open.options.push((option, value)),
+            "--output" => {
+                let paths = open.paths(&format!("each of several outputs wants its own list before it: {PAIRS}"))?;
+                clients.push(Client { paths: Paths { packed, ..paths }, output: Sink::named(&value) });
+                open = Given::default();
+            }
+            _ => {}
+        }
+    }
+    if !open.options.is_empty() {
+        return Err(unwritten());
+    }
+    if clients.len() > SEATS {
+        return Err(format!("cut serves four lists at most, and these are {}", clients.len()));
+    }
+    let again = |at: usize| clients[..at].iter().any(|client| client.output == clients[at].output);
+    if let Some(at) = (0..clients.len()).find(|&at| again(at)) {
+        return Err(format!("two cuts can't both go to {}", clients[at].output.name()));
+    }
+    let lists = clients.iter().filter(|client| client.paths.list == Some(Source::Standard)).count();
+    if lists + usize::from(document == Source::Standard) > 1 {
+        return Err("only one of the lists and the document can come from the standard input".to_string());
+    }
+    Ok(Request::Clients(Clients { clients, document, quiet, json }))
 }
 
 fn check(_: &str, given: Given) -> Result<Request, String> {

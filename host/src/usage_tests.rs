@@ -94,10 +94,11 @@ fn mend_takes_a_document_and_an_output() {
 #[test]
 fn wrong_words_are_told() {
     let wrong = |words: &[&str]| asked(words).unwrap_err();
-    assert_eq!(wrong(&[]), "there is no command: it is cut, check, batch, pack, unpack, covers, mend, show or explain");
+    assert_eq!(wrong(&[]), "there is no command: it is cut, rows, check, batch, pack, unpack, covers, mend, show or explain");
     assert_eq!(wrong(&["cut", "m"]), "cut wants a list: -l LIST, or -e PATH; by -l /dev/null the root alone is kept");
     assert_eq!(wrong(&["cut", "-l"]), "--list wants a file's name");
-    assert_eq!(wrong(&["cut", "-la", "-lb"]), "--list is given twice");
+    assert_eq!(wrong(&["batch", "-la", "-lb"]), "--list is given twice");
+    assert_eq!(wrong(&["mend", "-oa", "-ob"]), "--output is given twice");
     assert_eq!(wrong(&["cut", "--count=1"]), "--count takes no value");
     assert_eq!(wrong(&["cut", "-qx"]), "there is no option -qx");
     assert_eq!(wrong(&["cut", "-la", "a\n", "b"]), "cut takes one document, and b is a second");
@@ -169,4 +170,56 @@ fn letters_are_joined_and_help_stands_anywhere() {
     assert_eq!(asked(&["batch", "-qh"]), Ok(Request::Help));
     assert_eq!(asked(&["cut", "-", "-h"]), Ok(Request::Help));
     assert_eq!(asked(&["check", "-qx"]), Err("there is no option -qx".to_string()));
+}
+
+#[test]
+fn several_lists_have_an_output_each() {
+    let clients = |words: &[&str]| match asked(words) {
+        Ok(Request::Clients(clients)) => clients,
+        other => panic!("{other:?}"),
+    };
+    let client = |list: Option<&str>, more: &[&str], output| Client {
+        paths: Paths { list: list.map(file), packed: false, more: more.iter().map(|path| path.as_bytes().to_vec()).collect() },
+        output,
+    };
+    let to = |name: &str| Sink::File(PathBuf::from(name));
+    let got = clients(&["cut", "-la", "-e/x", "-o", "p", "m", "-e", "//v", "-e//w", "-oq", "-lb", "--output=-"]);
+    assert_eq!(got.clients[0], client(Some("a"), &["/x"], to("p")));
+    assert_eq!(got.clients[1..], [client(None, &["//v", "//w"], to("q")), client(Some("b"), &[], Sink::Standard)]);
+    assert_eq!((got.document, got.quiet, got.json), (file("m"), false, false));
+    assert!(clients(&["cut", "--packed", "-la", "-op", "-lb", "-oq"]).clients.iter().all(|client| client.paths.packed));
+    // One list and one output are as ever, in any order.
+    assert_eq!(cut_of(&["cut", "-oo", "-la", "m"]), (file("a"), file("m"), Some(to("o"))));
+    let wrong = |words: &[&str]| asked(words).unwrap_err();
+    let unwritten = "each of several lists wants its own output behind it: -l LIST -o OUTPUT, up to four times";
+    assert_eq!(wrong(&["cut", "-la", "-lb", "m"]), unwritten);
+    assert_eq!(wrong(&["cut", "-la", "-lb", "-op", "-oq", "m"]), unwritten);
+    assert_eq!(wrong(&["cut", "-la", "-op", "-lb", "m"]), unwritten);
+    let unlisted = "each of several outputs wants its own list before it: -l LIST -o OUTPUT, up to four times";
+    assert_eq!(wrong(&["cut", "-la", "-op", "-oq", "m"]), unlisted);
+    assert_eq!(wrong(&["cut", "-op", "-la", "-oq", "-lb", "m"]), unlisted);
+    assert_eq!(wrong(&["cut", "-la", "-op", "-lb", "-op", "m"]), "two cuts can't both go to p");
+    assert_eq!(wrong(&["cut", "-la", "-o-", "-lb", "-o/dev/stdout", "m"]), "two cuts can't both go to standard output");
+    let one = "only one of the lists and the document can come from the standard input";
+    assert_eq!(wrong(&["cut", "-la", "-op", "-l-", "-oq"]), one);
+    assert_eq!(wrong(&["cut", "-l-", "-op", "-l/dev/stdin", "-oq", "m"]), one);
+    assert_eq!(wrong(&["cut", "-la", "-op", "-lb", "-oq", "--count"]), "--count takes one list");
+    let five = ["cut", "m", "-l1", "-op", "-l2", "-oq", "-l3", "-or", "-l4", "-os", "-l5", "-ot"];
+    assert_eq!(wrong(&five), "cut serves four lists at most, and these are 5");
+    assert_eq!(clients(&five[..10]).clients.len(), 4);
+}
+
+#[test]
+fn rows_take_a_list_a_document_and_an_output() {
+    let paths = |list, more: &[&str]| Paths { list, packed: false, more: more.iter().map(|path| path.as_bytes().to_vec()).collect() };
+    let table = |paths, document, output| Ok(Request::Rows(Table { paths, document, output, quiet: false, json: false }));
+    let expected = table(paths(Some(file("a")), &[]), file("m"), Sink::File(PathBuf::from("o")));
+    assert_eq!(asked(&["rows", "-la", "m", "-oo"]), expected);
+    assert_eq!(asked(&["rows", "-e", "//v"]), table(paths(None, &["//v"]), Source::Standard, Sink::Standard));
+    assert!(matches!(asked(&["rows", "-la", "--packed", "--json"]), Ok(Request::Rows(Table { json: true, .. }))));
+    let wrong = |words: &[&str]| asked(words).unwrap_err();
+    assert_eq!(wrong(&["rows", "m"]), "rows wants a list: -l LIST, or -e PATH");
+    assert_eq!(wrong(&["rows", "-l-"]), "the list and the document can't both come from the standard input");
+    assert_eq!(wrong(&["rows", "-la", "--count"]), "rows takes no --count");
+    assert_eq!(wrong(&["rows", "-la", "-op", "-lb", "-oq"]), "--list is given twice");
 }

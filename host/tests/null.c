@@ -37,6 +37,13 @@ int main(void)
     expect("nothing packed", three.number, three.second, CHOUGHBELL_NOT_PACKED, 0);
     three = choughbell_batch(list, 3, NULL, 0, NULL, 0);
     expect("no batch", three.number, three.second, CHOUGHBELL_NOT_BATCH, 0);
+    three = choughbell_rows(NULL, 0, doc, 4, NULL, 0);
+    expect("no table", three.number, three.second, CHOUGHBELL_SHORT, 11);
+    struct choughbell_four_numbers seats[4];
+    choughbell_four(list, 3, NULL, 0, NULL, 0, NULL, 0, doc, 4, out, 7, NULL, 0, NULL, 0, NULL, 0, seats);
+    expect("one client", seats[0].number, seats[0].second, CHOUGHBELL_WRITTEN, 7);
+    for (int seat = 1; seat < 4; seat++)
+        expect("an unused seat", seats[seat].number, seats[seat].second, CHOUGHBELL_SHORT, 7);
     /* Zeros are no list and no document; one byte over a limit is told before that. */
     four = choughbell_cut(room, CHOUGHBELL_LIST_LIMIT + 1, doc, 4, out, 7);
     expect("list limit", four.number, four.second, CHOUGHBELL_LIST_TOO_LONG, 0);

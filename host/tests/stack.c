@@ -1,6 +1,7 @@
 /* stack LIST DOCUMENT: whether a cut, one with a log that is lent, one by the plain engine, a batch of that document, the check of two
- * lists and mending take less stack than the header says. Each call runs on a stack of its own, which is painted before; afterwards the
- * paint that is left tells how deep it went. Prints the number and that it was less; the exit status is 0 where all were. */
+ * lists, mending, rows, and four clients without and with logs take less stack than the header says. Each call runs on a stack of its own, which
+ * is painted before; afterwards the paint that is left tells how deep it went. Prints the number and that it was less; the exit status is 0
+ * where all were. */
 #define _GNU_SOURCE
 #include "choughbell.h"
 
@@ -13,11 +14,15 @@
 #define SAID_WITH (64 * 1024)
 #define SAID_PLAIN (192 * 1024)
 #define SAID_MEND (8 * 1024)
+#define SAID_FOUR (384 * 1024)
+#define SAID_FOUR_WITH (256 * 1024)
 #define PAINTED (1024 * 1024)
 
 static uint8_t stack[PAINTED], list[8193], doc[32768], batch[sizeof doc + 5], out[2 * sizeof batch];
 static size_t list_len, doc_len;
 static uint64_t log_lent[1024];
+static uint8_t outs[3][2 * sizeof doc];
+static uint64_t logs[3][1024];
 static struct choughbell_four_numbers numbers;
 
 static size_t file(const char *name, uint8_t *bytes, size_t limit)
@@ -66,6 +71,37 @@ static void call_mend(void)
     numbers = choughbell_mend(doc, doc_len, out, sizeof out);
 }
 
+static void call_rows(void)
+{
+    struct choughbell_numbers three = choughbell_rows(list, list_len, doc, doc_len, out, sizeof out);
+    numbers.number = three.number;
+}
+
+/* The number of four clients is that of the first that is refused. */
+static void first_of(const struct choughbell_four_numbers results[4])
+{
+    numbers = results[0];
+    for (int seat = 1; seat < 4 && numbers.number == 0; seat++)
+        numbers = results[seat];
+}
+
+static void call_four(void)
+{
+    struct choughbell_four_numbers results[4];
+    choughbell_four(list, list_len, list, list_len, list, list_len, list, list_len, doc, doc_len, out, sizeof out, outs[0], sizeof outs[0],
+                    outs[1], sizeof outs[1], outs[2], sizeof outs[2], results);
+    first_of(results);
+}
+
+static void call_four_with(void)
+{
+    struct choughbell_four_numbers results[4];
+    choughbell_four_with(list, list_len, list, list_len, list, list_len, list, list_len, doc, doc_len, out, sizeof out, outs[0],
+                         sizeof outs[0], outs[1], sizeof outs[1], outs[2], sizeof outs[2], log_lent, 1024, logs[0], 1024, logs[1], 1024,
+                         logs[2], 0, results);
+    first_of(results);
+}
+
 static int takes(void (*called)(void), size_t said)
 {
     memset(stack, 0xA5, PAINTED);
@@ -105,5 +141,8 @@ int main(int argc, char **argv)
     wrong |= takes(call_batch, SAID);
     wrong |= takes(call_covers, SAID);
     wrong |= takes(call_mend, SAID_MEND);
+    wrong |= takes(call_rows, SAID);
+    wrong |= takes(call_four, SAID_FOUR);
+    wrong |= takes(call_four_with, SAID_FOUR_WITH);
     return wrong;
 }

@@ -7,7 +7,7 @@ wrong() {
     shift 2
     try "wrong usage: $name" 64 "$@"
 }
-commands='it is cut, check, batch, pack, unpack, covers, mend, show or explain'
+commands='it is cut, rows, check, batch, pack, unpack, covers, mend, show or explain'
 wrong 'nothing' "there is no command: $commands"
 wrong 'another command' "there is no command trim: $commands" trim b.xml
 wrong 'an option first' "there is no command --quiet: $commands" --quiet check b.xml
@@ -18,8 +18,7 @@ wrong 'no list' "$wanted" cut b.xml
 wrong 'a forgotten -l' "$wanted" cut v.lst b.xml
 wrong 'a list without a name' "--list wants a file's name" cut b.xml -l
 wrong 'an output without a name' "--output wants a file's name" cut -l v.lst b.xml --output
-wrong 'two lists' '--list is given twice' cut -l v.lst --list=v.lst b.xml
-wrong 'two outputs' '--output is given twice' cut -l v.lst -o x -o y b.xml
+wrong 'two outputs' '--output is given twice' mend -o x -o y b.xml
 wrong 'two documents' 'cut takes one document, and h.xml is a second' cut -l v.lst b.xml h.xml
 wrong 'standard input to check, two times' "two documents can't both come from the standard input" check - b.xml /dev/fd/0
 wrong 'each and output' '--each writes no cut, so it takes no --output' cut -l v.lst --each -o x b.xml
@@ -75,7 +74,7 @@ explains() {
     [ "${printed#"$1: $2"}" != "$printed" ] || fault "explain $1" "$printed"
     [ "$(wc -l < "$notes/printed")" = "$3" ] || fault "explain $1" 'number of lines'
 }
-explains 0 'written.' 6
+explains 0 'written.' 7
 explains 1 'the list has over 8,192 bytes.' 3
 explains 2 'a line of the list is malformed;' 6
 explains 3 'a line of the list is too large, or it is line 33;' 10
@@ -84,7 +83,7 @@ explains 5 'the document is not in UTF-8,' 9
 explains 6 'the document has a type, <!DOCTYPE;' 7
 explains 7 'the document is not well-formed XML 1.0;' 4
 explains 8 'the document is over a size;' 3
-explains 9 'the output is shorter than the cut;' 4
+explains 9 'the output is shorter than the cut;' 6
 explains 10 'the declaration of the document names another encoding than UTF-8;' 7
 explains 11 'the bytes are no batch;' 4
 explains 12 'of mending alone: no root tag is kept,' 5
@@ -112,7 +111,7 @@ grep -q '^\.TH CHOUGHBELL 1 [0-9-]* "choughbell 0\.3\.0"' "$root/host/man/chough
 head -n 1 "$root/host/include/choughbell.h" | grep -q 'choughbell 0\.3\.0' || fault 'version' 'of the header'
 start --help > help 2>&1 || fault 'help' 'status'
 [ "$(head -n 1 help)" = 'choughbell cuts XML by a list of paths, by a filter that is proved.' ] || fault 'help' "$(head -n 1 help)"
-for words in '--help' 'help' '-h' 'cut --help' 'check -h' 'batch -h' 'covers --help' 'mend --help' 'explain --help'; do
+for words in '--help' 'help' '-h' 'cut --help' 'rows -h' 'check -h' 'batch -h' 'covers --help' 'mend --help' 'explain --help'; do
     cp help "$notes/prints"
     # shellcheck disable=SC2086
     try "$words" 0 $words

@@ -17,6 +17,8 @@ pub mod post; // a batch
 pub mod packing; // the packed list
 pub mod covering; // the check of two lists
 pub mod mending; // a document that stops half way
+pub mod clients; // four clients in one call
+pub mod table; // rows for a spreadsheet
 
 // The number, the second and the third.
 #[repr(C)]

@@ -6,6 +6,7 @@
 //     big                  these, many name tests, and a gazetteer of 8 MiB by several lists
 //     fuzz CASES [SEED]    so many cases of the generator that makes the pack `made`, from other seeds; of a call named
 //                          behind them, cases of its own generator
+//     tables FOLDER        writes documents and their tables for a spreadsheet, by the library alone
 //     suite FOLDER         the W3C's files in a folder: both programs have to give the suite's verdict as well
 //
 // `big` and `fuzz` try demand 3 as well, and that the longest cut for its document is reached. The first difference ends the run, and is
@@ -13,6 +14,7 @@
 mod batch;
 mod big;
 mod covers;
+mod four;
 mod fuzz;
 #[path = "../speed/gazetteer.rs"]
 mod gazetteer;
@@ -26,6 +28,7 @@ mod narrow;
 #[path = "../speed/numbers.rs"]
 mod numbers;
 mod packed;
+mod rows;
 mod same;
 
 use vectors::asked::Four;
@@ -39,6 +42,8 @@ const CALLS: &[Trial] = &[
     ("packed", packed::packs, packed::fuzz),
     ("covers", covers::packs, covers::fuzz),
     ("mend", mend::packs, mend::fuzz),
+    ("four", four::packs, four::fuzz),
+    ("rows", rows::packs, rows::fuzz),
 ];
 
 fn main() {
@@ -49,9 +54,11 @@ fn main() {
         Some("limits") => big::limits(),
         Some("big") => big::run(),
         Some("fuzz") => fuzz_of(args.get(3))(number(1, 100_000) as usize, number(2, 1)),
+        Some("tables") if args.len() == 2 => rows::tables(&args[1]).expect("a folder that can be written"),
         Some("suite") if args.len() == 2 => assert_eq!(verdicts(&args[1], answered), Ok(true)),
         _ => {
-            eprintln!("usage: trials packs FOLDER | trials limits | trials big | trials fuzz CASES [SEED [CALL]] | trials suite FOLDER");
+            let ways = "packs FOLDER | limits | big | fuzz CASES [SEED [CALL]] | tables FOLDER | suite FOLDER";
+            eprintln!("usage: trials {ways}");
             std::process::exit(64);
         }
     }
