@@ -22,6 +22,7 @@
 # make speed        how fast the library is beside ordinary Rust and other parsers; WHAT=characters, matcher or cut names one part of it
 # make post         how long 1,000 small documents take in one batch, beside single calls and one document
 # make four         how long one call for four clients takes, beside four single calls
+# make rows         how long tables for a spreadsheet take, beside cuts
 # make count        how many instructions it executes for each byte, beside them
 
 MADE = target/rust

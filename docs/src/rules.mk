@@ -2,7 +2,7 @@
 
 RUST = docs/src
 
-.PHONY: expected cases peers tables wrong packs big fuzz suite x86-packs x86-limits x86-trials speed post four count parsers
+.PHONY: expected cases peers tables wrong packs big fuzz suite x86-packs x86-limits x86-trials speed post four rows count parsers
 
 # The outputs that programs are held to are those of ordinary Rust, which shares nothing with the Rattle source. They are made again, the
 # packed cases too, and compared, as are the sums of the answers of the other calls; the suite's verdicts are held against the second
@@ -130,6 +130,11 @@ post: rust $(MADE)/libchoughbell.rlib
 four: rust $(MADE)/libchoughbell.rlib
 	rustc --edition 2021 -O -L $(MADE) --extern choughbell=$(MADE)/libchoughbell.rlib -o $(MADE)/four $(RUST)/speed/four.rs
 	$(MADE)/four
+
+# Tables for a spreadsheet, beside cuts by the same lists.
+rows: rust $(MADE)/libchoughbell.rlib
+	rustc --edition 2021 -O -L $(MADE) --extern choughbell=$(MADE)/libchoughbell.rlib -o $(MADE)/rows $(RUST)/speed/rows.rs
+	$(MADE)/rows
 
 # Instructions a byte, by Debian's valgrind.
 count: rust parsers $(MADE)/libchoughbell.rlib $(MADE)/libbaseline.rlib

@@ -1,7 +1,7 @@
 /* stack LIST DOCUMENT: whether a cut, one with a log that is lent, one by the plain engine, a batch of that document, the check of two
- * lists, mending, rows, and four clients without and with logs take less stack than the header says. Each call runs on a stack of its own, which
- * is painted before; afterwards the paint that is left tells how deep it went. Prints the number and that it was less; the exit status is 0
- * where all were. */
+ * lists, mending, rows, and four clients without and with logs take less stack than the header says. Each call runs on a stack of its own,
+ * which is painted before; afterwards the paint that is left tells how deep it went. Prints the number and that it was less; the exit
+ * status is 0 where all were. */
 #define _GNU_SOURCE
 #include "choughbell.h"
 

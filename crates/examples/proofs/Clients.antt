@@ -1,5 +1,5 @@
--- Worked examples of four clients: a document, what each client hands over, and beside it what the client gets back by document 02, Q-14, its
--- numbers and its whole buffer, from a buffer of dots. antt computes what a call made for it alone gives, which is what a call for all
+-- Worked examples of four clients: a document, what each client hands over, and beside it what the client gets back by document 02, Q-14,
+-- its numbers and its whole buffer, from a buffer of dots. antt computes what a call made for it alone gives, which is what a call for all
 -- four gives it (`four-alone`, crate `four`).
 use mathlib.Core.Path.{_≡_, refl}
 use mathlib.Core.List.{List, [], _∷_, _++_, map}
