@@ -1,4 +1,3 @@
--- Definitions: the items of a tape, the bytes that are due, and the states by level.
-pub mod Taped
+-- Definitions: the bytes that are due, and the states by level.
 pub mod Due
 pub mod Standing

@@ -1,3 +1,4 @@
--- Definitions: the entries of a tape.
--- Their laws are in proofs/Entries.antt.
+-- Definitions: the entries of a tape, and the items of a document that they have.
+-- The laws of entries are in proofs/Entries.antt.
 pub mod Tape
+pub mod Taped

@@ -7,14 +7,20 @@ use Prim.Native.Nat.{ℕ, zero, suc, _<_}
 use Rattle.tags.specs.declared.Item.{Item}
 use Rattle.items.specs.Item.{itemAt}
 use Rattle.document.specs.Place.{Opened, placement, afterItem, endOf}
+use Rattle.document.specs.Levels.{openedOf}
+use Rattle.document.specs.declared.Open.{Open}
 use Rattle.document.specs.declared.Placement.the-variants.{Fine}
 use Rattle.tape.specs.Tape.{entryAt, imageOf}
 
 -- where an item begins, whether it is the document's first, and what is open there
 pub record Spot : Type 0 where
   pub at : ℕ
   pub first : Bool
   pub opened : Opened
+
+-- by names kept by level
+abbrev pub spotOf : List ℕ → List ℕ → List ℕ → Open → ℕ → Bool → Spot
+spotOf d starts lens o at first = record { at = at; first = first; opened = openedOf d starts lens o }
 
 abbrev pub itemOf : List ℕ → Spot → Item
 itemOf d s = itemAt (s .first) d (s .at)
