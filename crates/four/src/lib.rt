@@ -101,7 +101,29 @@ fn measured(
     let mut x3 = [0u8; 1];
     let mut x4 = [0u8; 1];
     let m = pass_of_four(
-        &table, l1, l2, l3, l4, t1, t2, t3, t4, w1, w2, w3, w4, true, doc, &mut x1, &mut x2, &mut x3, &mut x4, g1, g2, g3, g4,
+        &table,
+        l1,
+        l2,
+        l3,
+        l4,
+        t1,
+        t2,
+        t3,
+        t4,
+        w1,
+        w2,
+        w3,
+        w4,
+        true,
+        doc,
+        &mut x1,
+        &mut x2,
+        &mut x3,
+        &mut x4,
+        g1,
+        g2,
+        g3,
+        g4,
     );
     let m1 = m.first;
     let m2 = m.second;
@@ -128,7 +150,29 @@ fn measured(
         };
     }
     pass_of_four(
-        &table, l1, l2, l3, l4, t1, t2, t3, t4, v1, v2, v3, v4, false, doc, o1, o2, o3, o4, g1, g2, g3, g4,
+        &table,
+        l1,
+        l2,
+        l3,
+        l4,
+        t1,
+        t2,
+        t3,
+        t4,
+        v1,
+        v2,
+        v3,
+        v4,
+        false,
+        doc,
+        o1,
+        o2,
+        o3,
+        o4,
+        g1,
+        g2,
+        g3,
+        g4,
     );
     Answers {
         first,
@@ -175,7 +219,27 @@ fn listed(
     let a4 = read(l4, &mut t4);
     match head(doc) {
         Head::Items => measured(
-            l1, l2, l3, l4, &t1, &t2, &t3, &t4, a1, a2, a3, a4, doc, o1, o2, o3, o4, g1, g2, g3, g4,
+            l1,
+            l2,
+            l3,
+            l4,
+            &t1,
+            &t2,
+            &t3,
+            &t4,
+            a1,
+            a2,
+            a3,
+            a4,
+            doc,
+            o1,
+            o2,
+            o3,
+            o4,
+            g1,
+            g2,
+            g3,
+            g4,
         ),
         Head::Refused(answer) => {
             let first = by_list(a1, answer);

@@ -95,12 +95,77 @@ pub fn pass_of_four(
     let mut s3 = none;
     let mut s4 = none;
     loop {
-        let read = items(table, doc, &mut starts, &mut lens, opened, at, first, &mut tape);
+        let read = items(
+            table,
+            doc,
+            &mut starts,
+            &mut lens,
+            opened,
+            at,
+            first,
+            &mut tape,
+        );
         let n = read.items;
-        s1 = through(table, l1, t1, w1, counts, doc, &tape, n, &mut starts1, &mut lens1, o1, g1, s1);
-        s2 = through(table, l2, t2, w2, counts, doc, &tape, n, &mut starts2, &mut lens2, o2, g2, s2);
-        s3 = through(table, l3, t3, w3, counts, doc, &tape, n, &mut starts3, &mut lens3, o3, g3, s3);
-        s4 = through(table, l4, t4, w4, counts, doc, &tape, n, &mut starts4, &mut lens4, o4, g4, s4);
+        s1 = through(
+            table,
+            l1,
+            t1,
+            w1,
+            counts,
+            doc,
+            &tape,
+            n,
+            &mut starts1,
+            &mut lens1,
+            o1,
+            g1,
+            s1,
+        );
+        s2 = through(
+            table,
+            l2,
+            t2,
+            w2,
+            counts,
+            doc,
+            &tape,
+            n,
+            &mut starts2,
+            &mut lens2,
+            o2,
+            g2,
+            s2,
+        );
+        s3 = through(
+            table,
+            l3,
+            t3,
+            w3,
+            counts,
+            doc,
+            &tape,
+            n,
+            &mut starts3,
+            &mut lens3,
+            o3,
+            g3,
+            s3,
+        );
+        s4 = through(
+            table,
+            l4,
+            t4,
+            w4,
+            counts,
+            doc,
+            &tape,
+            n,
+            &mut starts4,
+            &mut lens4,
+            o4,
+            g4,
+            s4,
+        );
         opened = read.opened;
         at = read.at;
         first = read.first;

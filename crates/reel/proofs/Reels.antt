@@ -36,33 +36,33 @@ use Rattle.reel.specs.declared.Stop.the-variants.{Full, Over, Fault}
 -- ---- the names of the open elements after an item
 
 module _ {d starts lens : List ℕ} {o : Open} (s : Names d starts lens o) (v : Opens d starts lens (o .level .0)) (at : ℕ) (first : Bool)
-    where
-  kept : (n l : ℕ) → l ≤ o .level .0 → Opens d (set starts (o .level .0) (at + 1)) (set lens (o .level .0) n) l
-  kept n l h = opens-kept v (at + 1) n l h
+  where
+    kept : (n l : ℕ) → l ≤ o .level .0 → Opens d (set starts (o .level .0) (at + 1)) (set lens (o .level .0) n) l
+    kept n l h = opens-kept v (at + 1) n l h
 
-  tagged : (n h e : ℕ) (m t : Bool) → Inside d at (Start n h e m t) → placement d at (Start n h e m t) (openedOf d starts lens o) ≡ placed.Fine
-      → Start n h e m t ≡ itemAt first d at
-      → Opens d (set starts (o .level .0) (at + 1)) (set lens (o .level .0) n) (deeper m (o .level .0))
-  tagged n h e true t i f q = kept n (o .level .0) (omega arith)
-  tagged n h e false t i f q =
-      let room = start-room d starts lens o t f in
-      opens-more v (at + 1) n (omega (arith, room, s .starts-long)) (omega (arith, room, s .lens-long)) (start-named d at first q)
-      (omega (arith, i .0, i .1, i .2))
+    tagged : (n h e : ℕ) (m t : Bool) → Inside d at (Start n h e m t) → placement d at (Start n h e m t) (openedOf d starts lens o) ≡ placed.Fine
+        → Start n h e m t ≡ itemAt first d at
+        → Opens d (set starts (o .level .0) (at + 1)) (set lens (o .level .0) n) (deeper m (o .level .0))
+    tagged n h e true t i f q = kept n (o .level .0) (omega arith)
+    tagged n h e false t i f q =
+        let room = start-room d starts lens o t f in
+        opens-more v (at + 1) n (omega (arith, room, s .starts-long)) (omega (arith, room, s .lens-long)) (start-named d at first q)
+        (omega (arith, i .0, i .1, i .2))
 
-  pub opens-after : (i : Item) → Inside d at i → placement d at i (openedOf d starts lens o) ≡ placed.Fine → i ≡ itemAt first d at
-      → Opens d (set starts (o .level .0) (at + 1)) (set lens (o .level .0) (lenOf i)) (openAfter i o .level .0)
-  opens-after (Declaration e) h f q = kept 0 (o .level .0) (omega arith)
-  opens-after (Instruction e) h f q = kept 0 (o .level .0) (omega arith)
-  opens-after (Comment e) h f q = kept 0 (o .level .0) (omega arith)
-  opens-after (Section e) h f q = kept 0 (o .level .0) (omega arith)
-  opens-after (Reference n e) h f q = kept 0 (o .level .0) (omega arith)
-  opens-after (Text e) h f q = kept 0 (o .level .0) (omega arith)
-  opens-after (Start n k e m t) h f q = tagged n k e m t h f q
-  opens-after (Finish n e) h f q = kept 0 (o .level .0 - 1) (omega arith)
-  opens-after Doctype h f q = kept 0 (o .level .0) (omega arith)
-  opens-after Malformed h f q = kept 0 (o .level .0) (omega arith)
-  opens-after TooLarge h f q = kept 0 (o .level .0) (omega arith)
-  opens-after Nothing h f q = kept 0 (o .level .0) (omega arith)
+    pub opens-after : (i : Item) → Inside d at i → placement d at i (openedOf d starts lens o) ≡ placed.Fine → i ≡ itemAt first d at
+        → Opens d (set starts (o .level .0) (at + 1)) (set lens (o .level .0) (lenOf i)) (openAfter i o .level .0)
+    opens-after (Declaration e) h f q = kept 0 (o .level .0) (omega arith)
+    opens-after (Instruction e) h f q = kept 0 (o .level .0) (omega arith)
+    opens-after (Comment e) h f q = kept 0 (o .level .0) (omega arith)
+    opens-after (Section e) h f q = kept 0 (o .level .0) (omega arith)
+    opens-after (Reference n e) h f q = kept 0 (o .level .0) (omega arith)
+    opens-after (Text e) h f q = kept 0 (o .level .0) (omega arith)
+    opens-after (Start n k e m t) h f q = tagged n k e m t h f q
+    opens-after (Finish n e) h f q = kept 0 (o .level .0 - 1) (omega arith)
+    opens-after Doctype h f q = kept 0 (o .level .0) (omega arith)
+    opens-after Malformed h f q = kept 0 (o .level .0) (omega arith)
+    opens-after TooLarge h f q = kept 0 (o .level .0) (omega arith)
+    opens-after Nothing h f q = kept 0 (o .level .0) (omega arith)
 
 -- ---- the beginning
 
