@@ -1,5 +1,5 @@
--- One client's part in a call. In order: the document before its items are read; the list; the pass over the items; what the client is answered.
--- Only functions inside the crate cite these.
+-- One client's part in a call. In order: the document before its items are read; the list; the pass over the items; what the client is
+-- answered. Only functions inside the crate cite these.
 use mathlib.Core.Path.{_≡_}
 use mathlib.Core.Bool.{Bool, true, false}
 use mathlib.Core.List.{List}
@@ -12,7 +12,8 @@ use Rattle.readers.specs.Named.{otherEncoding}
 use Rattle.paths.specs.Judge.{listAnswer, listPaths}
 use Rattle.paths.specs.declared.ListAnswer.{ListAnswer}
 use Rattle.paths.specs.declared.ListAnswer.the-variants as lists
-use Rattle.document.specs.Judge.{startOf}
+use Rattle.document.specs.Judge.{startOf, scanned}
+use Rattle.document.specs.declared.judge.Judged.the-variants.{Sound}
 use Rattle.compiled.specs.Compiled.{tablesOf}
 use Rattle.matcher.specs.Fit.{Serves}
 use Rattle.notes.specs.Notes.{Within}
@@ -72,19 +73,19 @@ abbrev pub Inside : List ℕ → List ℕ → Outcome → Type 0
 Inside d g (Fine n c t k) = k ≤ length g → Within d g k
 Inside d g (Fault w at) = Unit {0}
 
--- The answer is a, as it is to be. The buffer was o and is o′: it is b, as it is to be; or the cut is left to be laid, which will make it so.
-pub record Serving (a : Answer) (b cut o : List ℕ) (r : Served) (o′ : List ℕ) : Type 0 where
+-- The answer is a, as it is to be. The buffer was o and is o′: it is b, as it is to be; or the cut of a sound document is left to be laid,
+-- which will make it so.
+pub record Serving (a : Answer) (b list d o : List ℕ) (r : Served) (o′ : List ℕ) : Type 0 where
   pub answer : r .answer ≡ a
   pub done : r .left ≡ false → o′ ≡ b
-  pub waits : r .left ≡ true → (o′ ≡ o) × (sets o 0 cut ≡ b)
+  pub waits : r .left ≡ true → (o′ ≡ o) × (scanned d ≡ Sound) × (sets o 0 (cutOf list d) ≡ b)
 
 -- by a sound list, and by any, for which the pass that measured came to m
 abbrev pub ServedBy : List ℕ → List ℕ → List ℕ → Outcome → Served → List ℕ → Type 0
 ServedBy d o g m r o′ =
-    (list s s′ : List ℕ) → Readable d → Passed list d s m s′ g
-    → Serving (answerBy list d (length o)) (bytesBy list d o) (cutOf list d) o r o′
+    (list s s′ : List ℕ) → Readable d → Passed list d s m s′ g → Serving (answerBy list d (length o)) (bytesBy list d o) list d o r o′
 
 pub record ServedOf (d o g : List ℕ) (a : ListAnswer) (m : Outcome) (r : Served) (o′ : List ℕ) : Type 0 where
   pub serving : (list s s′ : List ℕ) → Readable d → a ≡ listAnswer list → (soundness a ≡ true → Passed list d s m s′ g)
-      → Serving (answerOf list d (length o)) (bytesAfter list d o) (cutOf list d) o r o′
+      → Serving (answerOf list d (length o)) (bytesAfter list d o) list d o r o′
   pub live : r .left ≡ true → soundness a ≡ true

@@ -25,8 +25,8 @@ use compiled::layout;
 use cutter::Answer;
 use parts::Head;
 use parts::by_list;
-use parts::head;
-use parts::served;
+use parts::head_of;
+use parts::serve;
 use parts::sound;
 use pass::pass_of_four;
 use paths::ListAnswer;
@@ -129,10 +129,10 @@ fn measured(
     let m2 = m.second;
     let m3 = m.third;
     let m4 = m.fourth;
-    let p1 = served(a1, m1, doc, o1, g1);
-    let p2 = served(a2, m2, doc, o2, g2);
-    let p3 = served(a3, m3, doc, o3, g3);
-    let p4 = served(a4, m4, doc, o4, g4);
+    let p1 = serve(a1, m1, doc, o1, g1);
+    let p2 = serve(a2, m2, doc, o2, g2);
+    let p3 = serve(a3, m3, doc, o3, g3);
+    let p4 = serve(a4, m4, doc, o4, g4);
     let first = p1.answer;
     let second = p2.answer;
     let third = p3.answer;
@@ -217,7 +217,7 @@ fn listed(
     let a2 = read(l2, &mut t2);
     let a3 = read(l3, &mut t3);
     let a4 = read(l4, &mut t4);
-    match head(doc) {
+    match head_of(doc) {
         Head::Items => measured(
             l1,
             l2,

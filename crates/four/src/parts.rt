@@ -1,5 +1,6 @@
 // What is answered to one client: by its list, by the document, and by what the pass over the items came to for it.
 ghost use mathlib.Core.Path.{_≡_};
+ghost use mathlib.Core.Bool.{true};
 ghost use Prim.Native.Nat.{_≤_};
 ghost use lib.ListN.{length};
 ghost use Rattle.cutter.specs.Answer.{byList};
@@ -28,7 +29,7 @@ pub struct Served {
 }
 
 // A document's length, the encoding that it declares, and its characters.
-pub fn head(doc: &[u8]) -> Head
+pub fn head_of(doc: &[u8]) -> Head
     ensures { λ r. ⌜ Headed (now (doc .entry)) r ⌝ }
 {
     if doc.len() > Open::BYTES {
@@ -48,10 +49,12 @@ pub fn head(doc: &[u8]) -> Head
 pub fn sound(a: ListAnswer) -> bool
     ensures { λ r. ⌜ r ≡ soundness a ⌝ }
 {
-    if let ListAnswer::Sound = a {
-        return true;
+    match a {
+        ListAnswer::Sound => true,
+        ListAnswer::TooLong => false,
+        ListAnswer::Malformed(_) => false,
+        ListAnswer::TooLarge(_) => false,
     }
-    false
 }
 
 // A list at fault decides; a sound one leaves it to what is answered else.
@@ -110,11 +113,11 @@ fn by_pass(m: Outcome, doc: &[u8], out: &mut [u8], log: &[u64]) -> Served
 }
 
 // By any list.
-pub fn served(a: ListAnswer, m: Outcome, doc: &[u8], out: &mut [u8], log: &[u64]) -> Served
+pub fn serve(a: ListAnswer, m: Outcome, doc: &[u8], out: &mut [u8], log: &[u64]) -> Served
     requires { ⌜ (length (now doc) ≤ 16777216) × (length (now log) ≤ 16777216) × (soundness a ≡ true → Inside (now doc) (now log) m) ⌝ }
     ensures { λ r. ⌜ ServedOf (now (doc .entry)) (now (out .entry)) (now (log .entry)) a m r (now (out .exit)) ⌝ }
 {
-    if let ListAnswer::Sound = a {
+    if sound(a) {
         return by_pass(m, doc, out, log);
     }
     let answer = by_list(a, Answer::TooLong);
