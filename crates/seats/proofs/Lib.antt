@@ -1,3 +1,6 @@
--- Laws: of the bytes that are due; of the states by level, made again from the names by level.
-pub mod Settling
+-- Laws: of the states by level, made again from the names by level; of the items of a tape, which are alike those of the document; of where
+-- a client stands between two tapes; and of its way through one.
 pub mod Restanding
+pub mod Images
+pub mod Seating
+pub mod Going

@@ -61,3 +61,8 @@ module _ {ps : List Path} {all : List MatchState} {d starts lens : List ℕ} {k 
 pub standing-last : {ps : List Path} {all : List MatchState} {d starts lens : List ℕ} {k : ℕ} → Standing ps all d starts lens k
     → k + 1 ≡ 64 → (level : ℕ) → Standing ps all d starts lens level
 standing-last v e level = record { state = λ i h g. v .state i (omega arith) g; long = v .long }
+
+-- at no deeper level
+pub standing-less : {ps : List Path} {all : List MatchState} {d starts lens : List ℕ} {k level : ℕ} → Standing ps all d starts lens k
+    → level ≤ k → Standing ps all d starts lens level
+standing-less v l = record { state = λ i h g. v .state i (omega arith) g; long = v .long }

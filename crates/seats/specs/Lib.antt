@@ -1,3 +1,4 @@
--- Definitions: the bytes that are due, and the states by level.
-pub mod Due
+-- Definitions: the states by level; where a client stands between two tapes; and what its way through one comes to.
 pub mod Standing
+pub mod Seated
+pub mod Went

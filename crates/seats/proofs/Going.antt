@@ -1,0 +1,232 @@
+-- A client's way through the items of a tape. The invariant: from wherever a client stood, what it has come to after k items is a pass in
+-- itself, and it stands behind k items. Then a law for each way on and the way out; the item that comes back from the tape is like the one
+-- in the document (proofs/Images.antt), so the laws of a pass (proofs/Passing.antt of the crate passes) serve for it.
+use mathlib.Core.Path.{_≡_, refl, sym, ap, ap₂, subst, _∙_}
+use mathlib.Core.Bool.{Bool, false, cond}
+use mathlib.Core.List.{List, []}
+use Prim.Native.Nat.{ℕ, zero, suc, _+_, _-_, _≤_, _<_}
+use native.Mathlib.Omega.{arith}
+use types.Run.{OneOf}
+use denote.Enum.Declared.{tagOf as kindOf}
+use lib.ListN.{length, take, drop, getD, set, replicate}
+use Rattle.paths.specs.Judge.{listAnswer, listPaths}
+use Rattle.paths.specs.declared.ListAnswer.the-variants.{Sound as SoundList}
+use Rattle.tags.proofs.Item as item
+use Rattle.tags.specs.declared.Item.{Item}
+use Rattle.tags.specs.declared.Item.the-variants.{Start}
+use Rattle.items.specs.Inside.{Inside}
+use Rattle.items.specs.Item.{itemAt}
+use Rattle.document.specs.Place.{Opened, placement, endOf, afterItem}
+use Rattle.document.specs.Levels.{openedOf, Names, deeper, openAfter, lenOf}
+use Rattle.document.specs.declared.Open.{Open}
+use Rattle.document.specs.declared.Placement.the-variants.{Fine}
+use Rattle.document.proofs.After.{opened-after}
+use Rattle.attributes.specs.Held.{attributesIn}
+use Rattle.matcher.specs.Fit.{fitFor}
+use Rattle.matcher.specs.State.{deeperOf, testsBy}
+use Rattle.matcher.specs.declared.Verdict.{Verdict}
+use Rattle.matcher.specs.declared.fit.Fit.{Fit}
+use Rattle.matcher.specs.declared.state.MatchState.{MatchState}
+use Rattle.recall.specs.Known.{unknown, Recalls}
+use Rattle.recall.specs.declared.Known.{Known}
+use Rattle.trees.specs.Grown.{part}
+use Rattle.trees.specs.Engine.{Engine}
+use Rattle.output.specs.Act.{onTag, onOther, levelAfter}
+use Rattle.output.specs.Levels.{nameAt, Placed, Moves, Ready}
+use Rattle.output.specs.declared.Run.{Run}
+use Rattle.tape.specs.Tape.{entryAt, imageOf}
+use Rattle.tape.specs.Taped.{Spot, spotOf, itemOf, nextOf, behind, Taped}
+use Rattle.passes.specs.ByTests.{ByTests}
+use Rattle.passes.proofs.Rests.{untagged}
+use Rattle.passes.proofs.States.{none, Stored}
+use Rattle.passes.proofs.Passing.{Passing, Written, pass-ready, pass-many, pass-deep, pass-within, pass-next, pass-inside, pass-placed}
+use Rattle.passes.proofs.Passing.{pass-other, tag-level, tag-from, tag-to, tag-inside, tag-name, tag-behind, tag-head, tag-placed}
+use Rattle.passes.proofs.Passing.{verdict-judged, pass-tag}
+use Rattle.seats.specs.Standing.{Standing}
+use Rattle.seats.specs.Seated.{Seated, Begun, seatSpot}
+use Rattle.seats.specs.Went.{Went}
+use Rattle.seats.specs.declared.seat.Seat.{Seat}
+use Rattle.seats.proofs.Images.{Like, image-like, image-inside, image-start, image-untagged}
+use Rattle.seats.proofs.Seating.{seated-passing, passing-seated}
+
+-- from the seat s, with the names starts₀ and lens₀, the buffer o₁ and the log g₁, through the tape t
+pub record Going (counts : Bool) (list tb d t : List ℕ) (items : ℕ) (starts₀ lens₀ : List ℕ) (s : Seat) (o₁ g₁ : List ℕ)
+    (states : List MatchState) (memo : List Known) (slots starts lens : List ℕ) (opened : Open) (run : Run) (at : ℕ) (first : Bool)
+    (tests k : ℕ) (o g : List ℕ) : Type 0 where
+  pub each : (o₀ : List ℕ) → Seated counts list d o₀ starts₀ lens₀ s o₁ g₁
+      → Passing counts list tb d o₀ g₁ states memo slots starts lens opened run at first tests o g
+  pub spot : spotOf d starts lens opened at first ≡ behind d (seatSpot d starts₀ lens₀ s) k
+  pub turn : k ≤ items
+  pub begun : Begun counts list d starts₀ lens₀ s o₁ g₁
+  pub taped : Taped d t (seatSpot d starts₀ lens₀ s) items
+
+-- ---- the beginning
+
+pub begun-placed : {counts : Bool} {list d starts lens : List ℕ} {s : Seat} {o g : List ℕ} → Begun counts list d starts lens s o g
+    → Placed d starts lens (s .opened .level .0)
+begun-placed b =
+    let n = b .1 .judging .names in
+    record { deep = n .deep; starts-long = n .starts-long; lens-long = n .lens-long; inside = n .inside }
+
+pub going-start : {counts : Bool} {list d t : List ℕ} {items : ℕ} {starts lens : List ℕ} {s : Seat} {o g : List ℕ} (tb : List ℕ)
+    → Begun counts list d starts lens s o g → Taped d t (seatSpot d starts lens s) items
+    → {states : List MatchState} → Standing (listPaths list) states d starts lens (s .opened .level .0) → {e : Known} → e ≡ unknown
+    → Going counts list tb d t items starts lens s o g states (replicate 64 e) (replicate 64 0) starts lens (s .opened) (s .run) (s .at)
+    (s .first) (s .tests) 0 o g
+going-start tb b p st u =
+    record { each = λ o₀ v. seated-passing v st u tb; spot = refl; turn = omega arith; begun = b; taped = p }
+
+-- ---- a turn
+
+-- behind an item
+abbrev later : ℕ → Opened → Spot
+later a x = record { at = a; first = false; opened = x }
+
+module _ {counts : Bool} {list tb d t : List ℕ} {items : ℕ} {starts₀ lens₀ : List ℕ} {s : Seat} {o₁ g₁ : List ℕ}
+    {states : List MatchState} {memo : List Known} {slots starts lens : List ℕ} {opened : Open} {run : Run} {at : ℕ} {first : Bool}
+    {tests k : ℕ} {o g : List ℕ}
+    (w : Going counts list tb d t items starts₀ lens₀ s o₁ g₁ states memo slots starts lens opened run at first tests k o g) where
+  -- some pass
+  abbrev pub going : Passing counts list tb d (w .begun .0) g₁ states memo slots starts lens opened run at first tests o g
+  going = w .each (w .begun .0) (w .begun .1)
+
+  -- the way out
+  pub going-over : items ≤ k
+      → Went counts list d starts₀ lens₀ s o₁ g₁ items starts lens
+      (record { run = run; opened = opened; at = at; first = first; tests = tests }) o g
+  going-over l =
+      let z : k ≡ items = omega (arith, w .turn) in
+      record {
+        seated = λ o₀ v. passing-seated (w .each o₀ v);
+        spot = w .spot ∙ ap (behind d (seatSpot d starts₀ lens₀ s)) z;
+        room = going .room ∙ sym (w .begun .1 .room);
+        log-room = going .log-room;
+      }
+
+  module _ (l : k < items) where
+    -- the item in the document
+    abbrev here : Item
+    here = itemAt first d at
+
+    pub going-fine : placement d at here (openedOf d starts lens opened) ≡ Fine
+    going-fine =
+        subst (λ (x : Spot). placement d (x .at) (itemOf d x) (x .opened) ≡ Fine) (sym (w .spot)) (w .taped .fine k l)
+
+    pub going-near : at < length d
+    going-near = pass-within going refl refl going-fine
+
+    -- one item more
+    spot-next : {starts′ lens′ : List ℕ} → starts′ ≡ set starts (opened .level .0) (at + 1)
+        → lens′ ≡ set lens (opened .level .0) (lenOf here) → {opened′ : Open} → opened′ ≡ openAfter here opened
+        → {n : ℕ} → n ≡ endOf at here
+        → spotOf d starts′ lens′ opened′ n false ≡ behind d (seatSpot d starts₀ lens₀ s) (k + 1)
+    spot-next es el eo en =
+        let z : suc k ≡ k + 1 = omega arith in
+        ap₂ later en (rw (es, el, eo) (opened-after (going .judging .names) at here going-fine))
+        ∙ ap (nextOf d) (w .spot)
+        ∙ ap (behind d (seatSpot d starts₀ lens₀ s)) z
+
+    module _ {next : Item} (e : next ≡ entryAt t k) where
+      image : next ≡ imageOf at here
+      image = e ∙ subst (λ (x : Spot). entryAt t k ≡ imageOf (x .at) (itemOf d x)) (sym (w .spot)) (w .taped .kept k l)
+
+      like : Like d at here next
+      like = rw image (image-like d at here)
+
+      -- ---- an item that is no start tag and no empty tag
+
+      pub going-inside : Inside d at next
+      going-inside =
+          rw image (image-inside d at here (openedOf d starts lens opened) (pass-inside going refl refl going-fine) going-fine)
+
+      module _ {starts′ lens′ : List ℕ} (es : starts′ ≡ set starts (opened .level .0) (at + 1))
+          (el : lens′ ≡ set lens (opened .level .0) (lenOf next)) where
+        lens-are : lens′ ≡ set lens (opened .level .0) (lenOf here)
+        lens-are = el ∙ ap (set lens (opened .level .0)) (like .len)
+
+        pub going-placed : Placed d starts′ lens′ (opened .level .0)
+        going-placed = pass-placed going refl refl going-fine es lens-are
+
+        pub going-other : OneOf untagged (kindOf item.the-type next) → {run′ : Run} {o′ g′ : List ℕ}
+            → Moves d starts′ lens′ (opened .level .0) at run o g (onOther d at next) 1 (levelAfter next (opened .level .0))
+            (endOf at next) run′ o′ g′
+            → {opened′ : Open} → opened′ ≡ openAfter next opened → {n : ℕ} → n ≡ endOf at next
+            → Going counts list tb d t items starts₀ lens₀ s o₁ g₁ states memo slots starts′ lens′ opened′ run′ n false tests (k + 1) o′ g′
+        going-other u {run′} {o′} {g′} m {opened′} eo {n} en =
+            record {
+              each = λ o₀ b. pass-other (w .each o₀ b) refl refl going-fine es lens-are kind moved open-is end-is;
+              spot = spot-next es lens-are open-is end-is;
+              turn = omega arith;
+              begun = w .begun;
+              taped = w .taped;
+            }
+          where
+            kind : OneOf untagged (kindOf item.the-type here)
+            kind = image-untagged at here (rw image at u)
+
+            open-is : opened′ ≡ openAfter here opened
+            open-is = eo ∙ like .opens opened
+
+            end-is : n ≡ endOf at here
+            end-is = en ∙ like .ends
+
+            moved : Moves d starts′ lens′ (opened .level .0) at run o g (onOther d at here) 1 (levelAfter here (opened .level .0))
+                (endOf at here) run′ o′ g′
+            moved = rw (like .makes, like .level (opened .level .0), like .ends) at m
+
+      -- ---- a start tag or empty tag
+
+      module _ {n b f : ℕ} {m c : Bool} (tag : next ≡ Start n b f m c) where
+        was : (x : Bool) × (here ≡ Start n b f m x)
+        was = image-start at here (sym image ∙ tag)
+
+        pub going-level : opened .level .0 < 64
+        going-level = tag-level going refl refl going-fine (was .1)
+
+        pub going-from : at ≤ b
+        going-from = tag-from going refl refl going-fine (was .1)
+
+        pub going-to : b ≤ f
+        going-to = tag-to going refl refl going-fine (was .1)
+
+        pub going-end : f ≤ length d
+        going-end = tag-inside going refl refl going-fine (was .1)
+
+        pub going-name : at + 1 + n ≤ length d
+        going-name = tag-name going refl refl going-fine (was .1)
+
+        pub going-behind : at + 1 + n ≤ b
+        going-behind = tag-behind going refl refl going-fine (was .1)
+
+        pub going-head : b ≤ length d
+        going-head = tag-head going refl refl going-fine (was .1)
+
+        module _ {starts′ lens′ : List ℕ} (es : starts′ ≡ set starts (opened .level .0) (at + 1))
+            (el : lens′ ≡ set lens (opened .level .0) (lenOf next)) where
+          pub going-deeper : Placed d starts′ lens′ (opened .level .0 + 1)
+          going-deeper = tag-placed going refl refl going-fine (was .1) es (lens-are es el)
+
+          pub going-tag : listAnswer list ≡ SoundList → {parent : MatchState} → parent ≡ getD states (opened .level .0) none
+              → {fit : Fit} → fit ≡ fitFor (listPaths list) (part d (at + 1) (at + 1 + n))
+              → {v : Verdict} → ByTests (listPaths list) (attributesIn 0 (take (b - (at + 1 + n)) (drop (at + 1 + n) d))) parent fit v
+              → {states′ : List MatchState} → Stored states (opened .level .0) (deeperOf parent fit) states′
+              → {memo′ : List Known} (slot : ℕ) {y : Known} → memo′ ≡ set memo slot y → Recalls counts tb y
+              → {slots′ : List ℕ} → Written slots slots′
+              → {tried : ℕ} → (tried ≡ cond counts (testsBy parent fit) 0) × (tried ≤ 512) → {run′ : Run} {o′ g′ : List ℕ}
+              → Moves d starts′ lens′ (opened .level .0) at run o g
+              (onTag v (nameAt d starts′ lens′ (opened .level .0)) (part d at b) (part d at f) m) 2 (deeper m (opened .level .0)) f run′ o′
+              g′
+              → {opened′ : Open} → opened′ ≡ openAfter (Start n b f m c) opened
+              → Going counts list tb d t items starts₀ lens₀ s o₁ g₁ states′ memo′ slots′ starts′ lens′ opened′ run′ f false (tests + tried)
+              (k + 1) o′ g′
+          going-tag sound ep ef by st slot em er ws et mv eo =
+              record {
+                each = λ o₀ x.
+                    let p = w .each o₀ x in
+                    pass-tag p refl refl going-fine (was .1) es (lens-are es el) sound ep ef
+                    (verdict-judged p refl refl going-fine (was .1) es (lens-are es el) sound ep ef by) st slot em er ws et mv eo;
+                spot = spot-next es (lens-are es el) (eo ∙ sym (ap (λ (j : Item). openAfter j opened) (was .1))) (sym (ap (endOf at) (was .1)));
+                turn = omega arith;
+                begun = w .begun;
+                taped = w .taped;
+              }
