@@ -51,6 +51,9 @@ module _ (d : List ℕ) where
       pub head-items : c ≡ All → Headed d Items
       head-items y = record { small = l; utf8 = judged-named d e q h; chars = sym z ∙ y }
 
+pub head-readable : (d : List ℕ) {h : Head} → Headed d h → h ≡ Items → Readable d
+head-readable d v q = rw q at v
+
 pub ruleset heads = (head-long, head-other, head-char, head-items, needs)
 
 -- ---- `sound` and `by_list`
@@ -159,7 +162,7 @@ pub ruleset passing = (pass-fault, pass-inside, pass-short, pass-noted, pass-lef
 
 -- ---- `serve`
 
-module _ (d o g : List ℕ) (a : ListAnswer) {m : Outcome} {x : Bool} (e : x ≡ soundness a) where
+module _ (d o g : List ℕ) (a : ListAnswer) (m : Outcome) {x : Bool} (e : x ≡ soundness a) where
   pub serve-inside : (soundness a ≡ true → Inside d g m) → x ≡ true → Inside d g m
   serve-inside v q = v (sym e ∙ q)
 
