@@ -63,6 +63,7 @@ pub record Going (live counts : Bool) (list d o₀ g₀ starts lens : List ℕ) 
   pub seated : live ≡ true → Seated counts list d o₀ starts lens s o g
   pub spot : live ≡ true → seatSpot d starts lens s ≡ here
   pub stays : live ≡ false → o ≡ o₀
+  pub same : length o ≡ length o₀
   pub room : length g ≡ length g₀
 
 pub go-start : (live counts : Bool) (list d o g : List ℕ) {s : Seat} {opened : Open} {at : ℕ}
@@ -81,6 +82,7 @@ go-start live counts list d o g p q e =
       seated = λ z. seated-start counts list d o g e q;
       spot = λ z. rw (e, p) refl;
       stays = λ z. refl;
+      same = refl;
       room = refl;
     }
 
@@ -107,12 +109,13 @@ module _ {live counts : Bool} {list d o₀ g₀ starts lens : List ℕ} {s : Sea
         seated = λ z. h .went z .seated o₀ (v .seated z);
         spot = λ z. h .went z .spot ∙ ap (λ (x : Spot). behind d x n) (v .spot z) ∙ sym e;
         stays = λ z. h .stays z .3 ∙ v .stays z;
-        room = go live refl;
+        same = long live refl .0 ∙ v .same;
+        room = long live refl .1 ∙ v .room;
       }
     where
-      go : (b : Bool) → live ≡ b → length g′ ≡ length g₀
-      go true z = h .went z .log-room ∙ v .room
-      go false z = ap length (h .stays z .4) ∙ v .room
+      long : (b : Bool) → live ≡ b → (length o′ ≡ length o) × (length g′ ≡ length g)
+      long true z = (h .went z .room, h .went z .log-room)
+      long false z = (ap length (h .stays z .3), ap length (h .stays z .4))
 
   -- the document is over
   pub go-over : placedAt d here ≡ placed.Over → {x : Outcome}
@@ -133,3 +136,20 @@ module _ {live counts : Bool} {list d o₀ g₀ starts lens : List ℕ} {s : Sea
             rw w (seated-fault (v .seated z) refl refl why (ap (placedAt d) (v .spot z) ∙ h));
         stays = v .stays;
       }
+
+-- ---- a client behind a tape that was read
+
+module _ {d : List ℕ} {here : Spot} {starts lens tape : List ℕ} {opened : Open} {at : ℕ} {first : Bool} {n : ℕ}
+    (l : Reeling d here starts lens tape opened at first n)
+    {live counts : Bool} {list o₀ g₀ starts₁ lens₁ : List ℕ} {s : Seat} {o g : List ℕ}
+    (v : Going live counts list d o₀ g₀ starts₁ lens₁ s o g here)
+    {starts₂ lens₂ : List ℕ} {r : Seat} {o′ g′ : List ℕ} (h : Through live counts list d starts₁ lens₁ s o g n starts₂ lens₂ r o′ g′) where
+  pub next-going : Going live counts list d o₀ g₀ starts₂ lens₂ r o′ g′ (spotOf d starts lens opened at first)
+  next-going = go-on v h (l .spot)
+
+  pub next-over : {x : Stop} → Stopped d here n x → x ≡ stop.Over → {y : Outcome}
+      → y ≡ Fine (r .run .len) (r .run .count) (r .tests) (r .run .noted) → PassedFor live counts list d o₀ y o′ g′
+  next-over p q e = go-over next-going (ap (placedAt d) (l .spot) ∙ rw q at p) e
+
+  pub next-fault : {x : Stop} → Stopped d here n x → (why : Why) → x ≡ stop.Fault why → PassedFor live counts list d o₀ (Fault why at) o′ g′
+  next-fault p why q = go-fault next-going why (ap (placedAt d) (l .spot) ∙ rw q at p) refl
