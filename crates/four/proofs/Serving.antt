@@ -26,9 +26,10 @@ use Rattle.passes.specs.declared.Outcome.{Outcome}
 use Rattle.passes.specs.declared.Outcome.the-variants.{Fine, Fault}
 use Rattle.cutter.specs.Answer.{byList, faultOf, answerBy, bytesBy, answerOf, bytesAfter}
 use Rattle.cutter.specs.declared.Answer.{Answer}
-use Rattle.cutter.specs.declared.Answer.the-variants.{Written, ListTooLong, ListMalformed, ListTooLarge, TooLong, OtherEncoding, NotChar, Short}
-use Rattle.cutter.proofs.Cutting.{AnswersBy, AnswersOf, both-by, both, by-long, by-other, by-char, noted-within, written-fault, written-short}
-use Rattle.cutter.proofs.Cutting.{written-noted, laid-answers, cut-sound, cut-long, cut-malformed, cut-large}
+use Rattle.cutter.specs.declared.Answer.the-variants.{Written, ListTooLong, ListMalformed, ListTooLarge, TooLong}
+use Rattle.cutter.specs.declared.Answer.the-variants.{OtherEncoding, NotChar, Short}
+use Rattle.cutter.proofs.Cutting.{AnswersBy, AnswersOf, both-by, both, by-long, by-other, by-char, noted-within}
+use Rattle.cutter.proofs.Cutting.{written-fault, written-short, written-noted, laid-answers, cut-sound, cut-long, cut-malformed, cut-large}
 use Rattle.four.specs.Parts.{Readable, Headed, Listed, Joins, PassedFor, soundness, Inside, Serving, ServedBy, ServedOf}
 use Rattle.four.specs.declared.parts.Head.{Head}
 use Rattle.four.specs.declared.parts.Head.the-variants.{Items, Refused}
@@ -212,9 +213,9 @@ noted-inside list d s s′ g (Fine n c t k) p = λ f. noted-within p refl f
 noted-inside list d s s′ g (Fault w at) p = tt
 
 -- what `serve` asks of its notes
-pub client-inside : {list d s s′ g : List ℕ} (a : ListAnswer) {m : Outcome} {w : Bool} → w ≡ soundness a → PassedFor w true list d s m s′ g
-    → soundness a ≡ true → Inside d g m
-client-inside {list} {d} {s} {s′} {g} a {m} e v z = noted-inside list d s s′ g m (v .passed (e ∙ z))
+pub client-inside : {list t g₀ d s s′ g : List ℕ} {a : ListAnswer} → Listed list a t g₀ → {m : Outcome} {w : Bool} → w ≡ soundness a
+    → PassedFor w true list d s m s′ g → soundness a ≡ true → Inside d g m
+client-inside {list} {d = d} {s} {s′} {g} l {m} e v z = noted-inside list d s s′ g m (v .passed (e ∙ z))
 
 -- what a second pass laid
 second-laid : (list d o o′ g : List ℕ) (m : Outcome) → PassedBy false list d o m o′ g → scanned d ≡ Sound → o′ ≡ sets o 0 (cutOf list d)

@@ -70,10 +70,18 @@ pub fn pass_of_four(
 ) -> Outcomes
     requires { ⌜ (now table ≡ classTable) × (length (now doc) ≤ 16777216) × Joins w1 (now l1) (now t1) (now g1)
         × Joins w2 (now l2) (now t2) (now g2) × Joins w3 (now l3) (now t3) (now g3) × Joins w4 (now l4) (now t4) (now g4) ⌝ }
-    ensures { λ r. ⌜ PassedFor w1 counts (now (l1 .entry)) (now (doc .entry)) (now (o1 .entry)) (r .first) (now (o1 .exit)) (now (g1 .exit)) ⌝ }
-    ensures { λ r. ⌜ PassedFor w2 counts (now (l2 .entry)) (now (doc .entry)) (now (o2 .entry)) (r .second) (now (o2 .exit)) (now (g2 .exit)) ⌝ }
-    ensures { λ r. ⌜ PassedFor w3 counts (now (l3 .entry)) (now (doc .entry)) (now (o3 .entry)) (r .third) (now (o3 .exit)) (now (g3 .exit)) ⌝ }
-    ensures { λ r. ⌜ PassedFor w4 counts (now (l4 .entry)) (now (doc .entry)) (now (o4 .entry)) (r .fourth) (now (o4 .exit)) (now (g4 .exit)) ⌝ }
+    ensures { λ r.
+        ⌜ PassedFor w1 counts (now (l1 .entry)) (now (doc .entry)) (now (o1 .entry)) (r .first)
+        (now (o1 .exit)) (now (g1 .exit)) ⌝ }
+    ensures { λ r.
+        ⌜ PassedFor w2 counts (now (l2 .entry)) (now (doc .entry)) (now (o2 .entry)) (r .second)
+        (now (o2 .exit)) (now (g2 .exit)) ⌝ }
+    ensures { λ r.
+        ⌜ PassedFor w3 counts (now (l3 .entry)) (now (doc .entry)) (now (o3 .entry)) (r .third)
+        (now (o3 .exit)) (now (g3 .exit)) ⌝ }
+    ensures { λ r.
+        ⌜ PassedFor w4 counts (now (l4 .entry)) (now (doc .entry)) (now (o4 .entry)) (r .fourth)
+        (now (o4 .exit)) (now (g4 .exit)) ⌝ }
 {
     let mut tape = [0usize; 4 * ITEMS];
     let mut starts = [0usize; Open::LEVELS];

@@ -40,7 +40,8 @@ module _ {d starts lens : List ℕ} {o : Open} (s : Names d starts lens o) (v : 
     kept : (n l : ℕ) → l ≤ o .level .0 → Opens d (set starts (o .level .0) (at + 1)) (set lens (o .level .0) n) l
     kept n l h = opens-kept v (at + 1) n l h
 
-    tagged : (n h e : ℕ) (m t : Bool) → Inside d at (Start n h e m t) → placement d at (Start n h e m t) (openedOf d starts lens o) ≡ placed.Fine
+    tagged : (n h e : ℕ) (m t : Bool) → Inside d at (Start n h e m t)
+        → placement d at (Start n h e m t) (openedOf d starts lens o) ≡ placed.Fine
         → Start n h e m t ≡ itemAt first d at
         → Opens d (set starts (o .level .0) (at + 1)) (set lens (o .level .0) n) (deeper m (o .level .0))
     tagged n h e true t i f q = kept n (o .level .0) (omega arith)

@@ -54,13 +54,12 @@ part-listed-end-4 : tie.Need-part-listed-end-4
 part-listed-end-4 c = search needs
 
 listed-requires : tie.Need-listed-requires
-listed-requires c κs =
-    (
-      used-short _ _ (c .before .before .before .before .before .before .before .before .before .before .before .used .ensures),
-      used-short _ _ (c .before .before .before .before .before .before .before .before .before .before .used2 .ensures),
-      used-short _ _ (c .before .before .before .before .before .before .before .before .before .used3 .ensures),
-      used-short _ _ (c .before .before .before .before .before .before .before .before .used4 .ensures),
-    )
+listed-requires c κs = (
+  used-short _ _ (c .before .before .before .before .before .before .before .before .before .before .before .used .ensures),
+  used-short _ _ (c .before .before .before .before .before .before .before .before .before .before .used2 .ensures),
+  used-short _ _ (c .before .before .before .before .before .before .before .before .before .used3 .ensures),
+  used-short _ _ (c .before .before .before .before .before .before .before .before .used4 .ensures),
+)
 
 same-length : tie.Need-same-length
 same-length c = search needs

@@ -25,13 +25,20 @@ enum-told c = search needs
 
 measured-requires : tie.Need-measured-requires
 measured-requires c κs =
-    let p = c .before .before .before .before .before .before .before .before .before .before .before .before .before .before .before .before .before .before .before .before .before .before .before .before .before .before .before .before .before .before .before .before .before .before .before .before .pre in
-    let a = c .before .before .before .before .before .before .before .before .before .before .before .before .before .before .before .before .before .before .before .before .before .read .ensures in
-    let b = c .before .before .before .before .before .before .before .before .before .before .before .before .before .before .before .before .before .before .before .read2 .ensures in
-    let d = c .before .before .before .before .before .before .before .before .before .before .before .before .before .before .before .before .before .read3 .ensures in
-    let e = c .before .before .before .before .before .before .before .before .before .before .before .before .before .before .before .read4 .ensures in
-    (
-      head-readable _ (c .before .before .before .before .before .before .before .before .before .before .before .before .before .before .head-of .ensures) (c .before .before .before .before .before .before .before .before .before .before .before .before .enum-told .given .1),
+    let p = c .before .before .before .before .before .before .before .before .before .before .before .before .before .before .before
+    .before .before .before .before .before .before .before .before .before .before .before .before .before .before .before .before .before
+    .before .before .before .before .pre in
+    let a = c .before .before .before .before .before .before .before .before .before .before .before .before .before .before .before
+    .before .before .before .before .before .before .read .ensures in
+    let b = c .before .before .before .before .before .before .before .before .before .before .before .before .before .before .before
+    .before .before .before .before .read2 .ensures in
+    let d = c .before .before .before .before .before .before .before .before .before .before .before .before .before .before .before
+    .before .before .read3 .ensures in
+    let e = c .before .before .before .before .before .before .before .before .before .before .before .before .before .before .before .read4
+    .ensures in (
+      head-readable _ (c .before .before .before .before .before .before .before .before .before .before .before .before .before .before
+          .head-of .ensures) (c .before .before .before .before .before .before .before .before .before .before .before .before .enum-told
+          .given .1),
       record { said = a .0; tables = a .1; small = p .0 },
       record { said = b .0; tables = b .1; small = p .1 },
       record { said = d .0; tables = d .1; small = p .2 },
@@ -84,10 +91,14 @@ returns-2 : tie.Need-returns-2
 returns-2 c =
     let h = c .before .before .before .before .before .before .before .head-of .ensures in
     let q = c .before .before .before .before .before .answer .given .1 in
-    let one = refused-both _ _ _ _ (c .before .before .before .before .before .before .before .before .before .before .before .before .before .before .read .ensures .0) h q (c .before .before .before .by-list .ensures) in
-    let two = refused-both _ _ _ _ (c .before .before .before .before .before .before .before .before .before .before .before .before .read2 .ensures .0) h q (c .before .before .by-list2 .ensures) in
-    let three = refused-both _ _ _ _ (c .before .before .before .before .before .before .before .before .before .before .read3 .ensures .0) h q (c .before .by-list3 .ensures) in
-    let four = refused-both _ _ _ _ (c .before .before .before .before .before .before .before .before .read4 .ensures .0) h q (c .by-list4 .ensures) in
+    let one = refused-both _ _ _ _ (c .before .before .before .before .before .before .before .before .before .before .before .before
+    .before .before .read .ensures .0) h q (c .before .before .before .by-list .ensures) in
+    let two = refused-both _ _ _ _ (c .before .before .before .before .before .before .before .before .before .before .before .before .read2
+    .ensures .0) h q (c .before .before .by-list2 .ensures) in
+    let three = refused-both _ _ _ _ (c .before .before .before .before .before .before .before .before .before .before .read3 .ensures .0)
+    h q (c .before .by-list3 .ensures) in
+    let four = refused-both _ _ _ _ (c .before .before .before .before .before .before .before .before .read4 .ensures .0) h q (c .by-list4
+    .ensures) in
     (one .0, (two .0, (three .0, (four .0, (one .1, (two .1, (three .1, four .1)))))))
 
 pub listed-spec : {M : Type 1} → statement M

@@ -1,5 +1,5 @@
--- `items` meets its contract. The loop's invariant is `Reeling`: the tape has the items so far, and the spot reached is the one behind them.
--- The measure is the room left on the tape.
+-- `items` meets its contract. The loop's invariant is `Reeling`: the tape has the items so far, and the spot reached is the one behind
+-- them. The measure is the room left on the tape.
 use mathlib.Core.Path.{_≡_}
 use Prim.Native.Nat.{_-_, _≤_}
 use lib.ListN.{length}
@@ -12,7 +12,8 @@ use Rattle.reel.proofs.items.Tie as tie
 
 abbrev Inv-loop : tie.InvT-loop
 Inv-loop table doc starts₀ lens₀ at first tape₀ opened₀ at₀ first₀ k₀ starts lens tape opened at' first' k =
-    (table ≡ classTable) × (length doc ≤ 16777216) × Reeling doc (spotOf doc starts₀ lens₀ opened₀ at first) starts lens tape opened at' first' k
+    (table ≡ classTable) × (length doc ≤ 16777216) × Reeling doc (spotOf doc starts₀ lens₀ opened₀ at first) starts lens tape opened at'
+    first' k
 
 abbrev μ-loop : tie.MeasureT-loop
 μ-loop table doc starts₀ lens₀ at first tape₀ opened₀ at₀ first₀ k₀ starts lens tape opened at' first' k = 1024 - k
