@@ -30,7 +30,8 @@ use Rattle.cutter.specs.declared.Answer.the-variants.{Written, ListTooLong, Lis
 use Rattle.cutter.specs.declared.Answer.the-variants.{OtherEncoding, NotChar, Short}
 use Rattle.cutter.proofs.Cutting.{AnswersBy, AnswersOf, both-by, both, by-long, by-other, by-char, noted-within}
 use Rattle.cutter.proofs.Cutting.{written-fault, written-short, written-noted, laid-answers, cut-sound, cut-long, cut-malformed, cut-large}
-use Rattle.four.specs.Parts.{Readable, Headed, Listed, Joins, PassedFor, soundness, Inside, Serving, ServedBy, ServedOf}
+use Rattle.together.specs.Joined.{Joins, PassedFor}
+use Rattle.four.specs.Parts.{Readable, Headed, Listed, soundness, Inside, Serving, ServedBy, ServedOf}
 use Rattle.four.specs.declared.parts.Head.{Head}
 use Rattle.four.specs.declared.parts.Head.the-variants.{Items, Refused}
 use Rattle.four.specs.declared.parts.Served.{Served}
@@ -213,9 +214,9 @@ noted-inside list d s s′ g (Fine n c t k) p = λ f. noted-within p refl f
 noted-inside list d s s′ g (Fault w at) p = tt
 
 -- what `serve` asks of its notes
-pub client-inside : {list t g₀ d s s′ g : List ℕ} {a : ListAnswer} → Listed list a t g₀ → {m : Outcome} {w : Bool} → w ≡ soundness a
-    → PassedFor w true list d s m s′ g → soundness a ≡ true → Inside d g m
-client-inside {list} {d = d} {s} {s′} {g} l {m} e v z = noted-inside list d s s′ g m (v .passed (e ∙ z))
+pub client-inside : {list t g₀ d s s′ h g : List ℕ} {a : ListAnswer} → Listed list a t g₀ → {m : Outcome} {w : Bool} → w ≡ soundness a
+    → PassedFor w true list d s h m s′ g → soundness a ≡ true → Inside d g m
+client-inside {list} {d = d} {s} {s′} {g = g} l {m} e v z = noted-inside list d s s′ g m (v .passed (e ∙ z))
 
 -- what a second pass laid
 second-laid : (list d o o′ g : List ℕ) (m : Outcome) → PassedBy false list d o m o′ g → scanned d ≡ Sound → o′ ≡ sets o 0 (cutOf list d)
@@ -226,7 +227,7 @@ second-laid list d o o′ g m p e = go m (p .judged ∙ e) (p .told)
     go (Fault w at) q t = absurd (false≢true cc)
 
 module _ {list d t g₀ : List ℕ} {a : ListAnswer} (y : Readable d) (l : Listed list a t g₀) {w : Bool} (e : w ≡ soundness a)
-    {s s′ g : List ℕ} {m : Outcome} (p : PassedFor w true list d s m s′ g) {o o′ : List ℕ} {r : Served} (v : ServedOf d o g a m r o′) where
+    {s s′ h g : List ℕ} {m : Outcome} (p : PassedFor w true list d s h m s′ g) {o o′ : List ℕ} {r : Served} (v : ServedOf d o g a m r o′) where
   serving : Serving (answerOf list d (length o)) (bytesAfter list d o) list d o r o′
   serving = v .serving list s s′ y (l .said) (λ z. p .passed (e ∙ z))
 
@@ -238,14 +239,14 @@ module _ {list d t g₀ : List ℕ} {a : ListAnswer} (y : Readable d) (l : Liste
   client-done z = serving .done z
 
   -- after the second pass, in which it took part where its cut was left
-  pub client-laid : {n : Outcome} {o″ g″ : List ℕ} → PassedFor (r .left) false list d o′ n o″ g″ → o″ ≡ bytesAfter list d o
-  client-laid {n} {o″} {g″} q = go (r .left) refl
+  pub client-laid : {n : Outcome} {o″ g‴ g″ : List ℕ} → PassedFor (r .left) false list d o′ g‴ n o″ g″ → o″ ≡ bytesAfter list d o
+  client-laid {n} {o″} {g″ = g″} q = go (r .left) refl
     where
       go : (b : Bool) → r .left ≡ b → o″ ≡ bytesAfter list d o
       go true z =
           let u = serving .waits z in
           second-laid list d o′ o″ g″ n (q .passed z) (u .1) ∙ ap (λ (x : List ℕ). sets x 0 (cutOf list d)) (u .0) ∙ u .2
-      go false z = q .stays z ∙ serving .done z
+      go false z = q .stays z .0 ∙ serving .done z
 
 -- none of four is left
 pub none-left : (a b c d : Bool) → not (a || b || c || d) ≡ true → (a ≡ false) × (b ≡ false) × (c ≡ false) × (d ≡ false)

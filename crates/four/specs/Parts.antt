@@ -1,5 +1,5 @@
--- One client's part in a call. In order: the document before its items are read; the list; the pass over the items; what the client is
--- answered. Only functions inside the crate cite these.
+-- One client's part in a call. In order: the document before its items are read; the list; what the client is answered. Only functions
+-- inside the crate cite these.
 use mathlib.Core.Path.{_≡_}
 use mathlib.Core.Bool.{Bool, true, false}
 use mathlib.Core.List.{List}
@@ -15,10 +15,9 @@ use Rattle.paths.specs.declared.ListAnswer.the-variants as lists
 use Rattle.document.specs.Judge.{startOf, scanned}
 use Rattle.document.specs.declared.judge.Judged.the-variants.{Sound}
 use Rattle.compiled.specs.Compiled.{tablesOf}
-use Rattle.matcher.specs.Fit.{Serves}
 use Rattle.notes.specs.Notes.{Within}
 use Rattle.trees.specs.Written.{cutOf}
-use Rattle.passes.specs.Passed.{PassedBy, Passed}
+use Rattle.passes.specs.Passed.{Passed}
 use Rattle.passes.specs.declared.Outcome.{Outcome}
 use Rattle.passes.specs.declared.Outcome.the-variants.{Fine, Fault}
 use Rattle.cutter.specs.Answer.{answerBy, bytesBy, answerOf, bytesAfter}
@@ -47,18 +46,6 @@ pub record Listed (list : List ℕ) (a : ListAnswer) (t g : List ℕ) : Type 0 w
   pub said : a ≡ listAnswer list
   pub tables : t ≡ tablesOf (listPaths list)
   pub small : length g ≤ 16777216
-
--- ---- the pass
-
--- a client that takes part has the tables of a sound list
-pub record Joins (live : Bool) (list t g : List ℕ) : Type 0 where
-  pub serves : live ≡ true → Serves list t
-  pub small : length g ≤ 16777216
-
--- for a client that takes part the pass comes to what one of its own comes to; the buffer of one that sits out stays
-pub record PassedFor (live counts : Bool) (list d o₀ : List ℕ) (r : Outcome) (o g : List ℕ) : Type 0 where
-  pub passed : live ≡ true → PassedBy counts list d o₀ r o g
-  pub stays : live ≡ false → o ≡ o₀
 
 -- ---- the answer
 

@@ -28,11 +28,10 @@ use parts::by_list;
 use parts::head_of;
 use parts::serve;
 use parts::sound;
-use pass::pass_of_four;
 use paths::ListAnswer;
 use points::table::classes;
+use together::pass_of_four;
 
-mod pass; // one pass over the items for four clients
 mod parts; // what is answered to one client
 
 // What is answered to each client.

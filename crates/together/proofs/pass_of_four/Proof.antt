@@ -1,13 +1,13 @@
 -- `pass_of_four` meets its contract. Between two tapes the reader is where each client is that takes part: `Reading`, and four times
--- `Going`. The measure is what is left of the document. Each need is handed its law of proofs/Together.antt.
+-- `Going`. The measure is what is left of the document. Each need is handed its law of proofs/Going.antt.
 use Prim.Native.Nat.{_-_}
 use borrow.Author.Needs.{needs}
 use lib.ListN.{length}
 use Rattle.tape.specs.Taped.{spotOf}
-use Rattle.four.proofs.Together.{Reading, read-start, read-on, read-less, Going, go-start, go-small, go-sits}
-use Rattle.four.proofs.Together.{next-going, next-over, next-fault}
-use Rattle.four.proofs.pass.pass_of_four.Statement.{statement}
-use Rattle.four.proofs.pass.pass_of_four.Tie as tie
+use Rattle.together.proofs.Going.{Reading, read-start, read-on, read-less, Going, go-start, go-small, go-sits}
+use Rattle.together.proofs.Going.{next-going, next-over, next-fault}
+use Rattle.together.proofs.pass_of_four.Statement.{statement}
+use Rattle.together.proofs.pass_of_four.Tie as tie
 
 abbrev Inv-loop : tie.InvT-loop
 Inv-loop table l1 l2 l3 l4 t1 t2 t3 t4 w1 w2 w3 w4 counts doc o1₀ o2₀ o3₀ o4₀ g1₀ g2₀ g3₀ g4₀ tape₀ starts₀ lens₀ starts1₀ lens1₀ starts2₀

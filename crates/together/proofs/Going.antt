@@ -24,7 +24,7 @@ use Rattle.seats.specs.Seated.{Seated, seatSpot}
 use Rattle.seats.specs.Went.{Sits, Through}
 use Rattle.seats.specs.declared.seat.Seat.{Seat}
 use Rattle.seats.proofs.Seating.{seated-start, seated-over, seated-fault}
-use Rattle.four.specs.Parts.{Joins, PassedFor}
+use Rattle.together.specs.Joined.{Joins, PassedFor}
 
 -- ---- the reader
 
@@ -62,7 +62,7 @@ module _ {d : List ℕ} {s : Spot} {starts lens tape : List ℕ} {opened : Open}
 pub record Going (live counts : Bool) (list d o₀ g₀ starts lens : List ℕ) (s : Seat) (o g : List ℕ) (here : Spot) : Type 0 where
   pub seated : live ≡ true → Seated counts list d o₀ starts lens s o g
   pub spot : live ≡ true → seatSpot d starts lens s ≡ here
-  pub stays : live ≡ false → o ≡ o₀
+  pub stays : live ≡ false → (o ≡ o₀) × (g ≡ g₀)
   pub same : length o ≡ length o₀
   pub room : length g ≡ length g₀
 
@@ -81,7 +81,7 @@ go-start live counts list d o g p q e =
     record {
       seated = λ z. seated-start counts list d o g e q;
       spot = λ z. rw (e, p) refl;
-      stays = λ z. refl;
+      stays = λ z. (refl, refl);
       same = refl;
       room = refl;
     }
@@ -108,7 +108,7 @@ module _ {live counts : Bool} {list d o₀ g₀ starts lens : List ℕ} {s : Sea
       record {
         seated = λ z. h .went z .seated o₀ (v .seated z);
         spot = λ z. h .went z .spot ∙ ap (λ (x : Spot). behind d x n) (v .spot z) ∙ sym e;
-        stays = λ z. h .stays z .3 ∙ v .stays z;
+        stays = λ z. (h .stays z .3 ∙ v .stays z .0, h .stays z .4 ∙ v .stays z .1);
         same = long live refl .0 ∙ v .same;
         room = long live refl .1 ∙ v .room;
       }
@@ -119,7 +119,7 @@ module _ {live counts : Bool} {list d o₀ g₀ starts lens : List ℕ} {s : Sea
 
   -- the document is over
   pub go-over : placedAt d here ≡ placed.Over → {x : Outcome}
-      → x ≡ Fine (s .run .len) (s .run .count) (s .tests) (s .run .noted) → PassedFor live counts list d o₀ x o g
+      → x ≡ Fine (s .run .len) (s .run .count) (s .tests) (s .run .noted) → PassedFor live counts list d o₀ g₀ x o g
   go-over h e =
       record {
         passed = λ z. rw e (seated-over (v .seated z) refl refl (ap (placedAt d) (v .spot z) ∙ h));
@@ -128,7 +128,7 @@ module _ {live counts : Bool} {list d o₀ g₀ starts lens : List ℕ} {s : Sea
 
   -- the next item is at fault
   pub go-fault : (why : Why) → placedAt d here ≡ placed.Fault why → {at : ℕ} → at ≡ here .at
-      → PassedFor live counts list d o₀ (Fault why at) o g
+      → PassedFor live counts list d o₀ g₀ (Fault why at) o g
   go-fault why h {at} e =
       record {
         passed = λ z.
@@ -148,8 +148,8 @@ module _ {d : List ℕ} {here : Spot} {starts lens tape : List ℕ} {opened : Op
   next-going = go-on v h (l .spot)
 
   pub next-over : {x : Stop} → Stopped d here n x → x ≡ stop.Over → {y : Outcome}
-      → y ≡ Fine (r .run .len) (r .run .count) (r .tests) (r .run .noted) → PassedFor live counts list d o₀ y o′ g′
+      → y ≡ Fine (r .run .len) (r .run .count) (r .tests) (r .run .noted) → PassedFor live counts list d o₀ g₀ y o′ g′
   next-over p q e = go-over next-going (ap (placedAt d) (l .spot) ∙ rw q at p) e
 
-  pub next-fault : {x : Stop} → Stopped d here n x → (why : Why) → x ≡ stop.Fault why → PassedFor live counts list d o₀ (Fault why at) o′ g′
+  pub next-fault : {x : Stop} → Stopped d here n x → (why : Why) → x ≡ stop.Fault why → PassedFor live counts list d o₀ g₀ (Fault why at) o′ g′
   next-fault p why q = go-fault next-going why (ap (placedAt d) (l .spot) ∙ rw q at p) refl

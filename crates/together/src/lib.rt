@@ -13,7 +13,7 @@ ghost use Prim.Native.Nat.{_≤_};
 ghost use lib.ListN.{length};
 ghost use Rattle.points.specs.Class.{classTable};
 ghost use Rattle.passes.specs.declared.Outcome.the-variants.{Fine};
-ghost use Rattle.four.specs.Parts.{Joins, PassedFor};
+ghost use Rattle.together.specs.Joined.{Joins, PassedFor};
 use compiled::Compiled;
 use document::Open;
 use document::judge::start_of;
@@ -42,7 +42,7 @@ fn ended(seat: Seat) -> Outcome
 }
 
 // By the tables of the lists of the clients that take part. Name tests are counted where that is asked for. The outcome of a client that
-// sits out says nothing; its buffer stays.
+// sits out says nothing; its buffer and its log stay.
 pub fn pass_of_four(
     table: &Classes,
     l1: &[u8],
@@ -71,17 +71,17 @@ pub fn pass_of_four(
     requires { ⌜ (now table ≡ classTable) × (length (now doc) ≤ 16777216) × Joins w1 (now l1) (now t1) (now g1)
         × Joins w2 (now l2) (now t2) (now g2) × Joins w3 (now l3) (now t3) (now g3) × Joins w4 (now l4) (now t4) (now g4) ⌝ }
     ensures { λ r.
-        ⌜ PassedFor w1 counts (now (l1 .entry)) (now (doc .entry)) (now (o1 .entry)) (r .first)
-        (now (o1 .exit)) (now (g1 .exit)) ⌝ }
+        ⌜ PassedFor w1 counts (now (l1 .entry)) (now (doc .entry)) (now (o1 .entry)) (now (g1 .entry))
+        (r .first) (now (o1 .exit)) (now (g1 .exit)) ⌝ }
     ensures { λ r.
-        ⌜ PassedFor w2 counts (now (l2 .entry)) (now (doc .entry)) (now (o2 .entry)) (r .second)
-        (now (o2 .exit)) (now (g2 .exit)) ⌝ }
+        ⌜ PassedFor w2 counts (now (l2 .entry)) (now (doc .entry)) (now (o2 .entry)) (now (g2 .entry))
+        (r .second) (now (o2 .exit)) (now (g2 .exit)) ⌝ }
     ensures { λ r.
-        ⌜ PassedFor w3 counts (now (l3 .entry)) (now (doc .entry)) (now (o3 .entry)) (r .third)
-        (now (o3 .exit)) (now (g3 .exit)) ⌝ }
+        ⌜ PassedFor w3 counts (now (l3 .entry)) (now (doc .entry)) (now (o3 .entry)) (now (g3 .entry))
+        (r .third) (now (o3 .exit)) (now (g3 .exit)) ⌝ }
     ensures { λ r.
-        ⌜ PassedFor w4 counts (now (l4 .entry)) (now (doc .entry)) (now (o4 .entry)) (r .fourth)
-        (now (o4 .exit)) (now (g4 .exit)) ⌝ }
+        ⌜ PassedFor w4 counts (now (l4 .entry)) (now (doc .entry)) (now (o4 .entry)) (now (g4 .entry))
+        (r .fourth) (now (o4 .exit)) (now (g4 .exit)) ⌝ }
 {
     let mut tape = [0usize; 4 * ITEMS];
     let mut starts = [0usize; Open::LEVELS];
