@@ -142,7 +142,7 @@ module _ (list d o : List ℕ) (small : length d ≤ 16777216) (utf8 : otherEnco
         rw z (stays (cutOf list d) o (λ w o. refl) (room-is (lt-ltb (length o) (length (cutOf list d)) (omega (arith, z)))))
 
     -- the cut is laid
-    laid-answers : len ≤ length o → {o′ : List ℕ} → o′ ≡ sets o 0 (cutOf list d) → AnswersBy list d o (Written len count tests) o′
+    pub laid-answers : len ≤ length o → {o′ : List ℕ} → o′ ≡ sets o 0 (cutOf list d) → AnswersBy list d o (Written len count tests) o′
     laid-answers l y =
         let z = told .0 in
         let e = room-is (le-ltb (length o) (length (cutOf list d)) (omega (arith, z))) in

@@ -65,7 +65,7 @@ pub enum Answer {
 const NOTES: usize = 4096;
 
 // An item at a place is at fault.
-fn fault_of(why: Why, at: usize) -> Answer
+pub fn fault_of(why: Why, at: usize) -> Answer
     ensures { λ r. ⌜ r ≡ faultOf why at ⌝ }
 {
     match why {

@@ -1,2 +1,3 @@
--- Definitions: what a client hands over, and what it gets back.
+-- Definitions: what a client hands over, and what it gets back; and its part in a call, which only functions inside the crate cite.
 pub mod Seats
+pub mod Parts

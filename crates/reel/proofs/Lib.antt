@@ -1,0 +1,2 @@
+-- Laws: of reading, item by item.
+pub mod Reels

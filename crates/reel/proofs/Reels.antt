@@ -1,0 +1,166 @@
+-- The reader: the invariant at the beginning, after one item more, and what is said where it stops.
+use mathlib.Core.Path.{_≡_, refl, sym, ap, ap₂, _∙_}
+use mathlib.Core.Bool.{Bool, true, false}
+use mathlib.Core.List.{List}
+use mathlib.Core.Logic.{⊎-elim}
+use Prim.Native.Nat.{ℕ, zero, suc, _+_, _-_, _*_, _≤_, _<_}
+use native.Mathlib.Nat.{eq-or-lt-of-le}
+use native.Mathlib.Numerals.{add-one}
+use native.Mathlib.Omega.{arith}
+use borrow.Author.Needs.{needs}
+use lib.ListN.{length, set}
+use Rattle.tags.specs.declared.Item.{Item}
+use Rattle.tags.specs.declared.Item.the-variants.{Declaration, Instruction, Comment, Section, Reference, Text, Start, Finish}
+use Rattle.tags.specs.declared.Item.the-variants.{Doctype, Malformed, TooLarge, Nothing}
+use Rattle.items.specs.Inside.{Inside}
+use Rattle.items.specs.Item.{itemAt}
+use Rattle.items.proofs.Insides.{item-inside}
+use Rattle.document.specs.Place.{Opened, placement, afterItem, endOf}
+use Rattle.document.specs.Levels.{Names, openedOf, deeper, openAfter, lenOf}
+use Rattle.document.specs.declared.Open.{Open}
+use Rattle.document.specs.declared.Placement.{Placement}
+use Rattle.document.specs.declared.Placement.the-variants as placed
+use Rattle.document.specs.declared.Why.{Why}
+use Rattle.document.proofs.After.{start-room, opened-after, names-after}
+use Rattle.document.proofs.Judging.{fine-ahead}
+use Rattle.quick.proofs.Opened.{start-named}
+use Rattle.passes.specs.Opens.{Opens}
+use Rattle.passes.proofs.Telling.{opens-kept, opens-more}
+use Rattle.tape.specs.Tape.{entryAt, putAt, imageOf}
+use Rattle.tape.specs.Taped.{Spot, spotOf, itemOf, nextOf, behind, Taped}
+use Rattle.tape.proofs.Entries.{put-here, put-before, put-long}
+use Rattle.reel.specs.Reeling.{Reeling, placedAt, Stopped}
+use Rattle.reel.specs.declared.Stop.{Stop}
+use Rattle.reel.specs.declared.Stop.the-variants.{Full, Over, Fault}
+
+-- ---- the names of the open elements after an item
+
+module _ {d starts lens : List ℕ} {o : Open} (s : Names d starts lens o) (v : Opens d starts lens (o .level .0)) (at : ℕ) (first : Bool)
+  where
+    kept : (n l : ℕ) → l ≤ o .level .0 → Opens d (set starts (o .level .0) (at + 1)) (set lens (o .level .0) n) l
+    kept n l h = opens-kept v (at + 1) n l h
+
+    tagged : (n h e : ℕ) (m t : Bool) → Inside d at (Start n h e m t)
+        → placement d at (Start n h e m t) (openedOf d starts lens o) ≡ placed.Fine
+        → Start n h e m t ≡ itemAt first d at
+        → Opens d (set starts (o .level .0) (at + 1)) (set lens (o .level .0) n) (deeper m (o .level .0))
+    tagged n h e true t i f q = kept n (o .level .0) (omega arith)
+    tagged n h e false t i f q =
+        let room = start-room d starts lens o t f in
+        opens-more v (at + 1) n (omega (arith, room, s .starts-long)) (omega (arith, room, s .lens-long)) (start-named d at first q)
+        (omega (arith, i .0, i .1, i .2))
+
+    pub opens-after : (i : Item) → Inside d at i → placement d at i (openedOf d starts lens o) ≡ placed.Fine → i ≡ itemAt first d at
+        → Opens d (set starts (o .level .0) (at + 1)) (set lens (o .level .0) (lenOf i)) (openAfter i o .level .0)
+    opens-after (Declaration e) h f q = kept 0 (o .level .0) (omega arith)
+    opens-after (Instruction e) h f q = kept 0 (o .level .0) (omega arith)
+    opens-after (Comment e) h f q = kept 0 (o .level .0) (omega arith)
+    opens-after (Section e) h f q = kept 0 (o .level .0) (omega arith)
+    opens-after (Reference n e) h f q = kept 0 (o .level .0) (omega arith)
+    opens-after (Text e) h f q = kept 0 (o .level .0) (omega arith)
+    opens-after (Start n k e m t) h f q = tagged n k e m t h f q
+    opens-after (Finish n e) h f q = kept 0 (o .level .0 - 1) (omega arith)
+    opens-after Doctype h f q = kept 0 (o .level .0) (omega arith)
+    opens-after Malformed h f q = kept 0 (o .level .0) (omega arith)
+    opens-after TooLarge h f q = kept 0 (o .level .0) (omega arith)
+    opens-after Nothing h f q = kept 0 (o .level .0) (omega arith)
+
+-- ---- the beginning
+
+pub reel-start : {d starts lens tape : List ℕ} {opened : Open} {at : ℕ} (first : Bool) → Names d starts lens opened
+    → Opens d starts lens (opened .level .0) → at ≤ length d → length tape ≡ 4096
+    → Reeling d (spotOf d starts lens opened at first) starts lens tape opened at first 0
+reel-start first ns os l z =
+    record {
+      names = ns;
+      opens = os;
+      within = l;
+      spot = refl;
+      taped = record { fine = λ k g. absurd (omega arith); kept = λ k g. absurd (omega arith) };
+      ahead = omega arith;
+      few = omega arith;
+      long = z;
+    }
+
+-- ---- the next item
+
+module _ {d : List ℕ} {s : Spot} {starts lens tape : List ℕ} {opened : Open} {at : ℕ} {first : Bool} {k : ℕ}
+    (v : Reeling d s starts lens tape opened at first k) {i : Item} (e : i ≡ itemAt first d at)
+    {p : Placement} (q : p ≡ placement d at i (openedOf d starts lens opened)) where
+  abbrev here : Spot
+  here = spotOf d starts lens opened at first
+
+  placed-here : placedAt d (behind d s k) ≡ p
+  placed-here =
+      ap (placedAt d) (sym (v .spot)) ∙ ap (λ (j : Item). placement d at j (openedOf d starts lens opened)) (sym e) ∙ sym q
+
+  pub reel-over : p ≡ placed.Over → Stopped d s k Over
+  reel-over h = placed-here ∙ h
+
+  pub reel-fault : (why : Why) → p ≡ placed.Fault why → Stopped d s k (Fault why)
+  reel-fault why h = placed-here ∙ h
+
+  module _ (h : p ≡ placed.Fine) where
+    inner : Inside d at i
+    inner = rw e (item-inside first d at)
+
+    fine : placement d at i (openedOf d starts lens opened) ≡ placed.Fine
+    fine = sym q ∙ h
+
+    further : (at < endOf at i) × (endOf at i ≤ length d)
+    further = fine-ahead d at i (openedOf d starts lens opened) inner fine
+
+    pub reel-fits : length d ≤ 16777216 → at + 1 ≤ 18446744073709551615
+    reel-fits small = omega (arith, further .0, further .1)
+
+    image-here : imageOf at i ≡ imageOf (behind d s k .at) (itemOf d (behind d s k))
+    image-here = ap (imageOf at) e ∙ ap (λ (x : Spot). imageOf (x .at) (itemOf d x)) (v .spot)
+
+    module _ (l : k < 1024) {starts′ lens′ tape′ : List ℕ} {opened′ : Open} {at′ k′ : ℕ}
+        (es : starts′ ≡ set starts (opened .level .0) (at + 1)) (el : lens′ ≡ set lens (opened .level .0) (lenOf i))
+        (et : tape′ ≡ putAt tape k at i) (eo : opened′ ≡ openAfter i opened) (ea : at′ ≡ endOf at i) (ek : k′ ≡ k + 1) where
+      taped-next : Taped d (putAt tape k at i) s (suc k)
+      taped-next = record { fine = fines; kept = keeps }
+        where
+          fines : (j : ℕ) → j < suc k → placedAt d (behind d s j) ≡ placed.Fine
+          fines j g =
+              let le : j ≤ k = omega arith in
+              ⊎-elim
+              (λ (z : j ≡ k). ap (λ (n : ℕ). placedAt d (behind d s n)) z ∙ placed-here ∙ h)
+              (λ (z : j < k). v .taped .fine j z)
+              (eq-or-lt-of-le le)
+
+          keeps : (j : ℕ) → j < suc k → entryAt (putAt tape k at i) j ≡ imageOf (behind d s j .at) (itemOf d (behind d s j))
+          keeps j g =
+              let le : j ≤ k = omega arith in
+              ⊎-elim
+              (λ (z : j ≡ k).
+              rw z (put-here tape k at i (omega (arith, v .long)) ∙ image-here))
+              (λ (z : j < k). put-before tape k at i j z ∙ v .taped .kept j z)
+              (eq-or-lt-of-le le)
+
+      abbrev beyond : List ℕ → List ℕ → Open → ℕ → Spot
+      beyond a b o n = spotOf d a b o n false
+
+      spot-next : spotOf d starts′ lens′ opened′ at′ false ≡ nextOf d (behind d s k)
+      spot-next =
+          rw (es, el, eo, ea)
+          (ap (λ (x : Opened). record { at = endOf at i; first = false; opened = x }) (opened-after (v .names) at i fine)
+          ∙ ap (λ (j : Item). record { at = endOf at j; first = false; opened = afterItem d at j (openedOf d starts lens opened) }) e
+          ∙ ap (nextOf d) (v .spot))
+
+      pub reel-on : Reeling d s starts′ lens′ tape′ opened′ at′ false k′
+      reel-on =
+          rw (ek, add-one k)
+          (record {
+            names = rw (es, el, eo) (names-after (v .names) at i inner fine);
+            opens = rw (es, el, eo) (opens-after (v .names) (v .opens) at first i inner fine e);
+            within = omega (arith, further .1);
+            spot = spot-next;
+            taped = rw et taped-next;
+            ahead = omega (arith, v .ahead, further .0);
+            few = omega arith;
+            long = ap length et ∙ put-long tape k at i ∙ v .long;
+          })
+
+pub ruleset reels = (reel-start, reel-over, reel-fault, reel-fits, reel-on, needs)

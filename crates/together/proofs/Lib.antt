@@ -1,0 +1,2 @@
+-- Laws: of a client between two tapes.
+pub mod Going
