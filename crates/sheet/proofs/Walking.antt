@@ -1,7 +1,7 @@
--- The pass over the items. The invariant: the records laid so far and those of the tokens left are the records of all tokens, and so are the
--- elements counted; the scan of the document comes to what it comes to from the start; states and names are kept by level, and what is kept
--- of elements is known of them. Then a law for each way on and each way out. The header was laid before: `o₁` is the buffer with it, and
--- `base` the place behind it.
+-- The pass over the items. In order: an item that may stand where it stands, and a tag; the invariant; a law for each way out and each way
+-- on. The invariant: the records laid so far and those of the tokens left are the records of all tokens, and the elements counted and those
+-- left are all that are selected; the scan comes to what it comes to from the start; states and names are kept by level, and what is kept
+-- of elements is known of them. The header was laid before: `o₁` is the buffer with it, and `base` the place behind it.
 use mathlib.Core.Path.{_≡_, refl, sym, ap, _∙_}
 use mathlib.Core.Bool.{Bool, true, false}
 use mathlib.Core.List.{List, [], _∷_, _++_}

@@ -1,5 +1,5 @@
-// A table of a document by a list: one call, from a list, a document and a buffer to an answer and, under 0, the table. What is answered and
-// what stands in the buffer afterwards is in specs/Answer.antt; what a record is, in the crate rows.
+// A table of a document by a list: one call, from a list, a document and a buffer to an answer and, under 0, the table. What is answered
+// and what stands in the buffer afterwards is in specs/Answer.antt; what a record is, in the crate rows.
 //
 //     list      judged and compiled                         refused: 1 2 3
 //     document  its length, the encoding that it declares,
@@ -70,7 +70,7 @@ pub enum Answer {
 }
 
 // What a pass comes to: the length of the table and the number of elements selected; or the item at fault.
-pub enum Outcome {
+enum Outcome {
     Fine(usize, usize),
     Fault(Why, usize),
 }
