@@ -1,21 +1,19 @@
 -- Worked by computing, and beside each what document 02 and RFC 4180 say: fields, with each byte for which one is quoted, and one past
 -- them; line ends; what an item says; the text of an element and the records of a forest; the table of a document.
 use mathlib.Core.Path.{_≡_, refl}
-use mathlib.Core.Bool.{Bool, true, false}
 use mathlib.Core.List.{List, [], _∷_, _++_}
 use Prim.Native.Nat.{ℕ}
 use Prim.Native.String.{String}
 use Rattle.xml.specs.Notation.{bytes}
 use Rattle.xml.specs.Utf8.{utf8}
 use Rattle.xml.specs.Productions.{isChar, digitOf}
-use Rattle.xml.specs.Forest.{Tag, Forest, nil, other, elem, endTag}
+use Rattle.xml.specs.Forest.{Forest, nil, other, elem, endTag}
 use Rattle.readers.specs.Read.{expect}
 use Rattle.readers.specs.Value.{isDecimal, isHexadecimal, endsNumber, digitsOf, charRefOf, entityRefOf, referenceOf}
-use Rattle.matcher.specs.declared.Verdict.{Verdict}
 use Rattle.matcher.specs.declared.Verdict.the-variants.{Unselected, Selected, Marked}
 use Rattle.trees.specs.Cut.{Judge}
-use Rattle.rows.specs.Field.{field, pathOf, record-of, header}
-use Rattle.rows.specs.Text.{lineBy, linesFrom, lines, content, saidOf, textIn}
+use Rattle.rows.specs.Field.{field, record-of, header}
+use Rattle.rows.specs.Text.{lineBy, linesFrom, lines, content, saidOf}
 use Rattle.rows.specs.Table.{records}
 
 -- ---- a field: an empty one, a comma, a quote with no comma, CR, LF; a semicolon, a blank and a tab are none of them

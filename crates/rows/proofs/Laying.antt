@@ -12,7 +12,7 @@ use Rattle.xml.specs.Utf8.{utf8}
 use Rattle.utf8.proofs.Place.{drop-step}
 use Rattle.writer.specs.Wrote.{Wrote}
 use Rattle.writer.proofs.Laying.{wrote-none, wrote-more, wrote-long}
-use Rattle.rows.specs.Field.{isSpecial, special, doubled, inner, quote, fieldBy, field}
+use Rattle.rows.specs.Field.{isSpecial, special, doubled, inner, quote}
 use Rattle.rows.specs.Text.{lineBy, linesFrom, lines}
 use Rattle.rows.specs.Laid.{Lays}
 use Rattle.rows.specs.declared.field.Laid.{Laid}

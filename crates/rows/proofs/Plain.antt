@@ -1,10 +1,10 @@
 -- A name has no byte for which a field is quoted: its characters below 0x80 are none of those, and all others are written in bytes from
 -- 0x80 on. So the names that are open are plain, where each is one that was read.
 use mathlib.Core.Path.{_≡_, refl, sym, ap, _∙_}
-use mathlib.Core.Bool.{Bool, true, false, cond, _||_, false≢true}
+use mathlib.Core.Bool.{Bool, true, false, cond, false≢true}
 use mathlib.Core.List.{List, [], _∷_, _++_, append-assoc}
-use mathlib.Core.Option.{Option, none, some, Option·some-injective, Option·none-ne-some}
-use Prim.Native.Nat.{ℕ, _+_, _-_, _≤_, _<_}
+use mathlib.Core.Option.{none, some, Option·some-injective, Option·none-ne-some}
+use Prim.Native.Nat.{ℕ, _+_, _≤_, _<_}
 use native.Mathlib.Omega.{arith}
 use borrow.Author.Tests.{eqb-true, ne-eqb, ltb-true, ltb-false}
 use lib.Dec.{eqb, ltb}
@@ -12,7 +12,6 @@ use lib.ListN.{length, getD, take, drop, length-drop, length-append}
 use lib.Seq.{take-append-seam}
 use Rattle.xml.specs.Utf8.{utf8}
 use Rattle.xml.specs.Character.{starts, run}
-use Rattle.xml.specs.Notation.{Reads, char}
 use Rattle.xml.specs.Productions.{isNameStart, isNameMore, isName}
 use Rattle.xml.proofs.Utf8.{utf8-low, pass-high}
 use Rattle.xml.proofs.Run.{run-holds}

@@ -1,7 +1,7 @@
 -- A field, a path and a record, part by part: the field of a text that was searched first; the names joined, level by level; that a path
 -- holds no byte for which a field is quoted; a record.
-use mathlib.Core.Path.{_≡_, refl, sym, ap, _∙_}
-use mathlib.Core.Bool.{Bool, true, false, cond, _||_}
+use mathlib.Core.Path.{_≡_, refl, ap, _∙_}
+use mathlib.Core.Bool.{Bool, true, false}
 use mathlib.Core.List.{List, [], _∷_, _++_}
 use Prim.Native.Nat.{ℕ, zero, suc, _+_, _-_, _*_, _≤_, _<_}
 use native.Mathlib.Numerals.{add-one}
@@ -16,7 +16,7 @@ use Rattle.tags.specs.Kept.{nameFrom}
 use Rattle.document.specs.Levels.{namesOf}
 use Rattle.writer.specs.Wrote.{Wrote}
 use Rattle.writer.proofs.Laying.{wrote-none, wrote-more, wrote-long}
-use Rattle.rows.specs.Field.{isSpecial, special, inner, quote, field, pathOf, record-of}
+use Rattle.rows.specs.Field.{special, quote, field, pathOf, record-of}
 use Rattle.rows.specs.Tokens.{textFrom}
 use Rattle.rows.specs.Laid.{Lays, joint, PlainNames, elementText}
 use Rattle.rows.specs.declared.field.Laid.{Laid}

@@ -1,16 +1,16 @@
 -- What an item says, laid: a section without its marks; a reference by its character; then an item by its first bytes.
-use mathlib.Core.Path.{_≡_, refl, sym, ap, _∙_}
-use mathlib.Core.Bool.{Bool, true, false, cond, false≢true}
+use mathlib.Core.Path.{_≡_, refl, sym, _∙_}
+use mathlib.Core.Bool.{Bool, true, false, false≢true}
 use mathlib.Core.List.{List, [], _∷_}
 use mathlib.Core.Option.{Option, none, some}
 use mathlib.Core.Logic.{_⊎_, inl, inr}
-use Prim.Native.Nat.{ℕ, suc, _+_, _-_, _*_, _≤_, _<_}
+use Prim.Native.Nat.{ℕ, _+_, _-_, _*_, _≤_, _<_}
 use native.Mathlib.Omega.{arith}
 use borrow.Author.Needs.{needs}
 use lib.ListN.{length, take, drop, length-drop}
 use lib.Seq.{length-take-le}
 use Rattle.xml.specs.Notation.{bytes}
-use Rattle.xml.specs.Utf8.{utf8, isScalar}
+use Rattle.xml.specs.Utf8.{utf8}
 use Rattle.xml.specs.Character.{begins}
 use Rattle.xml.proofs.Utf8.{scalar-cases}
 use Rattle.readers.specs.Value.{Said, referenceOf}

@@ -2,19 +2,19 @@
 -- tokens.
 use mathlib.Core.Path.{_≡_, refl, sym, ap, _∙_}
 use mathlib.Core.List.{List, [], _∷_, _++_, append-assoc, append-nil}
-use Prim.Native.Nat.{ℕ, zero, suc}
-use Rattle.xml.specs.Forest.{Name, Tag, Forest, nil, other, elem}
+use Prim.Native.Nat.{ℕ, suc}
+use Rattle.xml.specs.Forest.{Name, Forest, nil, other, elem}
 use Rattle.paths.specs.Judge.{listPaths}
 use Rattle.document.specs.Judge.{scanned}
 use Rattle.document.specs.declared.judge.Judged.the-variants.{Sound}
 use Rattle.trees.specs.Cut.{Judge, on}
-use Rattle.trees.specs.Grown.{Token, start, finish, aside, tokens, tokensOf, forestOf}
+use Rattle.trees.specs.Grown.{Token, finish, tokens, tokensOf, forestOf}
 use Rattle.trees.specs.Written.{verdicts}
 use Rattle.trees.proofs.Nested.{sound-tokens}
 use Rattle.rows.specs.Field.{header}
 use Rattle.rows.specs.Text.{saidOf, textIn}
 use Rattle.rows.specs.Table.{recordBy, records, tableOf}
-use Rattle.rows.specs.Tokens.{saidAt, textOver, recordsOver}
+use Rattle.rows.specs.Tokens.{textOver, recordsOver}
 
 -- what stands deeper is passed over
 over-deep : (f : Forest) (n : ℕ) (ts : List Token) → textOver (suc n) (tokens f ts) ≡ textOver (suc n) ts

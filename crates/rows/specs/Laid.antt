@@ -1,5 +1,6 @@
 -- What is laid of a text into its field: the text with its quotes doubled where the field is quoted, as far as the buffer reaches; and
--- whether it holds a byte for which a field is quoted. Then what an item is to a text that is gathered.
+-- whether it holds a byte for which a field is quoted. Then what an item is to a text that is gathered; what joins names, and what is known
+-- of those that are open; the text of an element by the place where its tag ends.
 use mathlib.Core.Path.{_≡_}
 use mathlib.Core.Bool.{Bool, true, false}
 use mathlib.Core.List.{List, [], _∷_}
@@ -45,7 +46,7 @@ joint zero = []
 joint (suc k) = 0x2F ∷ []
 
 -- The names of the first `level` levels, 64 at most: inside the document, small, and with no byte for which a field is quoted. The last
--- holds of every name, since no name character is such a byte.
+-- holds of every name that is read: proofs/Plain.antt.
 pub record PlainNames (d starts lens : List ℕ) (level : ℕ) : Type 0 where
   pub deep : level ≤ 64
   pub starts-long : length starts ≡ 64

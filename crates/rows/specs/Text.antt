@@ -1,7 +1,7 @@
 -- "the text directly in the element, CDATA content included, literal CR LF and CR made LF, references replaced". In order: line ends; what
 -- an item says; the text of an element. CR and LF make one line end where they stand side by side in one item: text goes up to the next
 -- `<`, `&` or the end, so those of two items have something between them in the document.
-use mathlib.Core.Bool.{Bool, true, false, cond, _&&_}
+use mathlib.Core.Bool.{Bool, true, false, cond}
 use mathlib.Core.List.{List, [], _∷_, _++_}
 use mathlib.Core.Option.{Option, none, some}
 use Prim.Native.Nat.{ℕ, _-_}

@@ -17,7 +17,7 @@ use points::table::Classes;
 use tags::Item;
 
 // What an item is to a text that is gathered: a start tag; an end tag; an empty tag; any other item; or none, which ends it too.
-pub enum Part {
+enum Part {
     Opens,
     Closes,
     Whole,

@@ -106,7 +106,7 @@ fn lay_char(c: u32, quoted: bool, out: &mut [u8], to: usize) -> Laid
     }
 }
 
-// The character that a reference says.
+// The character that a reference says, and nothing where it is none.
 fn lay_reference(raw: &[u8], quoted: bool, out: &mut [u8], to: usize) -> Laid
     requires { ⌜ to < 9223372036854775808 ⌝ }
     ensures { λ r. ⌜ Lays quoted (now (out .entry)) to (saidBy (referenceOf (now (raw .entry)))) r (now (out .exit)) ⌝ }

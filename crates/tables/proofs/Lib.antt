@@ -1,0 +1,6 @@
+-- That the table which the crate rows defines is the one of specs/Table.antt, and the only one. In order: the text of an element; fields
+-- and records; the table. Worked examples are at the end.
+pub mod Said
+pub mod Rows
+pub mod Tables
+mod Examples

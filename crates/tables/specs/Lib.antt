@@ -1,0 +1,4 @@
+-- What a table is, as relations: the text directly in an element, by the productions that derive what stands in it; then fields, records
+-- and the table of a document by a list. proofs/ has the theorems.
+pub mod Said
+pub mod Table
