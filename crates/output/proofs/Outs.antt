@@ -1,9 +1,10 @@
--- The ways out of the steps, as the code has them: `aside`, `finish`, `start`, `tag_step`, `other_step`.
+-- The ways out of the steps, as the code has them: `finish`, `start`, `tag_step`, `other_step`.
 -- Each hands the law of its way what the code knows of the bytes and of the numbers.
 use mathlib.Core.Path.{_≡_, refl, _∙_}
 use mathlib.Core.Bool.{Bool, true, false}
 use mathlib.Core.List.{List, [], _∷_}
-use Prim.Native.Nat.{ℕ, _+_, _-_, _≤_, _<_}
+use mathlib.Core.Logic.{_⊎_, inl, inr}
+use Prim.Native.Nat.{ℕ, zero, suc, _+_, _-_, _≤_, _<_}
 use native.Mathlib.Omega.{arith}
 use borrow.Author.Needs.{needs}
 use lib.ListN.{length, getD}
@@ -21,14 +22,14 @@ use Rattle.document.proofs.Placing.{not-among}
 use Rattle.matcher.specs.declared.Verdict.{Verdict}
 use Rattle.matcher.specs.declared.Verdict.the-variants.{Unselected}
 use Rattle.trees.specs.Grown.{part}
-use Rattle.trees.specs.Engine.{Engine, onStart, onFinish, onAside}
+use Rattle.trees.specs.Engine.{Engine, onStart, onFinish}
 use Rattle.output.specs.Act.{onTag, onOther, levelAfter}
-use Rattle.output.specs.Levels.{nameAt, Placed, Inked, Moved, Moves, Ready}
+use Rattle.output.specs.Levels.{nameAt, Placed, Inked, entryAt, Stays, Moved, Moves, Ready}
 use Rattle.output.specs.declared.Run.{Run}
 use Rattle.notes.proofs.Replaying.{part-size}
 use Rattle.output.proofs.Inking.{part-long}
 use Rattle.output.proofs.Chains.{name-part}
-use Rattle.output.proofs.Steps.{aside-kept, aside-dropped, end-none, end-level, end-kept, end-waits}
+use Rattle.output.proofs.Steps.{aside-step, end-none, end-level, end-inner, end-entry, end-waits}
 use Rattle.output.proofs.Steps.{start-kept, start-marked, start-selected, start-root, start-waits}
 
 -- ---- bytes of the document that are written
@@ -37,10 +38,18 @@ module _ {d g : List ℕ} {run : Run} (ready : Ready d g run 144115188075855872)
   pub ink-near : run .len < 288230376151711744
   ink-near = omega (arith, ready .near)
 
-  pub raw-small : {at e : ℕ} → at ≤ e → e ≤ length d → length (part d at e) ≤ 16777216
-  raw-small {at} {e} h l = omega (arith, ready .small, part-long d at e h l)
+  -- those of a kept entry, at its end
+  pub entry-small : {kept at e : ℕ} → kept ≤ at + 1 → at ≤ e → e ≤ length d → length (part d (kept - 1) e) ≤ 16777216
+  entry-small {kept} {at} {e} b h l = omega (arith, ready .small, part-long d (kept - 1) e (omega arith) l)
 
-pub ruleset asides = (ink-near, raw-small, aside-kept, aside-dropped, needs)
+pub entry-from : {kept at e : ℕ} → kept ≤ at + 1 → at ≤ e → kept - 1 ≤ e
+entry-from b h = omega arith
+
+pub stays-same : {kept : ℕ} → Stays kept kept
+stays-same = inr refl
+
+pub stays-none : {kept : ℕ} → Stays kept 0
+stays-none = inl refl
 
 -- ---- a name kept at a level
 
@@ -72,22 +81,26 @@ module _ {d starts lens : List ℕ} {level : ℕ} (p : Placed d starts lens leve
   pub finish-inside : getD starts (level - 1) 0 + getD lens (level - 1) 0 ≤ length d
   finish-inside = name-inside p small (omega arith)
 
-  pub finish-level : {o g o′ g′ raw : List ℕ} {reached kept len count m r m′ : ℕ} → reached ≤ level → level ≤ reached
+  pub finish-level : {o g o′ g′ raw : List ℕ} {reached kept at e len count m r m′ : ℕ} → reached ≤ level → level ≤ reached
       → Inked d o g len m (endTag (lent d starts lens (level - 1))) r m′ o′ g′
-      → Moved d starts lens level reached kept len count m o g (onFinish raw) 1 (level - 1) (level - 1) kept r count m′ o′ g′
+      → Moved d starts lens level reached kept at len count m o g (onFinish raw) 1 (level - 1) (level - 1) 0 e r count m′ o′ g′
   finish-level h g w =
       let q = lent-is d starts lens (level - 1) in
       end-level h g z (rw q at w) (rw q at (lent-long p small {i = level - 1} (omega arith)))
 
 pub ruleset finishes = (
   ink-near,
-  raw-small,
+  entry-small,
+  entry-from,
   finish-index,
   finish-inside,
   end-none,
   finish-level,
-  end-kept,
+  end-inner,
+  end-entry,
   end-waits,
+  stays-same,
+  stays-none,
   needs,
 )
 
@@ -109,13 +122,13 @@ module _ {d starts lens : List ℕ} (level : ℕ) (p : Placed d starts lens (lev
   pub start-inside : getD starts level 0 + getD lens level 0 ≤ length d
   start-inside = name-inside p small (omega arith)
 
-  pub start-bare : {o g o′ g′ head raw : List ℕ} {reached kept len count m r m′ : ℕ} {v : Verdict} → reached ≤ level
+  pub start-bare : {o g o′ g′ head raw : List ℕ} {reached kept at e len count m r m′ : ℕ} {v : Verdict} → at ≤ e → reached ≤ level
       → kept ≡ 0 → v ≡ Unselected → level ≡ 0 → Inked d o g len m (startTag (lent d starts lens level)) r m′ o′ g′
-      → Moved d starts lens level reached kept len count m o g (onStart v (nameAt d starts lens level) head raw) 1 (level + 1) 1 0 r
+      → Moved d starts lens level reached kept at len count m o g (onStart v (nameAt d starts lens level) head raw) 1 (level + 1) 1 0 e r
       count m′ o′ g′
-  start-bare h k e z w =
+  start-bare l h k e z w =
       let q = lent-is d starts lens level in
-      start-root h k e z (rw q at w) (rw q at (lent-long p small {i = level} (omega arith)))
+      start-root l h k e z (rw q at w) (rw q at (lent-long p small {i = level} (omega arith)))
 
 pub chain-near : {len a : ℕ} → len < 144115188075855872 → a ≤ len + 1073741952 → a < 288230376151711744
 chain-near near far = omega arith
@@ -123,17 +136,21 @@ chain-near near far = omega arith
 pub chain-room : {d o g s o₁ g₁ : List ℕ} {len m a b : ℕ} → Inked d o g len m s a b o₁ g₁ → length g ≤ 16777216 → length g₁ ≤ 16777216
 chain-room w h = omega (arith, w .noted .same)
 
--- a tag's bytes, and those of its head
+-- a tag: it is ahead, the bytes of its head, and the place behind its `<`
 module _ (d : List ℕ) (small : length d ≤ 16777216) {at h e : ℕ} (a : at ≤ h) (b : h ≤ e) (l : e ≤ length d) where
-  pub tag-small : length (part d at e) ≤ 16777216
-  tag-small = omega (arith, part-long d at e (omega arith) l)
+  pub tag-ahead : at ≤ e
+  tag-ahead = omega arith
 
   pub head-small : length (part d at h) ≤ 16777216
   head-small = omega (arith, part-long d at h a (omega arith))
 
+  pub entry-begins : at + 1 ≤ 18446744073709551615
+  entry-begins = omega arith
+
 pub ruleset starting = (
-  tag-small,
+  tag-ahead,
   head-small,
+  entry-begins,
   start-chain,
   start-index,
   start-inside,
@@ -160,8 +177,8 @@ module _ {d g : List ℕ} {run : Run} (ready : Ready d g run 72057594037927936) 
         few = omega (arith, ready .few);
       }
 
-  pub ready-then : {starts lens o : List ℕ} {level : ℕ} {f : Engine → Engine} {level′ : ℕ} {next : Run} {o′ g′ : List ℕ}
-      → Moves d starts lens level run o g f 1 level′ next o′ g′ → Ready d g′ next 144115188075855872
+  pub ready-then : {starts lens o : List ℕ} {level at : ℕ} {f : Engine → Engine} {level′ e : ℕ} {next : Run} {o′ g′ : List ℕ}
+      → Moves d starts lens level at run o g f 1 level′ e next o′ g′ → Ready d g′ next 144115188075855872
   ready-then m =
       record {
         small = ready .small;
@@ -175,13 +192,31 @@ part-none d a =
     let q : a - a ≡ 0 = omega arith in
     rw q
 
-module _ {d starts lens o g o₁ g₁ : List ℕ} {level : ℕ} {run next : Run} {v : Verdict} {n h r : List ℕ}
-    (m : Moves d starts lens level run o g (onStart v n h r) 1 (level + 1) next o₁ g₁) {empty : Bool} where
-  pub tag-opens : empty ≡ false → Moves d starts lens level run o g (onTag v n h r empty) 2 (deeper empty level) next o₁ g₁
-  tag-opens e =
-      rw e
+-- an entry that is left, or stays
+entry-stays : (kept at : ℕ) {kept′ kept″ : ℕ} → (kept′ ≡ 0) ⊎ (kept′ ≡ entryAt kept at) → Stays kept′ kept″
+    → (kept″ ≡ 0) ⊎ (kept″ ≡ entryAt kept at)
+entry-stays kept at p (inl z) = inl z
+entry-stays kept at (inl z) (inr q) = inl (q ∙ z)
+entry-stays kept at (inr z) (inr q) = inr (q ∙ z)
+
+-- it begins behind no item that is ahead
+entry-behind : (kept at : ℕ) {kept′ e : ℕ} → (kept′ ≡ 0) ⊎ (kept′ ≡ entryAt kept at) → kept ≤ at + 1 → at ≤ e → kept′ ≤ e + 1
+entry-behind kept at (inl z) b l = omega (arith, z)
+entry-behind zero at (inr z) b l = omega (arith, z)
+entry-behind (suc from) at (inr z) b l = omega (arith, z)
+
+module _ {d starts lens o g o₁ g₁ : List ℕ} {level at e : ℕ} {run next : Run} {v : Verdict} {n h r : List ℕ}
+    (m : Moves d starts lens level at run o g (onStart v n h r) 1 (level + 1) e next o₁ g₁) where
+  pub tag-behind : {b : ℕ} → run .kept ≤ at + 1 → at ≤ b → b ≤ e → next .kept ≤ e + 1
+  tag-behind k l l′ = entry-behind (run .kept) at (m .entry) k (omega arith)
+
+  pub tag-opens : {empty : Bool} → empty ≡ false
+      → Moves d starts lens level at run o g (onTag v n h r empty) 2 (deeper empty level) e next o₁ g₁
+  tag-opens q =
+      rw q
       (record {
         moves = m .moves;
+        entry = m .entry;
         order = m .order;
         far = omega (arith, m .far);
         few = omega (arith, m .few);
@@ -189,15 +224,17 @@ module _ {d starts lens o g o₁ g₁ : List ℕ} {level : ℕ} {run next : Run}
         room = m .room;
       })
 
-  pub tag-ends : (e : ℕ) {last : Run} {o₂ g₂ : List ℕ} → empty ≡ true
-      → Moves d starts lens (level + 1) next o₁ g₁ (onFinish (part d e e)) 1 (level + 1 - 1) last o₂ g₂
-      → Moves d starts lens level run o g (onTag v n h r empty) 2 (deeper empty level) last o₂ g₂
-  tag-ends e {last} {o₂} {g₂} q f =
+  pub tag-ends : {empty : Bool} {last : Run} {o₂ g₂ : List ℕ} → empty ≡ true
+      → Moves d starts lens (level + 1) e next o₁ g₁ (onFinish (part d e e)) 1 (level + 1 - 1) e last o₂ g₂
+      → Stays (next .kept) (last .kept)
+      → Moves d starts lens level at run o g (onTag v n h r empty) 2 (deeper empty level) e last o₂ g₂
+  tag-ends {last = last} {o₂} {g₂} q f k =
       let z : level + 1 - 1 ≡ level = omega arith in
-      let f′ : Moves d starts lens (level + 1) next o₁ g₁ (onFinish []) 1 level last o₂ g₂ = rw (part-none d e, z) at f in
+      let f′ : Moves d starts lens (level + 1) e next o₁ g₁ (onFinish []) 1 level e last o₂ g₂ = rw (part-none d e, z) at f in
       rw q
       (record {
         moves = λ o₀ x t. f′ .moves o₀ (onStart v n h r x) (m .moves o₀ x t);
+        entry = entry-stays (run .kept) at (m .entry) k;
         order = f′ .order;
         far = omega (arith, m .far, f′ .far);
         few = omega (arith, m .few, f′ .few);
@@ -205,7 +242,7 @@ module _ {d starts lens o g o₁ g₁ : List ℕ} {level : ℕ} {run next : Run}
         room = f′ .room ∙ m .room;
       })
 
-pub ruleset tagging = (ready-first, ready-then, tag-opens, tag-ends, needs)
+pub ruleset tagging = (ready-first, ready-then, tag-behind, tag-opens, tag-ends, needs)
 
 -- ---- `other_step`
 
@@ -225,12 +262,6 @@ end-ahead d at TooLarge h l = (omega arith, l)
 end-ahead d at Nothing h l = (omega arith, l)
 
 module _ (d : List ℕ) (at : ℕ) (i : Item) (e : ℕ) (h : Inside d at i) where
-  pub other-from : at ≤ length d → e ≡ endOf at i → at ≤ e
-  other-from l q = rw q (end-ahead d at i h l .0)
-
-  pub other-to : at ≤ length d → e ≡ endOf at i → e ≤ length d
-  other-to l q = rw q (end-ahead d at i h l .1)
-
   finish-places : {n : ℕ} → i ≡ Finish n e → (at ≤ e) × (e ≤ length d)
   finish-places {n} q =
       let z : (at + 2 + n < e) × (e ≤ length d) = rw q at h in
@@ -242,39 +273,33 @@ module _ (d : List ℕ) (at : ℕ) (i : Item) (e : ℕ) (h : Inside d at i) wher
   pub finish-to : {n : ℕ} → i ≡ Finish n e → e ≤ length d
   finish-to q = finish-places q .1
 
--- the step of an aside, at any names and any level
-abbrev pub Asides : List ℕ → ℕ → ℕ → Run → List ℕ → List ℕ → Run → List ℕ → List ℕ → Type 0
-Asides d at e run o g r o′ g′ =
-    (starts lens : List ℕ) (level : ℕ) → run .reached .0 ≤ level
-    → Moves d starts lens level run o g (onAside (part d at e)) 1 level r o′ g′
-
 -- all but end tags
 abbrev unfinished : List ℕ
 unfinished = 0 ∷ 1 ∷ 2 ∷ 3 ∷ 4 ∷ 5 ∷ 6 ∷ 8 ∷ 9 ∷ 10 ∷ 11 ∷ []
 
-module _ {d starts lens o g o′ g′ : List ℕ} {level : ℕ} (at : ℕ) {run r : Run} (h : run .reached .0 ≤ level) where
-  asides-step : (i : Item) → OneOf unfinished (tagOf item.the-type i) → Asides d at (endOf at i) run o g r o′ g′
-      → Moves d starts lens level run o g (onOther d at i) 1 (levelAfter i level) r o′ g′
-  asides-step (Declaration e) k m = m starts lens level h
-  asides-step (Instruction e) k m = m starts lens level h
-  asides-step (Comment e) k m = m starts lens level h
-  asides-step (Section e) k m = m starts lens level h
-  asides-step (Reference n e) k m = m starts lens level h
-  asides-step (Text e) k m = m starts lens level h
-  asides-step (Start n b e u t) k m = m starts lens level h
-  asides-step (Finish n e) k m = absurd (not-among unfinished 7 refl k)
-  asides-step Doctype k m = m starts lens level h
-  asides-step Malformed k m = m starts lens level h
-  asides-step TooLarge k m = m starts lens level h
-  asides-step Nothing k m = m starts lens level h
+module _ {d starts lens o g : List ℕ} {level : ℕ} (at : ℕ) {run : Run} (h : run .reached .0 ≤ level) where
+  pub other-step : (i : Item) → OneOf unfinished (tagOf item.the-type i) → Inside d at i → at ≤ length d
+      → Moves d starts lens level at run o g (onOther d at i) 1 (levelAfter i level) (endOf at i) run o g
+  other-step i k n l = go i k (end-ahead d at i n l .0)
+    where
+      go : (i : Item) → OneOf unfinished (tagOf item.the-type i) → at ≤ endOf at i
+          → Moves d starts lens level at run o g (onOther d at i) 1 (levelAfter i level) (endOf at i) run o g
+      go (Declaration e) k l = aside-step h l
+      go (Instruction e) k l = aside-step h l
+      go (Comment e) k l = aside-step h l
+      go (Section e) k l = aside-step h l
+      go (Reference n e) k l = aside-step h l
+      go (Text e) k l = aside-step h l
+      go (Start n b e u t) k l = aside-step h l
+      go (Finish n e) k l = absurd (not-among unfinished 7 refl k)
+      go Doctype k l = aside-step h l
+      go Malformed k l = aside-step h l
+      go TooLarge k l = aside-step h l
+      go Nothing k l = aside-step h l
 
-  pub other-step : (i : Item) → OneOf unfinished (tagOf item.the-type i) → (e : ℕ) → e ≡ endOf at i → Asides d at e run o g r o′ g′
-      → Moves d starts lens level run o g (onOther d at i) 1 (levelAfter i level) r o′ g′
-  other-step i k e q m = asides-step i k (rw q at m)
-
-  pub finish-step : (i : Item) (n e : ℕ) → i ≡ Finish n e
-      → Moves d starts lens level run o g (onFinish (part d at e)) 1 (level - 1) r o′ g′
-      → Moves d starts lens level run o g (onOther d at i) 1 (levelAfter i level) r o′ g′
+  pub finish-step : (i : Item) (n e : ℕ) {r : Run} {o′ g′ : List ℕ} → i ≡ Finish n e
+      → Moves d starts lens level at run o g (onFinish (part d at e)) 1 (level - 1) e r o′ g′
+      → Moves d starts lens level at run o g (onOther d at i) 1 (levelAfter i level) (endOf at i) r o′ g′
   finish-step i n e q m = rw q m
 
-pub ruleset others = (ready-first, other-from, other-to, finish-from, finish-to, other-step, finish-step, needs)
+pub ruleset others = (ready-first, finish-from, finish-to, other-step, finish-step, needs)

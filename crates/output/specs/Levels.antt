@@ -1,8 +1,9 @@
--- What the code's numbers and arrays stand for: an engine. In order: the names kept by level; the text laid; the engine that they stand
--- for; and a step, which makes of whatever engine they stand for what f makes of it.
+-- What the code's numbers and arrays stand for: an engine. In order: the names kept by level; the text laid, and the bytes that are due; the
+-- engine that they stand for; and a step, which makes of whatever engine they stand for what f makes of it.
 use mathlib.Core.Path.{_≡_}
-use mathlib.Core.Bool.{cond}
-use mathlib.Core.List.{List, [], _∷_}
+use mathlib.Core.Bool.{Bool, true, false}
+use mathlib.Core.List.{List, [], _∷_, _++_}
+use mathlib.Core.Logic.{_⊎_}
 use Prim.Native.Nat.{ℕ, zero, suc, _+_, _-_, _*_, _≤_, _<_}
 use lib.ListN.{length, getD}
 use lib.Seq.{sets}
@@ -10,6 +11,7 @@ use Rattle.xml.specs.Forest.{Name}
 use Rattle.tags.specs.Kept.{nameFrom}
 use Rattle.writer.specs.Wrote.{Wrote}
 use Rattle.notes.specs.Notes.{Noted, Stood}
+use Rattle.trees.specs.Grown.{part}
 use Rattle.trees.specs.Engine.{Engine, keptOf, pendOf, doneOf, outOf, numOf}
 use Rattle.output.specs.declared.Run.{Run}
 
@@ -39,31 +41,58 @@ pub record Inked (d o g : List ℕ) (len m : ℕ) (s : List ℕ) (len′ m′ : 
   pub wrote : Wrote o len s len′ o′
   pub noted : Noted d g m s m′ g′
 
--- The code's state stands for an engine: `level` is the input level, `reached` the output level; `kept` is 1 inside a kept entry, else 0;
--- o₀ is the buffer at the beginning, o the buffer now, g the log with m notes.
-pub record Stands (d starts lens o₀ : List ℕ) (level reached kept len count m : ℕ) (o g : List ℕ) (e : Engine) : Type 0 where
-  pub kept-is : cond (keptOf e) 1 0 ≡ kept
+-- ---- inside a kept entry, `kept` is one more than the place where it begins; else it is 0
+
+abbrev pub within : ℕ → Bool
+within zero = false
+within (suc from) = true
+
+-- the bytes due when the place `at` is reached
+abbrev pub owed : List ℕ → ℕ → ℕ → List ℕ
+owed d zero at = []
+owed d (suc from) at = part d from at
+
+-- after an item at the place `at`, where that is inside a kept entry: the same entry, or one that begins with the item
+abbrev pub entryAt : ℕ → ℕ → ℕ
+entryAt zero at = at + 1
+entryAt (suc from) at = suc from
+
+-- an end begins no entry
+abbrev pub Stays : ℕ → ℕ → Type 0
+Stays kept kept′ = (kept′ ≡ 0) ⊎ (kept′ ≡ kept)
+
+-- The code's state stands for an engine: `level` is the input level, `reached` the output level, `at` the place reached; o₀ is the buffer at
+-- the beginning, o the buffer now, g the log with m notes. What the engine has written is what is laid, and then what is due.
+pub record Stands (d starts lens o₀ : List ℕ) (level reached kept at len count m : ℕ) (o g : List ℕ) (e : Engine) : Type 0 where
+  pub kept-is : keptOf e ≡ within kept
+  pub inner : (kept ≡ 0) ⊎ (reached < level)
+  pub behind : kept ≤ at + 1
   pub pend-is : pendOf e ≡ span (nameAt d starts lens) reached (level - reached)
   pub done-is : doneOf e ≡ span (nameAt d starts lens) 0 reached
   pub num-is : numOf e ≡ count
-  pub text : Laid o₀ len o (outOf e)
-  pub notes : Stood d g m (outOf e)
+  pub said : List ℕ
+  pub out-is : outOf e ≡ said ++ owed d kept at
+  pub text : Laid o₀ len o said
+  pub notes : Stood d g m said
 
--- Some steps do what f does to whatever engine the state stands for. Each writes at most 2^31 bytes, and selects one element at most.
-pub record Moved (d starts lens : List ℕ) (level reached kept len count m : ℕ) (o g : List ℕ) (f : Engine → Engine)
-    (steps level′ reached′ kept′ len′ count′ m′ : ℕ) (o′ g′ : List ℕ) : Type 0 where
-  pub moves : (o₀ : List ℕ) (e : Engine) → Stands d starts lens o₀ level reached kept len count m o g e
-      → Stands d starts lens o₀ level′ reached′ kept′ len′ count′ m′ o′ g′ (f e)
+-- Some steps, from the place `at` to at′, do what f does to whatever engine the state stands for. Each writes at most 2^31 bytes, and selects
+-- one element at most.
+pub record Moved (d starts lens : List ℕ) (level reached kept at len count m : ℕ) (o g : List ℕ) (f : Engine → Engine)
+    (steps level′ reached′ kept′ at′ len′ count′ m′ : ℕ) (o′ g′ : List ℕ) : Type 0 where
+  pub moves : (o₀ : List ℕ) (e : Engine) → Stands d starts lens o₀ level reached kept at len count m o g e
+      → Stands d starts lens o₀ level′ reached′ kept′ at′ len′ count′ m′ o′ g′ (f e)
+  pub entry : (kept′ ≡ 0) ⊎ (kept′ ≡ entryAt kept at)
   pub order : reached′ ≤ level′
   pub far : len′ ≤ len + steps * 2147483648
   pub few : count′ ≤ count + steps
   pub same : length o′ ≡ length o
   pub room : length g′ ≡ length g
 
-abbrev pub Moves : List ℕ → List ℕ → List ℕ → ℕ → Run → List ℕ → List ℕ → (Engine → Engine) → ℕ → ℕ → Run → List ℕ → List ℕ → Type 0
-Moves d starts lens level r o g f steps level′ r′ o′ g′ =
-    Moved d starts lens level (r .reached .0) (r .kept) (r .len) (r .count) (r .noted) o g f steps
-    level′ (r′ .reached .0) (r′ .kept) (r′ .len) (r′ .count) (r′ .noted) o′ g′
+abbrev pub Moves : List ℕ → List ℕ → List ℕ → ℕ → ℕ → Run → List ℕ → List ℕ → (Engine → Engine) → ℕ → ℕ → ℕ → Run → List ℕ → List ℕ
+    → Type 0
+Moves d starts lens level at r o g f steps level′ at′ r′ o′ g′ =
+    Moved d starts lens level (r .reached .0) (r .kept) at (r .len) (r .count) (r .noted) o g f steps
+    level′ (r′ .reached .0) (r′ .kept) at′ (r′ .len) (r′ .count) (r′ .noted) o′ g′
 
 -- no number that a step reckons with goes over 64 bits
 pub record Ready (d g : List ℕ) (r : Run) (most : ℕ) : Type 0 where

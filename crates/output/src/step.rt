@@ -1,16 +1,15 @@
 // An item's step: what is written at it, and what the run is after it. The names of the open elements are kept by level, and that of a
 // start tag or empty tag stands there before its step.
 ghost use mathlib.Core.Path.{_≡_};
-ghost use mathlib.Core.Bool.{cond};
-ghost use mathlib.Core.List.{List};
-ghost use Prim.Native.Nat.{ℕ, _+_, _-_, _≤_, _<_};
+ghost use Prim.Native.Nat.{_+_, _-_, _≤_};
 ghost use lib.ListN.{length};
 ghost use Rattle.items.specs.Inside.{Inside};
+ghost use Rattle.document.specs.Place.{endOf};
 ghost use Rattle.document.specs.Levels.{deeper};
 ghost use Rattle.trees.specs.Cut.{one};
 ghost use Rattle.trees.specs.Grown.{part};
-ghost use Rattle.trees.specs.Engine.{onStart, onFinish, onAside};
-ghost use Rattle.output.specs.Levels.{nameAt, Placed, Ready, Moves};
+ghost use Rattle.trees.specs.Engine.{onStart, onFinish};
+ghost use Rattle.output.specs.Levels.{nameAt, Placed, Ready, Moves, Stays};
 ghost use Rattle.output.specs.Act.{onTag, onOther, levelAfter};
 use crate::OutputLevel;
 use crate::Run;
@@ -21,7 +20,6 @@ use crate::ink::headed;
 use crate::ink::raw;
 use document::InputLevel;
 use document::Open;
-use document::place::end_of;
 use matcher::Verdict;
 use tags::Item;
 
@@ -36,35 +34,8 @@ fn one_of(verdict: Verdict) -> usize
     }
 }
 
-// 1 where b holds, else 0.
-fn one_if(b: bool) -> usize
-    ensures { λ r. ⌜ r ≡ cond b 1 0 ⌝ }
-{
-    if b { 1 } else { 0 }
-}
-
-// An item that is no tag: written inside a kept entry, else dropped.
-fn aside(run: Run, doc: &[u8], out: &mut [u8], log: &mut [u64], at: usize, end: usize) -> Run
-    requires { ⌜ Ready (now doc) (now log) run 144115188075855872 × (at ≤ end) × (end ≤ length (now doc)) ⌝ }
-    ensures { λ r.
-        ⌜ ((starts lens : List ℕ) (level : ℕ) → run .reached .0 ≤ level
-        → Moves (now (doc .entry)) starts lens level run (now (out .entry)) (now (log .entry))
-        (onAside (part (now (doc .entry)) at end)) 1 level r (now (out .exit)) (now (log .exit))) ⌝ }
-{
-    if run.kept != 0 {
-        let r = raw(doc, out, log, run.len, run.noted, at, end);
-        return Run {
-            reached: OutputLevel(run.reached.0),
-            kept: 1,
-            len: r.len,
-            count: run.count,
-            noted: r.noted,
-        };
-    }
-    run
-}
-
-// The end of the innermost element, which has an end tag from at to end; an empty tag's has no bytes.
+// The end of the innermost element, which has an end tag from at to end; an empty tag's has no bytes. Where it ends a kept entry, the entry
+// is written.
 fn finish(
     run: Run,
     level: InputLevel,
@@ -76,11 +47,12 @@ fn finish(
     at: usize,
     end: usize,
 ) -> Run
-    requires { ⌜ Ready (now doc) (now log) run 144115188075855872 × (run .reached .0 ≤ level .0) × (at ≤ end) × (end ≤ length (now doc))
-        × Placed (now doc) (now starts) (now lens) (level .0) ⌝ }
+    requires { ⌜ Ready (now doc) (now log) run 144115188075855872 × (run .kept ≤ at + 1) × (run .reached .0 ≤ level .0) × (at ≤ end)
+        × (end ≤ length (now doc)) × Placed (now doc) (now starts) (now lens) (level .0) ⌝ }
     ensures { λ r.
-        ⌜ Moves (now (doc .entry)) (now (starts .entry)) (now (lens .entry)) (level .0) run (now (out .entry)) (now (log .entry))
-        (onFinish (part (now (doc .entry)) at end)) 1 (level .0 - 1) r (now (out .exit)) (now (log .exit)) ⌝ }
+        ⌜ Moves (now (doc .entry)) (now (starts .entry)) (now (lens .entry)) (level .0) at run (now (out .entry)) (now (log .entry))
+        (onFinish (part (now (doc .entry)) at end)) 1 (level .0 - 1) end r (now (out .exit)) (now (log .exit)) ⌝ }
+    ensures { λ r. ⌜ Stays (run .kept) (r .kept) ⌝ }
 {
     let l = level.0;
     if l == 0 {
@@ -93,27 +65,30 @@ fn finish(
         let r = ends(doc, out, log, run.len, run.noted, a, n);
         return Run {
             reached: OutputLevel(l - 1),
-            kept: run.kept,
+            kept: 0,
             len: r.len,
             count: run.count,
             noted: r.noted,
         };
     }
-    if run.kept != 0 {
-        let r = raw(doc, out, log, run.len, run.noted, at, end);
-        let inner = one_if(reached + 1 < l);
-        return Run {
-            reached: OutputLevel(reached),
-            kept: inner,
-            len: r.len,
-            count: run.count,
-            noted: r.noted,
-        };
+    if run.kept == 0 {
+        return run;
     }
-    run
+    if reached + 1 < l {
+        return run;
+    }
+    let from = run.kept - 1;
+    let r = raw(doc, out, log, run.len, run.noted, from, end);
+    Run {
+        reached: OutputLevel(reached),
+        kept: 0,
+        len: r.len,
+        count: run.count,
+        noted: r.noted,
+    }
 }
 
-// A start tag from at to end, whose head ends at head.
+// A start tag from at to end, whose head ends at head. Inside a kept entry an element is counted, and its bytes are due.
 fn start(
     run: Run,
     level: InputLevel,
@@ -127,33 +102,31 @@ fn start(
     head: usize,
     end: usize,
 ) -> Run
-    requires { ⌜ Ready (now doc) (now log) run 144115188075855872 × (run .reached .0 ≤ level .0) × (at ≤ head) × (head ≤ end)
-        × (end ≤ length (now doc)) × Placed (now doc) (now starts) (now lens) (level .0 + 1) ⌝ }
+    requires { ⌜ Ready (now doc) (now log) run 144115188075855872 × (run .kept ≤ at + 1) × (run .reached .0 ≤ level .0) × (at ≤ head)
+        × (head ≤ end) × (end ≤ length (now doc)) × Placed (now doc) (now starts) (now lens) (level .0 + 1) ⌝ }
     ensures { λ r.
-        ⌜ Moves (now (doc .entry)) (now (starts .entry)) (now (lens .entry)) (level .0) run (now (out .entry)) (now (log .entry))
+        ⌜ Moves (now (doc .entry)) (now (starts .entry)) (now (lens .entry)) (level .0) at run (now (out .entry)) (now (log .entry))
         (onStart verdict (nameAt (now (doc .entry)) (now (starts .entry)) (now (lens .entry)) (level .0))
-        (part (now (doc .entry)) at head) (part (now (doc .entry)) at end)) 1 (level .0 + 1) r (now (out .exit)) (now (log .exit)) ⌝ }
+        (part (now (doc .entry)) at head) (part (now (doc .entry)) at end)) 1 (level .0 + 1) end r (now (out .exit)) (now (log .exit)) ⌝ }
 {
     let l = level.0;
     let reached = run.reached.0;
     if run.kept != 0 {
-        let r = raw(doc, out, log, run.len, run.noted, at, end);
         let n = one_of(verdict);
         return Run {
             reached: OutputLevel(reached),
-            kept: 1,
-            len: r.len,
+            kept: run.kept,
+            len: run.len,
             count: run.count + n,
-            noted: r.noted,
+            noted: run.noted,
         };
     }
     match verdict {
         Verdict::Marked => {
-            let a = open_chain(doc, starts, lens, out, log, run.len, run.noted, reached, l);
-            let r = raw(doc, out, log, a.len, a.noted, at, end);
+            let r = open_chain(doc, starts, lens, out, log, run.len, run.noted, reached, l);
             Run {
                 reached: OutputLevel(l),
-                kept: 1,
+                kept: at + 1,
                 len: r.len,
                 count: run.count + 1,
                 noted: r.noted,
@@ -203,12 +176,12 @@ pub fn tag_step(
     end: usize,
     empty: bool,
 ) -> Run
-    requires { ⌜ Ready (now doc) (now log) run 72057594037927936 × (run .reached .0 ≤ level .0) × (at ≤ head) × (head ≤ end)
-        × (end ≤ length (now doc)) × Placed (now doc) (now starts) (now lens) (level .0 + 1) ⌝ }
+    requires { ⌜ Ready (now doc) (now log) run 72057594037927936 × (run .kept ≤ at + 1) × (run .reached .0 ≤ level .0) × (at ≤ head)
+        × (head ≤ end) × (end ≤ length (now doc)) × Placed (now doc) (now starts) (now lens) (level .0 + 1) ⌝ }
     ensures { λ r.
-        ⌜ Moves (now (doc .entry)) (now (starts .entry)) (now (lens .entry)) (level .0) run (now (out .entry)) (now (log .entry))
+        ⌜ Moves (now (doc .entry)) (now (starts .entry)) (now (lens .entry)) (level .0) at run (now (out .entry)) (now (log .entry))
         (onTag verdict (nameAt (now (doc .entry)) (now (starts .entry)) (now (lens .entry)) (level .0))
-        (part (now (doc .entry)) at head) (part (now (doc .entry)) at end) empty) 2 (deeper empty (level .0)) r
+        (part (now (doc .entry)) at head) (part (now (doc .entry)) at end) empty) 2 (deeper empty (level .0)) end r
         (now (out .exit)) (now (log .exit)) ⌝ }
 {
     let reached = level.0;
@@ -241,7 +214,8 @@ pub fn tag_step(
     inner
 }
 
-// The step of an item that is no start tag and no empty tag.
+// The step of an item that is no start tag and no empty tag. Of one that is no tag nothing is written here: it is dropped, or is due inside
+// a kept entry.
 pub fn other_step(
     run: Run,
     level: InputLevel,
@@ -253,15 +227,14 @@ pub fn other_step(
     at: usize,
     item: Item,
 ) -> Run
-    requires { ⌜ Ready (now doc) (now log) run 72057594037927936 × (run .reached .0 ≤ level .0) × Inside (now doc) at item
-        × (at ≤ length (now doc)) × Placed (now doc) (now starts) (now lens) (level .0) ⌝ }
+    requires { ⌜ Ready (now doc) (now log) run 72057594037927936 × (run .kept ≤ at + 1) × (run .reached .0 ≤ level .0)
+        × Inside (now doc) at item × (at ≤ length (now doc)) × Placed (now doc) (now starts) (now lens) (level .0) ⌝ }
     ensures { λ r.
-        ⌜ Moves (now (doc .entry)) (now (starts .entry)) (now (lens .entry)) (level .0) run (now (out .entry)) (now (log .entry))
-        (onOther (now (doc .entry)) at item) 1 (levelAfter item (level .0)) r (now (out .exit)) (now (log .exit)) ⌝ }
+        ⌜ Moves (now (doc .entry)) (now (starts .entry)) (now (lens .entry)) (level .0) at run (now (out .entry)) (now (log .entry))
+        (onOther (now (doc .entry)) at item) 1 (levelAfter item (level .0)) (endOf at item) r (now (out .exit)) (now (log .exit)) ⌝ }
 {
     if let Item::Finish { name: _, end } = item {
         return finish(run, level, doc, starts, lens, out, log, at, end);
     }
-    let end = end_of(at, item);
-    aside(run, doc, out, log, at, end)
+    run
 }

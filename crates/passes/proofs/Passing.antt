@@ -63,7 +63,7 @@ use Rattle.output.specs.Act.{onTag, onOther, levelAfter}
 use Rattle.output.specs.Levels.{nameAt, Placed, Stands, Moves, Ready}
 use Rattle.output.specs.declared.Run.{Run}
 use Rattle.output.proofs.Chains.{name-part}
-use Rattle.output.proofs.Steps.{open-is}
+use Rattle.output.proofs.Steps.{open-is, out-laid, kept-none}
 use Rattle.passes.specs.Opens.{Opens}
 use Rattle.passes.specs.Passed.{PassedBy}
 use Rattle.passes.specs.declared.Outcome.the-variants.{Fine as Ended, Fault}
@@ -158,7 +158,7 @@ pub record Passing (counts : Bool) (list tb d o₀ g₀ : List ℕ) (states : Li
   pub judging : Judging d starts lens opened at first
   pub x : Engine
   pub rest : Rest (verdicts (listPaths list)) (countedTests counts (listPaths list)) d at first x tests
-  pub stands : Stands d starts lens o₀ (opened .level .0) (run .reached .0) (run .kept) (run .len) (run .count) (run .noted) o g x
+  pub stands : Stands d starts lens o₀ (opened .level .0) (run .reached .0) (run .kept) at (run .len) (run .count) (run .noted) o g x
   pub held : Held (listPaths list) states d starts lens (opened .level .0)
   pub opens : Opens d starts lens (opened .level .0)
   pub order : run .reached .0 ≤ opened .level .0
@@ -189,9 +189,13 @@ pass-start counts list tb d o g {m} {e} {at = at} p r q f u =
       stands =
           record {
             kept-is = refl;
+            inner = inl refl;
+            behind = omega arith;
             pend-is = refl;
             done-is = refl;
             num-is = refl;
+            said = [];
+            out-is = refl;
             text = record { long = refl; laid = refl };
             notes = stood-none;
           };
@@ -231,14 +235,15 @@ module _ {counts : Bool} {list tb d o₀ g₀ : List ℕ} {states : List MatchSt
       counted : tests ≡ cond counts (testsOf list d) 0
       counted = sum-over (v .rest) e (openedOf d starts lens opened) (sym q ∙ h) ∙ counted-tests counts list d (sym sound)
 
-      go : (y : Engine) → Stands d starts lens o₀ (opened .level .0) (run .reached .0) (run .kept) (run .len) (run .count)
+      go : (y : Engine) → Stands d starts lens o₀ (opened .level .0) (run .reached .0) (run .kept) at (run .len) (run .count)
           (run .noted) o g y
           → y ≡ engine false [] [] (cutOf list d) (countOf list d)
           → (run .len ≡ length (cutOf list d)) × (run .count ≡ countOf list d) × (tests ≡ cond counts (testsOf list d) 0)
           × (o ≡ sets o₀ 0 (cutOf list d))
           × Stood d g (run .noted) (cutOf list d)
       go (engine k p′ d′ w c) t z =
-          let a : w ≡ cutOf list d = cc in
+          let f : false ≡ k = cc in
+          let a : t .said ≡ cutOf list d = sym (out-laid d (t .said) (run .kept) at (t .out-is) (kept-none (run .kept) (f ∙ t .kept-is))) ∙ cc in
           let b : c ≡ countOf list d = cc in
           (sym (t .text .long) ∙ ap length a, sym (t .num-is) ∙ b, counted, t .text .laid ∙ ap (sets o₀ 0) a, rw a at (t .notes))
 
@@ -306,15 +311,19 @@ placed-more {d} {starts} {lens} {opened} s a n h l =
         ⊎-elim (λ (q : i ≡ opened .level .0). rw q here) (λ (q : i < opened .level .0). k .inside i q) (eq-or-lt-of-le le)
 
 -- what the state stands for does not see a name kept at the level reached
-stands-kept : {d starts lens o₀ o g : List ℕ} {level reached kept len count m : ℕ} {x : Engine} → reached ≤ level
-    → Stands d starts lens o₀ level reached kept len count m o g x → (a n : ℕ)
-    → Stands d (set starts level a) (set lens level n) o₀ level reached kept len count m o g x
+stands-kept : {d starts lens o₀ o g : List ℕ} {level reached kept at len count m : ℕ} {x : Engine} → reached ≤ level
+    → Stands d starts lens o₀ level reached kept at len count m o g x → (a n : ℕ)
+    → Stands d (set starts level a) (set lens level n) o₀ level reached kept at len count m o g x
 stands-kept {d} {starts} {lens} {level = level} {reached} h t a n =
     record {
       kept-is = t .kept-is;
+      inner = t .inner;
+      behind = t .behind;
       pend-is = t .pend-is ∙ sym (span-below d starts lens level a n reached (level - reached) (omega arith));
       done-is = t .done-is ∙ sym (span-below d starts lens level a n 0 reached (omega arith));
       num-is = t .num-is;
+      said = t .said;
+      out-is = t .out-is;
       text = t .text;
       notes = t .notes;
     }
@@ -353,7 +362,7 @@ module _ {counts : Bool} {list tb d o₀ g₀ : List ℕ} {states : List MatchSt
     pass-placed = rw (es, el) (placed-kept (v .judging .names) (at + 1) (lenOf i))
 
     pub pass-other : OneOf untagged (kindOf item.the-type i) → {run′ : Run} {o′ g′ : List ℕ}
-        → Moves d starts′ lens′ (opened .level .0) run o g (onOther d at i) 1 (levelAfter i (opened .level .0)) run′ o′ g′
+        → Moves d starts′ lens′ (opened .level .0) at run o g (onOther d at i) 1 (levelAfter i (opened .level .0)) (endOf at i) run′ o′ g′
         → {opened′ : Open} → opened′ ≡ openAfter i opened → {n : ℕ} → n ≡ endOf at i
         → Passing counts list tb d o₀ g₀ states memo slots starts′ lens′ opened′ run′ n false tests o′ g′
     pass-other k {run′} {o′} {g′} m {opened′} eo {n} en =
@@ -361,7 +370,8 @@ module _ {counts : Bool} {list tb d o₀ g₀ : List ℕ} {states : List MatchSt
           judging = scan-on (v .judging) e q h es el eo en;
           x = onOther d at i (v .x);
           rest = rw en (rest-other (v .rest) e (openedOf d starts lens opened) (sym q ∙ h) k (ahead .0) (ahead .1));
-          stands = rw level at (m .moves o₀ (v .x) (rw (es, el) (stands-kept (v .order) (v .stands) (at + 1) (lenOf i))));
+          stands =
+              rw en (rw level at (m .moves o₀ (v .x) (rw (es, el) (stands-kept (v .order) (v .stands) (at + 1) (lenOf i)))));
           held = rw (es, el) (held-kept (v .held) (at + 1) (lenOf i) (opened′ .level .0) less);
           opens = rw (es, el) (opens-kept (v .opens) (at + 1) (lenOf i) (opened′ .level .0) less);
           order = rw level at (m .order);
@@ -572,8 +582,8 @@ module _ {counts : Bool} {list tb d o₀ g₀ : List ℕ} {states : List MatchSt
             → {memo′ : List Known} (slot : ℕ) {y : Known} → memo′ ≡ set memo slot y → Recalls counts tb y
             → {slots′ : List ℕ} → Written slots slots′
             → {k : ℕ} → (k ≡ cond counts (testsBy parent fit) 0) × (k ≤ 512) → {run′ : Run} {o′ g′ : List ℕ}
-            → Moves d starts′ lens′ (opened .level .0) run o g
-            (onTag w (nameAt d starts′ lens′ (opened .level .0)) (part d at b) (part d at f) m) 2 (deeper m (opened .level .0)) run′ o′ g′
+            → Moves d starts′ lens′ (opened .level .0) at run o g
+            (onTag w (nameAt d starts′ lens′ (opened .level .0)) (part d at b) (part d at f) m) 2 (deeper m (opened .level .0)) f run′ o′ g′
             → {opened′ : Open} → opened′ ≡ openAfter (Start n b f m t) opened
             → Passing counts list tb d o₀ g₀ states′ memo′ slots′ starts′ lens′ opened′ run′ f false (tests + k) o′ g′
         pass-tag {w} ew et slot em er el′ {k} ek {run′} {o′} {g′} mv {opened′} eo =

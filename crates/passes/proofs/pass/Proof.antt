@@ -322,6 +322,7 @@ tag-step-requires c κs =
           .before .before .before .before .before .before .pre .1) (c .before .before .before .before .before .before .before .before
           .before .before .before .before .before .before .before .before .before .before .before .before .before .before .before
           .before .before .before .before .before .before .before .before .before .before .before .before .pre .3) (pass-within v e q h),
+      v .stands .behind,
       v .order,
       tag-from v e q h s,
       tag-to v e q h s,
@@ -393,6 +394,7 @@ other-step-requires c κs =
           .before .before .before .before .before .before .before .before .before .before .pre .1) (c .before .before .before .before
           .before .before .before .before .before .before .before .before .before .before .before .before .before .before .before
           .before .before .before .before .before .pre .3) (pass-within v e q h),
+      v .stands .behind,
       v .order,
       pass-inside v e q h,
       v .judging .within,
