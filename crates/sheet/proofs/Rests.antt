@@ -10,7 +10,7 @@ use native.Mathlib.Omega.{arith}
 use types.Run.{OneOf}
 use denote.Enum.Declared.{tagOf as kindOf}
 use lib.ListN.{length}
-use Rattle.xml.specs.Forest.{Name, Tag}
+use Rattle.xml.specs.Forest.{Name}
 use Rattle.tags.proofs.Item as item
 use Rattle.tags.specs.Kept.{nameFrom}
 use Rattle.tags.specs.declared.Item.{Item}

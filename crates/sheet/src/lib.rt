@@ -121,7 +121,8 @@ fn start(
     run
 }
 
-// By the tables of a sound list.
+// A pass over the items by the tables of a sound list: the header, and at each start tag the record of its element. Into one byte it
+// measures. States, names and what is known of elements are kept as in a pass that cuts (the crate passes).
 fn pass(table: &Classes, list: &[u8], t: &Compiled, doc: &[u8], out: &mut [u8]) -> Outcome
     requires { ⌜ (now table ≡ classTable) × (length (now doc) ≤ 16777216) × Serves (now list) (now t) ⌝ }
     ensures { λ r. ⌜ Passed (now (list .entry)) (now (doc .entry)) (now (out .entry)) r (now (out .exit)) ⌝ }
