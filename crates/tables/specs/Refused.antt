@@ -1,5 +1,6 @@
--- "Refusals: as for a cut, with 9 giving the length of the whole table": what is answered where a table is asked for and where a cut is, by
--- a list and of a document of which x and y are said. The table has the bytes w, c elements are selected, and the buffer is of `room` bytes.
+-- "Refusals: as for a cut, with 9 giving the length of the whole table": what is answered where a table is asked for and where a cut is,
+-- by a list and of a document of which x and y are said. The table has the bytes w, c elements are selected, and the buffer has `room`
+-- bytes.
 use mathlib.Core.Path.{_≡_}
 use mathlib.Core.List.{List}
 use Prim.Native.Nat.{ℕ, _≤_, _<_}
