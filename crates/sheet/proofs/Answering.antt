@@ -3,7 +3,7 @@
 -- is room; the list.
 use mathlib.Core.Path.{_≡_, refl, sym, ap, _∙_}
 use mathlib.Core.Bool.{Bool, true, false, cond}
-use mathlib.Core.List.{List, [], _∷_}
+use mathlib.Core.List.{List, []}
 use Prim.Native.Nat.{ℕ, _+_, _≤_, _<_}
 use native.Mathlib.Omega.{arith}
 use borrow.Author.Needs.{needs}
@@ -119,7 +119,8 @@ fault-keeps why.TooLarge n w o = refl
 
 module _ (list d o : List ℕ) where
   -- what is left to the document
-  by-document : {j : Judged} → j ≡ judgeOf d → byDocument j (byRoom (length o) (tableOf list d) (countOf list d)) ≡ answerBy list d (length o)
+  by-document : {j : Judged} → j ≡ judgeOf d
+      → byDocument j (byRoom (length o) (tableOf list d) (countOf list d)) ≡ answerBy list d (length o)
   by-document e = ap (λ (x : Judged). byDocument x (byRoom (length o) (tableOf list d) (countOf list d))) e
 
   pub by-long : 16777216 < length d → AnswersBy list d o TooLong o

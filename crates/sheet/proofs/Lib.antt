@@ -6,3 +6,4 @@ pub mod Verdicts
 pub mod Walking
 pub mod Answering
 pub mod OneAnswer
+pub mod Examples

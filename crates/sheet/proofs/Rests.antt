@@ -10,7 +10,7 @@ use native.Mathlib.Omega.{arith}
 use types.Run.{OneOf}
 use denote.Enum.Declared.{tagOf as kindOf}
 use lib.ListN.{length}
-use Rattle.xml.specs.Forest.{Name, Tag}
+use Rattle.xml.specs.Forest.{Name}
 use Rattle.tags.proofs.Item as item
 use Rattle.tags.specs.Kept.{nameFrom}
 use Rattle.tags.specs.declared.Item.{Item}
@@ -165,7 +165,8 @@ outer-closed [] = refl
 outer-closed (n ∷ up) = refl
 
 -- it has no record, and leaves open what it leaves open
-other-records : (v : Judge) (d : List ℕ) (at : ℕ) (s : Opened) (i : Item) → placement d at i s ≡ Fine → OneOf untagged (kindOf item.the-type i)
+other-records : (v : Judge) (d : List ℕ) (at : ℕ) (s : Opened) (i : Item) → placement d at i s ≡ Fine
+    → OneOf untagged (kindOf item.the-type i)
     → (ts : List Token)
     → (recordsOver v (itemTokens d at i ts) (s .names) ≡ recordsOver v ts (afterItem d at i s .names))
     × (selectedOver v (itemTokens d at i ts) (s .names) ≡ selectedOver v ts (afterItem d at i s .names))
@@ -188,6 +189,7 @@ pub rest-other : {v : Judge} {d : List ℕ} {at : ℕ} {first : Bool} (s : Opene
     → at < endOf at i → endOf at i ≤ length d → Rest v d (endOf at i) false (afterItem d at i s .names) w k
 rest-other {v} {d} {at} s {w} {k} r {i} q z o l g =
     let x = other-records v d at s i z o (behind r q) in
+    let up = afterItem d at i s .names in
     let plain : w ++ [] ≡ w = append-nil w in
     let none : k + 0 ≡ k = omega arith in
-    rw (plain, none) at (rest-on r q (afterItem d at i s .names) [] 0 (x .0) (x .1 ∙ sym (zero-add (selectedOver v (behind r q) (afterItem d at i s .names)))) l g)
+    rw (plain, none) at (rest-on r q up [] 0 (x .0) (x .1 ∙ sym (zero-add (selectedOver v (behind r q) up))) l g)

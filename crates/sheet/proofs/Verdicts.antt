@@ -1,11 +1,10 @@
--- The verdict on an element, and the state below it, by the state kept for its parent: the list's verdict on the names from the root down to
--- it and its attributes. The names that are open, the innermost first, are those by level.
+-- The verdict on an element, and the state below it, by the state kept for its parent: the list's verdict on the names from the root down
+-- to it and its attributes. The names that are open, the innermost first, are those by level.
 use mathlib.Core.Path.{_≡_, refl, sym, ap, ap₂, _∙_}
 use mathlib.Core.Bool.{Bool, true, false}
 use mathlib.Core.List.{List, [], _∷_, _++_}
 use Prim.Native.Nat.{ℕ, zero, suc, _+_, _-_, _≤_, _<_}
 use native.Mathlib.Nat.{zero-add}
-use native.Mathlib.Omega.{arith}
 use lib.ListN.{length, take, drop, getD, set}
 use Rattle.xml.specs.Forest.{Name, Tag}
 use Rattle.paths.specs.Path.{Path}

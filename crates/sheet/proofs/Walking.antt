@@ -1,11 +1,11 @@
--- The pass over the items. The invariant: the records laid so far and those of the tokens left are the records of all tokens, and so are the
--- elements counted; the scan of the document comes to what it comes to from the start; states and names are kept by level, and what is kept
--- of elements is known of them. Then a law for each way on and each way out. The header was laid before: `o₁` is the buffer with it, and
--- `base` the place behind it.
+-- The pass over the items. In order: an item that may stand where it stands, and a tag; the invariant; a law for each way out and each way
+-- on. The invariant: the records laid so far and those of the tokens left are the records of all tokens, and the elements counted and those
+-- left are all that are selected; the scan comes to what it comes to from the start; states and names are kept by level, and what is kept
+-- of elements is known of them. The header was laid before: `o₁` is the buffer with it, and `base` the place behind it.
 use mathlib.Core.Path.{_≡_, refl, sym, ap, _∙_}
 use mathlib.Core.Bool.{Bool, true, false}
 use mathlib.Core.List.{List, [], _∷_, _++_}
-use mathlib.Core.Logic.{_⊎_, inl, inr}
+use mathlib.Core.Logic.{inl, inr}
 use Prim.Native.Nat.{ℕ, _+_, _-_, _*_, _≤_, _<_}
 use native.Mathlib.Omega.{arith}
 use types.Run.{OneOf}
@@ -25,7 +25,7 @@ use Rattle.tags.specs.declared.Item.the-variants.{Doctype, Malformed, TooLarge,
 use Rattle.items.specs.Inside.{Inside}
 use Rattle.items.specs.Item.{itemAt}
 use Rattle.document.specs.Place.{Opened, placement, opens as opensBy, afterItem, endOf}
-use Rattle.document.specs.Levels.{openedOf, namesOf, Names, deeper, openAfter, lenOf}
+use Rattle.document.specs.Levels.{openedOf, namesOf, deeper, openAfter, lenOf}
 use Rattle.document.specs.Judge.{startOf, scanned}
 use Rattle.document.specs.declared.Open.{Open}
 use Rattle.document.specs.declared.Placement.{Placement}
@@ -47,8 +47,8 @@ use Rattle.recall.specs.declared.Known.{Known}
 use Rattle.writer.specs.Wrote.{Wrote}
 use Rattle.writer.proofs.Laying.{wrote-none, wrote-more, wrote-long}
 use Rattle.trees.specs.Cut.{on, one}
-use Rattle.trees.specs.Grown.{part, tagOf, tokensOf}
-use Rattle.trees.specs.Written.{verdicts, countOf}
+use Rattle.trees.specs.Grown.{part, tagOf}
+use Rattle.trees.specs.Written.{verdicts}
 use Rattle.output.proofs.Chains.{name-part}
 use Rattle.quick.proofs.Opened.{start-named}
 use Rattle.passes.specs.ByTests.{ByTests}
@@ -59,7 +59,6 @@ use Rattle.passes.proofs.Telling.{opens-none, opens-kept, opens-more}
 use Rattle.passes.proofs.Passing.{blank, recalls-none, recalls-set, Written}
 use Rattle.rows.specs.Field.{header}
 use Rattle.rows.specs.Table.{recordBy, tableOf}
-use Rattle.rows.specs.Tokens.{recordsOver}
 use Rattle.rows.specs.Laid.{PlainNames, elementText}
 use Rattle.rows.proofs.Plain.{plain-names}
 use Rattle.rows.proofs.Tokens.{sound-table}

@@ -19,8 +19,8 @@ use Rattle.sheet.specs.declared.Run.{Run}
 use Rattle.sheet.specs.declared.Outcome.{Outcome}
 use Rattle.sheet.specs.declared.Outcome.the-variants.{Fine, Fault}
 
--- The element of these names, the innermost first, and of the text s: by its verdict w its record is laid behind what is laid so far, and it
--- is counted. A record has at most 2^28 bytes.
+-- The element of these names, the innermost first, and of the text s: by its verdict w its record is laid behind what is laid so far, and
+-- it is counted. A record has at most 2^28 bytes.
 pub record Started (w : Verdict) (up : List Name) (s o : List ℕ) (run r : Run) (o′ : List ℕ) : Type 0 where
   pub wrote : Wrote o (run .to) (recordBy w up s) (r .to) o′
   pub near : r .to ≤ run .to + 268435456

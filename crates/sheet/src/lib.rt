@@ -1,5 +1,5 @@
-// A table of a document by a list: one call, from a list, a document and a buffer to an answer and, under 0, the table. What is answered and
-// what stands in the buffer afterwards is in specs/Answer.antt; what a record is, in the crate rows.
+// A table of a document by a list: one call, from a list, a document and a buffer to an answer and, under 0, the table. What is answered
+// and what stands in the buffer afterwards is in specs/Answer.antt; what a record is, in the crate rows.
 //
 //     list      judged and compiled                         refused: 1 2 3
 //     document  its length, the encoding that it declares,
@@ -70,7 +70,7 @@ pub enum Answer {
 }
 
 // What a pass comes to: the length of the table and the number of elements selected; or the item at fault.
-pub enum Outcome {
+enum Outcome {
     Fine(usize, usize),
     Fault(Why, usize),
 }
@@ -121,7 +121,8 @@ fn start(
     run
 }
 
-// By the tables of a sound list.
+// A pass over the items by the tables of a sound list: the header, and at each start tag the record of its element. Into one byte it
+// measures. States, names and what is known of elements are kept as in a pass that cuts (the crate passes).
 fn pass(table: &Classes, list: &[u8], t: &Compiled, doc: &[u8], out: &mut [u8]) -> Outcome
     requires { ⌜ (now table ≡ classTable) × (length (now doc) ≤ 16777216) × Serves (now list) (now t) ⌝ }
     ensures { λ r. ⌜ Passed (now (list .entry)) (now (doc .entry)) (now (out .entry)) r (now (out .exit)) ⌝ }

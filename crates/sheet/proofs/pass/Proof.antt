@@ -16,11 +16,13 @@ use Rattle.sheet.proofs.pass.Statement.{statement}
 use Rattle.sheet.proofs.pass.Tie as tie
 
 abbrev Inv-loop : tie.InvT-loop
-Inv-loop table list t doc out₀ tested states₀ memo₀ slots₀ starts₀ lens₀ opened₀ header run₀ at₀ first₀ out states memo slots starts lens opened run at first =
+Inv-loop table list t doc out₀ tested states₀ memo₀ slots₀ starts₀ lens₀ opened₀ header run₀ at₀ first₀ out states memo slots starts
+    lens opened run at first =
     Walking list t doc out₀ header states memo slots starts lens opened run at first out
 
 abbrev μ-loop : tie.MeasureT-loop
-μ-loop table list t doc out₀ tested states₀ memo₀ slots₀ starts₀ lens₀ opened₀ header run₀ at₀ first₀ out states memo slots starts lens opened run at first =
+μ-loop table list t doc out₀ tested states₀ memo₀ slots₀ starts₀ lens₀ opened₀ header run₀ at₀ first₀ out states memo slots starts
+    lens opened run at first =
     length doc - at
 
 any-requires : tie.Need-any-requires Inv-loop μ-loop
@@ -43,7 +45,8 @@ start-of-requires c κs = search needs
 
 loop-holds : tie.Need-loop-holds Inv-loop μ-loop
 loop-holds c =
-    walk-start _ _ _ _ (c .before .before .before .before .before .none .ensures) (c .start-of .ensures) (c .before .before .before .before .before .before .before .fresh .ensures) (c .before .before .before .before .before .before .nothing .ensures)
+    walk-start _ _ _ _ (c .before .before .before .before .before .none .ensures) (c .start-of .ensures) (c .before .before .before
+    .before .before .before .before .fresh .ensures) (c .before .before .before .before .before .before .nothing .ensures)
 
 next-item-requires : tie.Need-next-item-requires Inv-loop μ-loop
 next-item-requires c κs =
@@ -63,7 +66,8 @@ same-length c = search needs
 
 returns : tie.Need-returns Inv-loop μ-loop
 returns c =
-    walk-fault (c .before .before .before .before .before .before .loop .inv) (c .before .before .before .next-item .ensures .0) (c .before .before .before .next-item .ensures .1) _ _ (c .before .placed .given .1)
+    walk-fault (c .before .before .before .before .before .before .loop .inv) (c .before .before .before .next-item .ensures .0) (c
+    .before .before .before .next-item .ensures .1) _ _ (c .before .placed .given .1)
 
 enum-told : tie.Need-enum-told Inv-loop μ-loop
 enum-told c = search needs
@@ -73,7 +77,9 @@ same-length-2 c = search needs
 
 returns-2 : tie.Need-returns-2 Inv-loop μ-loop
 returns-2 c =
-    walk-over (c .before .before .before .before .before .loop .inv) (c .before .before .next-item .ensures .0) (c .before .before .next-item .ensures .1) (c .before .before .before .before .before .before .before .before .before .lay-header .ensures) (c .enum-told .given .1)
+    walk-over (c .before .before .before .before .before .loop .inv) (c .before .before .next-item .ensures .0) (c .before .before
+    .next-item .ensures .1) (c .before .before .before .before .before .before .before .before .before .lay-header .ensures) (c
+    .enum-told .given .1)
 
 enum-told-2 : tie.Need-enum-told-2 Inv-loop μ-loop
 enum-told-2 c = search needs
@@ -87,7 +93,8 @@ keep-requires c κs =
     let names = v .judging .names in (
       names .starts-long,
       names .lens-long,
-      item-next (v .judging) e q h (c .before .before .before .before .before .before .before .before .before .before .before .before .before .before .before .before .before .before .before .before .pre .1),
+      item-next (v .judging) e q h (c .before .before .before .before .before .before .before .before .before .before .before .before
+          .before .before .before .before .before .before .before .before .pre .1),
     )
 
 enum-known-next : tie.Need-enum-known-next Inv-loop μ-loop
@@ -118,7 +125,8 @@ add-a c =
     let e = c .before .before .before .before .before .before .before .before .before .next-item .ensures .0 in
     let q = c .before .before .before .before .before .before .before .before .before .next-item .ensures .1 in
     let h = c .before .before .before .before .before .before .before .enum-told2 .given .1 in
-    item-fits (v .judging) e q h (c .before .before .before .before .before .before .before .before .before .before .before .before .before .before .before .before .before .before .before .before .before .before .before .before .before .pre .1)
+    item-fits (v .judging) e q h (c .before .before .before .before .before .before .before .before .before .before .before .before
+    .before .before .before .before .before .before .before .before .before .before .before .before .before .pre .1)
 
 add-row-of : tie.Need-add-row-of Inv-loop μ-loop
 add-row-of c =
@@ -127,7 +135,8 @@ add-row-of c =
     let q = c .before .before .before .before .before .before .before .before .before .next-item .ensures .1 in
     let h = c .before .before .before .before .before .before .before .enum-told2 .given .1 in
     let s = c .before .before .next .given .1 in
-    tag-fits (v .judging) e q h s (c .before .before .before .before .before .before .before .before .before .before .before .before .before .before .before .before .before .before .before .before .before .before .before .before .before .pre .1)
+    tag-fits (v .judging) e q h s (c .before .before .before .before .before .before .before .before .before .before .before .before
+    .before .before .before .before .before .before .before .before .before .before .before .before .before .pre .1)
 
 sub-row-of : tie.Need-sub-row-of Inv-loop μ-loop
 sub-row-of c = search needs
@@ -147,7 +156,8 @@ part-row-of-end c =
 
 row-of-requires : tie.Need-row-of-requires Inv-loop μ-loop
 row-of-requires c κs =
-    c .before .before .before .before .before .before .before .before .before .before .before .before .before .before .before .before .before .before .before .before .before .before .before .before .before .before .pre .2
+    c .before .before .before .before .before .before .before .before .before .before .before .before .before .before .before .before
+    .before .before .before .before .before .before .before .before .before .before .pre .2
 
 mul-slot-of : tie.Need-mul-slot-of Inv-loop μ-loop
 mul-slot-of c =
@@ -181,16 +191,20 @@ mul-before c =
 array-copy-out-before : tie.Need-array-copy-out-before Inv-loop μ-loop
 array-copy-out-before c =
     let l = c .slot-of .ensures .1 in
-    let long = c .before .before .before .before .before .before .before .before .before .before .before .before .before .before .before .loop .inv .memo-long in
+    let long = c .before .before .before .before .before .before .before .before .before .before .before .before .before .before
+    .before .loop .inv .memo-long in
     omega (arith, l, long)
 
 renewed-requires : tie.Need-renewed-requires Inv-loop μ-loop
 renewed-requires c κs =
-    let v = c .before .before .before .before .before .before .before .before .before .before .before .before .before .before .before .before .loop .inv in
+    let v = c .before .before .before .before .before .before .before .before .before .before .before .before .before .before .before
+    .before .loop .inv in
     let l = c .before .slot-of .ensures .1 in
     let long = v .memo-long in (
       v .recalls _ (omega (arith, l, long)),
-      row-few (c .before .before .before .before .before .before .before .before .before .before .before .before .before .before .before .before .before .before .before .before .before .before .before .before .before .before .before .before .before .pre .2) _ (c .before .before .row-of .ensures),
+      row-few (c .before .before .before .before .before .before .before .before .before .before .before .before .before .before
+          .before .before .before .before .before .before .before .before .before .before .before .before .before .before .before
+          .pre .2) _ (c .before .before .row-of .ensures),
     )
 
 mul-memo : tie.Need-mul-memo Inv-loop μ-loop
@@ -201,31 +215,47 @@ mul-memo c =
 array-set-from-memo : tie.Need-array-set-from-memo Inv-loop μ-loop
 array-set-from-memo c =
     let l = c .before .before .slot-of .ensures .1 in
-    let long = c .before .before .before .before .before .before .before .before .before .before .before .before .before .before .before .before .before .loop .inv .memo-long in
+    let long = c .before .before .before .before .before .before .before .before .before .before .before .before .before .before
+    .before .before .before .loop .inv .memo-long in
     omega (arith, l, long)
 
 judged-requires : tie.Need-judged-requires Inv-loop μ-loop
 judged-requires c κs =
-    let v = c .before .before .before .before .before .before .before .before .before .before .before .before .before .before .before .before .before .before .loop .inv in
-    let e = c .before .before .before .before .before .before .before .before .before .before .before .before .before .before .before .next-item .ensures .0 in
-    let q = c .before .before .before .before .before .before .before .before .before .before .before .before .before .before .before .next-item .ensures .1 in
-    let h = c .before .before .before .before .before .before .before .before .before .before .before .before .before .enum-told2 .given .1 in
+    let v = c .before .before .before .before .before .before .before .before .before .before .before .before .before .before .before
+    .before .before .before .loop .inv in
+    let e = c .before .before .before .before .before .before .before .before .before .before .before .before .before .before .before
+    .next-item .ensures .0 in
+    let q = c .before .before .before .before .before .before .before .before .before .before .before .before .before .before .before
+    .next-item .ensures .1 in
+    let h = c .before .before .before .before .before .before .before .before .before .before .before .before .before .enum-told2
+    .given .1 in
     let s = c .before .before .before .before .before .before .before .before .next .given .1 in (
-      c .before .before .before .before .before .before .before .before .before .before .before .before .before .before .before .before .before .before .before .before .before .before .before .before .before .before .before .before .before .before .before .pre .0,
-      c .before .before .before .before .before .before .before .before .before .before .before .before .before .before .before .before .before .before .before .before .before .before .before .before .before .before .before .before .before .before .before .pre .2,
-      c .before .before .before .before .before .before .before .before .before .before .before .before .before .before .before .before .before .before .before .before .before .before .before .before .before .before .before .any .ensures,
+      c .before .before .before .before .before .before .before .before .before .before .before .before .before .before .before
+          .before .before .before .before .before .before .before .before .before .before .before .before .before .before .before
+          .before .pre .0,
+      c .before .before .before .before .before .before .before .before .before .before .before .before .before .before .before
+          .before .before .before .before .before .before .before .before .before .before .before .before .before .before .before
+          .before .pre .2,
+      c .before .before .before .before .before .before .before .before .before .before .before .before .before .before .before
+          .before .before .before .before .before .before .before .before .before .before .before .before .any .ensures,
       tag-behind (v .judging) e q h s,
       tag-head (v .judging) e q h s,
-      row-few (c .before .before .before .before .before .before .before .before .before .before .before .before .before .before .before .before .before .before .before .before .before .before .before .before .before .before .before .before .before .before .before .pre .2) _ (c .before .before .before .before .row-of .ensures),
+      row-few (c .before .before .before .before .before .before .before .before .before .before .before .before .before .before
+          .before .before .before .before .before .before .before .before .before .before .before .before .before .before .before
+          .before .before .pre .2) _ (c .before .before .before .before .row-of .ensures),
       verdict-told-by _ _ _ _ (c .before .renewed .ensures),
     )
 
 add-if1 : tie.Need-add-if1 Inv-loop μ-loop
 add-if1 c =
-    let v = c .before .before .before .before .before .before .before .before .before .before .before .before .before .before .before .before .before .before .before .loop .inv in
-    let e = c .before .before .before .before .before .before .before .before .before .before .before .before .before .before .before .before .next-item .ensures .0 in
-    let q = c .before .before .before .before .before .before .before .before .before .before .before .before .before .before .before .before .next-item .ensures .1 in
-    let h = c .before .before .before .before .before .before .before .before .before .before .before .before .before .before .enum-told2 .given .1 in
+    let v = c .before .before .before .before .before .before .before .before .before .before .before .before .before .before .before
+    .before .before .before .before .loop .inv in
+    let e = c .before .before .before .before .before .before .before .before .before .before .before .before .before .before .before
+    .before .next-item .ensures .0 in
+    let q = c .before .before .before .before .before .before .before .before .before .before .before .before .before .before .before
+    .before .next-item .ensures .1 in
+    let h = c .before .before .before .before .before .before .before .before .before .before .before .before .before .before
+    .enum-told2 .given .1 in
     let s = c .before .before .before .before .before .before .before .before .before .next .given .1 in
     let below = tag-level (v .judging) e q h s in
     search (needs, below)
@@ -247,53 +277,86 @@ mul-slots c = search needs
 
 array-write-slots : tie.Need-array-write-slots Inv-loop μ-loop
 array-write-slots c =
-    let long = c .before .before .before .before .before .before .before .before .before .before .before .before .before .before .before .before .before .before .before .before .loop .inv .slots-long in
+    let long = c .before .before .before .before .before .before .before .before .before .before .before .before .before .before
+    .before .before .before .before .before .before .loop .inv .slots-long in
     let l = c .if1 .taken in
     omega (arith, l, long)
 
 start-requires : tie.Need-start-requires Inv-loop μ-loop
 start-requires c κs =
-    let v = c .before .before .before .before .before .before .before .before .before .before .before .before .before .before .before .before .before .before .before .before .before .before .before .loop .inv in
-    let e = c .before .before .before .before .before .before .before .before .before .before .before .before .before .before .before .before .before .before .before .before .next-item .ensures .0 in
-    let q = c .before .before .before .before .before .before .before .before .before .before .before .before .before .before .before .before .before .before .before .before .next-item .ensures .1 in
-    let h = c .before .before .before .before .before .before .before .before .before .before .before .before .before .before .before .before .before .before .enum-told2 .given .1 in
+    let v = c .before .before .before .before .before .before .before .before .before .before .before .before .before .before .before
+    .before .before .before .before .before .before .before .before .loop .inv in
+    let e = c .before .before .before .before .before .before .before .before .before .before .before .before .before .before .before
+    .before .before .before .before .before .next-item .ensures .0 in
+    let q = c .before .before .before .before .before .before .before .before .before .before .before .before .before .before .before
+    .before .before .before .before .before .next-item .ensures .1 in
+    let h = c .before .before .before .before .before .before .before .before .before .before .before .before .before .before .before
+    .before .before .before .enum-told2 .given .1 in
     let s = c .before .before .before .before .before .before .before .before .before .before .before .before .before .next .given .1 in
-    let k = c .before .before .before .before .before .before .before .before .before .before .before .before .before .before .before .keep .ensures in (
-      c .before .before .before .before .before .before .before .before .before .before .before .before .before .before .before .before .before .before .before .before .before .before .before .before .before .before .before .before .before .before .before .before .before .before .before .before .pre .0,
-      c .before .before .before .before .before .before .before .before .before .before .before .before .before .before .before .before .before .before .before .before .before .before .before .before .before .before .before .before .before .before .before .before .before .before .before .before .pre .1,
+    let k = c .before .before .before .before .before .before .before .before .before .before .before .before .before .before .before
+    .keep .ensures in (
+      c .before .before .before .before .before .before .before .before .before .before .before .before .before .before .before
+          .before .before .before .before .before .before .before .before .before .before .before .before .before .before .before
+          .before .before .before .before .before .before .pre .0,
+      c .before .before .before .before .before .before .before .before .before .before .before .before .before .before .before
+          .before .before .before .before .before .before .before .before .before .before .before .before .before .before .before
+          .before .before .before .before .before .before .pre .1,
       tag-inside (v .judging) e q h s,
       tag-plain (v .judging) e q h s (k .0) (k .1) (v .opens),
-      walk-near v e q h (c .before .before .before .before .before .before .before .before .before .before .before .before .before .before .before .before .before .before .before .before .before .before .before .before .before .before .before .before .before .before .before .before .before .before .before .before .pre .1) (header-short (c .before .before .before .before .before .before .before .before .before .before .before .before .before .before .before .before .before .before .before .before .before .before .before .before .before .before .before .lay-header .ensures)),
-      walk-few v e q h (c .before .before .before .before .before .before .before .before .before .before .before .before .before .before .before .before .before .before .before .before .before .before .before .before .before .before .before .before .before .before .before .before .before .before .before .before .pre .1),
+      walk-near v e q h (c .before .before .before .before .before .before .before .before .before .before .before .before .before
+          .before .before .before .before .before .before .before .before .before .before .before .before .before .before .before
+          .before .before .before .before .before .before .before .before .pre .1) (header-short (c .before .before .before .before
+          .before .before .before .before .before .before .before .before .before .before .before .before .before .before .before
+          .before .before .before .before .before .before .before .before .lay-header .ensures)),
+      walk-few v e q h (c .before .before .before .before .before .before .before .before .before .before .before .before .before
+          .before .before .before .before .before .before .before .before .before .before .before .before .before .before .before
+          .before .before .before .before .before .before .before .before .pre .1),
     )
 
 after-requires : tie.Need-after-requires Inv-loop μ-loop
 after-requires c κs =
-    c .before .before .before .before .before .before .before .before .before .before .before .before .before .before .before .before .before .before .before .before .before .before .before .before .before .before .loop .inv .judging .names .deep
+    c .before .before .before .before .before .before .before .before .before .before .before .before .before .before .before .before
+    .before .before .before .before .before .before .before .before .before .before .loop .inv .judging .names .deep
 
 loop-less : tie.Need-loop-less Inv-loop μ-loop
 loop-less c =
-    let v = c .before .before .before .before .before .before .before .before .before .before .before .before .before .before .before .before .before .before .before .before .before .before .before .before .before .before .before .loop .inv in
-    let e = c .before .before .before .before .before .before .before .before .before .before .before .before .before .before .before .before .before .before .before .before .before .before .before .before .next-item .ensures .0 in
-    let q = c .before .before .before .before .before .before .before .before .before .before .before .before .before .before .before .before .before .before .before .before .before .before .before .before .next-item .ensures .1 in
-    let h = c .before .before .before .before .before .before .before .before .before .before .before .before .before .before .before .before .before .before .before .before .before .before .enum-told2 .given .1 in
-    let s = c .before .before .before .before .before .before .before .before .before .before .before .before .before .before .before .before .before .next .given .1 in
+    let v = c .before .before .before .before .before .before .before .before .before .before .before .before .before .before .before
+    .before .before .before .before .before .before .before .before .before .before .before .before .loop .inv in
+    let e = c .before .before .before .before .before .before .before .before .before .before .before .before .before .before .before
+    .before .before .before .before .before .before .before .before .before .next-item .ensures .0 in
+    let q = c .before .before .before .before .before .before .before .before .before .before .before .before .before .before .before
+    .before .before .before .before .before .before .before .before .before .next-item .ensures .1 in
+    let h = c .before .before .before .before .before .before .before .before .before .before .before .before .before .before .before
+    .before .before .before .before .before .before .before .enum-told2 .given .1 in
+    let s = c .before .before .before .before .before .before .before .before .before .before .before .before .before .before .before
+    .before .before .next .given .1 in
     tag-less (v .judging) e q h s
 
 loop-again : tie.Need-loop-again Inv-loop μ-loop
 loop-again c =
-    let v = c .before .before .before .before .before .before .before .before .before .before .before .before .before .before .before .before .before .before .before .before .before .before .before .before .before .before .before .loop .inv in
-    let e = c .before .before .before .before .before .before .before .before .before .before .before .before .before .before .before .before .before .before .before .before .before .before .before .before .next-item .ensures .0 in
-    let q = c .before .before .before .before .before .before .before .before .before .before .before .before .before .before .before .before .before .before .before .before .before .before .before .before .next-item .ensures .1 in
-    let h = c .before .before .before .before .before .before .before .before .before .before .before .before .before .before .before .before .before .before .before .before .before .before .enum-told2 .given .1 in
-    let s = c .before .before .before .before .before .before .before .before .before .before .before .before .before .before .before .before .before .next .given .1 in
-    let k = c .before .before .before .before .before .before .before .before .before .before .before .before .before .before .before .before .before .before .before .keep .ensures in
-    let serves = c .before .before .before .before .before .before .before .before .before .before .before .before .before .before .before .before .before .before .before .before .before .before .before .before .before .before .before .before .before .before .before .before .before .before .before .before .before .before .before .before .pre .2 in
-    let f = row-fit serves _ (c .before .before .before .before .before .before .before .before .before .before .before .before .before .row-of .ensures) in
+    let v = c .before .before .before .before .before .before .before .before .before .before .before .before .before .before .before
+    .before .before .before .before .before .before .before .before .before .before .before .before .loop .inv in
+    let e = c .before .before .before .before .before .before .before .before .before .before .before .before .before .before .before
+    .before .before .before .before .before .before .before .before .before .next-item .ensures .0 in
+    let q = c .before .before .before .before .before .before .before .before .before .before .before .before .before .before .before
+    .before .before .before .before .before .before .before .before .before .next-item .ensures .1 in
+    let h = c .before .before .before .before .before .before .before .before .before .before .before .before .before .before .before
+    .before .before .before .before .before .before .before .enum-told2 .given .1 in
+    let s = c .before .before .before .before .before .before .before .before .before .before .before .before .before .before .before
+    .before .before .next .given .1 in
+    let k = c .before .before .before .before .before .before .before .before .before .before .before .before .before .before .before
+    .before .before .before .before .keep .ensures in
+    let serves = c .before .before .before .before .before .before .before .before .before .before .before .before .before .before
+    .before .before .before .before .before .before .before .before .before .before .before .before .before .before .before .before
+    .before .before .before .before .before .before .before .before .before .before .pre .2 in
+    let f = row-fit serves _ (c .before .before .before .before .before .before .before .before .before .before .before .before
+    .before .row-of .ensures) in
     let known = c .before .before .before .before .before .before .before .before .before .before .renewed .ensures in
     walk-tag v e q h (k .0) (k .1) s (serves .sound) refl f
-    (tag-judged v e q h (k .0) (k .1) s (serves .sound) refl f (c .before .before .before .before .before .before .before .before .judged .ensures))
-    (⊎-elim (λ z. stored _ (z .0 .taken) (below-told _ _ _ _ known) (z .1)) (λ z. inr (z .0 .left, z .1)) (c .before .before .before .before .before .before .before .if1 .came))
+    (tag-judged v e q h (k .0) (k .1) s (serves .sound) refl f (c .before .before .before .before .before .before .before .before
+    .judged .ensures))
+    (⊎-elim (λ z. stored _ (z .0 .taken) (below-told _ _ _ _ known) (z .1)) (λ z. inr (z .0 .left, z .1)) (c .before .before .before
+    .before .before .before .before .if1 .came))
     _ refl (known-recalls _ _ _ _ known)
     (⊎-elim (λ z. inl (_, _, z .2)) (λ z. inr (z .2)) (c .before .before .before .before .before .before .before .if1 .came))
     (c .before .before .before .start .ensures) (c .after .ensures)

@@ -31,7 +31,8 @@ same-length c = search needs
 returns : tie.Need-returns
 returns c =
     let b = c .before .before .rows-by .ensures in
-    both _ _ _ (rows-sound _ _ _ (c .before .before .before .before .before .before .before .read .ensures .0) (c .before .before .before .before .before .enum-told .given .1) (b .0) (b .1))
+    both _ _ _ (rows-sound _ _ _ (c .before .before .before .before .before .before .before .read .ensures .0) (c .before .before
+    .before .before .before .enum-told .given .1) (b .0) (b .1))
 
 returns-2 : tie.Need-returns-2
 returns-2 c =

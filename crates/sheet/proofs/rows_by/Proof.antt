@@ -18,7 +18,8 @@ names-other-requires c κs = search needs
 
 returns-2 : tie.Need-returns-2
 returns-2 c =
-    both-by _ _ _ (by-other _ _ _ (c .before .before .before .if1 .left) (c .before .before .start-of .ensures) (c .before .names-other .ensures) (c .if2 .taken))
+    both-by _ _ _ (by-other _ _ _ (c .before .before .before .if1 .left) (c .before .before .start-of .ensures) (c .before
+    .names-other .ensures) (c .if2 .taken))
 
 check-requires : tie.Need-check-requires
 check-requires c κs = search needs
@@ -30,7 +31,8 @@ written-requires : tie.Need-written-requires
 written-requires c κs = (
   c .before .before .before .before .before .before .before .before .before .before .before .pre,
   c .before .before .before .before .before .before .before .if1 .left,
-  judged-named _ (c .before .before .before .before .before .before .start-of .ensures) (c .before .before .before .before .before .names-other .ensures) (c .before .before .before .before .if2 .left),
+  judged-named _ (c .before .before .before .before .before .before .start-of .ensures) (c .before .before .before .before .before
+      .names-other .ensures) (c .before .before .before .before .if2 .left),
   sym (c .before .before .before .check .ensures) ∙ c .before .enum-told .given .1,
 )
 
@@ -45,8 +47,10 @@ returns-3 c = search needs
 
 returns-4 : tie.Need-returns-4
 returns-4 c =
-    let n = judged-named _ (c .before .before .before .before .before .before .start-of .ensures) (c .before .before .before .before .before .names-other .ensures) (c .before .before .before .before .if2 .left) in
-    both-by _ _ _ (by-char _ _ _ (c .before .before .before .before .before .before .before .if1 .left) n (c .before .before .before .check .ensures) (c .before .o .given .1))
+    let n = judged-named _ (c .before .before .before .before .before .before .start-of .ensures) (c .before .before .before .before
+    .before .names-other .ensures) (c .before .before .before .before .if2 .left) in
+    both-by _ _ _ (by-char _ _ _ (c .before .before .before .before .before .before .before .if1 .left) n (c .before .before .before
+    .check .ensures) (c .before .o .given .1))
 
 pub rows-by-spec : {M : Type 1} → statement M
 rows-by-spec =

@@ -22,7 +22,8 @@ same-length c = search needs
 
 returns : tie.Need-returns
 returns c =
-    started-one (c .before .before .before .before .before .before .is-selected .ensures) (c .before .before .before .before .before .if1 .taken) (c .before .before .before .lay-record .ensures) refl refl
+    started-one (c .before .before .before .before .before .before .is-selected .ensures) (c .before .before .before .before .before
+    .if1 .taken) (c .before .before .before .lay-record .ensures) refl refl
 
 returns-2 : tie.Need-returns-2
 returns-2 c =

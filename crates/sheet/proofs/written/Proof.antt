@@ -25,7 +25,8 @@ enum-known-length c = search needs
 returns : tie.Need-returns
 returns c =
     let p = c .before .before .before .before .before .before .before .before .before .before .before .before .pre in
-    both-by _ _ _ (written-short _ _ _ (p .1) (p .2) (p .3) (c .before .before .before .before .before .pass .ensures) (c .before .before .length .given .1) (c .if1 .taken))
+    both-by _ _ _ (written-short _ _ _ (p .1) (p .2) (p .3) (c .before .before .before .before .before .pass .ensures) (c .before
+    .before .length .given .1) (c .if1 .taken))
 
 pass-requires-2 : tie.Need-pass-requires-2
 pass-requires-2 c κs = search needs
@@ -33,15 +34,19 @@ pass-requires-2 c κs = search needs
 returns-2 : tie.Need-returns-2
 returns-2 c =
     let p = c .before .before .before .before .before .before .before .before .before .before .before .before .pre in
-    both-by _ _ _ (written-fault _ _ _ (p .1) (p .2) (p .3) (c .before .before .before .before .before .pass .ensures) (c .before .before .why .given .1) (c .fault-of .ensures))
+    both-by _ _ _ (written-fault _ _ _ (p .1) (p .2) (p .3) (c .before .before .before .before .before .pass .ensures) (c .before
+    .before .why .given .1) (c .fault-of .ensures))
 
 same-length : tie.Need-same-length
 same-length c = search needs
 
 returns-3 : tie.Need-returns-3
 returns-3 c =
-    let p = c .before .before .before .before .before .before .before .before .before .before .before .before .before .before .before .before .before .pre in
-    both-by _ _ _ (written-whole _ _ _ (p .1) (p .2) (p .3) (c .before .before .before .before .before .before .before .before .before .before .pass .ensures) (c .before .before .before .before .before .before .before .length .given .1) (c .before .before .before .before .before .if1 .left) (c .before .before .pass2 .ensures))
+    let p = c .before .before .before .before .before .before .before .before .before .before .before .before .before .before .before
+    .before .before .pre in
+    both-by _ _ _ (written-whole _ _ _ (p .1) (p .2) (p .3) (c .before .before .before .before .before .before .before .before
+    .before .before .pass .ensures) (c .before .before .before .before .before .before .before .length .given .1) (c .before .before
+    .before .before .before .if1 .left) (c .before .before .pass2 .ensures))
 
 pub written-spec : {M : Type 1} → statement M
 written-spec =
