@@ -310,8 +310,23 @@ placed-more {d} {starts} {lens} {opened} s a n h l =
         let le : i ≤ opened .level .0 = omega arith in
         ⊎-elim (λ (q : i ≡ opened .level .0). rw q here) (λ (q : i < opened .level .0). k .inside i q) (eq-or-lt-of-le le)
 
+-- the level after an item that is no start tag and no empty tag
+pub level-other : (i : Item) (o : Open) → OneOf untagged (kindOf item.the-type i) → levelAfter i (o .level .0) ≡ openAfter i o .level .0
+level-other (Declaration e) o k = refl
+level-other (Instruction e) o k = refl
+level-other (Comment e) o k = refl
+level-other (Section e) o k = refl
+level-other (Reference n e) o k = refl
+level-other (Text e) o k = refl
+level-other (Start n h e m t) o k = absurd (not-among untagged 6 refl k)
+level-other (Finish n e) o k = refl
+level-other Doctype o k = refl
+level-other Malformed o k = refl
+level-other TooLarge o k = refl
+level-other Nothing o k = refl
+
 -- what the state stands for does not see a name kept at the level reached
-stands-kept : {d starts lens o₀ o g : List ℕ} {level reached kept at len count m : ℕ} {x : Engine} → reached ≤ level
+pub stands-kept : {d starts lens o₀ o g : List ℕ} {level reached kept at len count m : ℕ} {x : Engine} → reached ≤ level
     → Stands d starts lens o₀ level reached kept at len count m o g x → (a n : ℕ)
     → Stands d (set starts level a) (set lens level n) o₀ level reached kept at len count m o g x
 stands-kept {d} {starts} {lens} {level = level} {reached} h t a n =
@@ -386,22 +401,8 @@ module _ {counts : Bool} {list tb d o₀ g₀ : List ℕ} {states : List MatchSt
           log-room = m .room ∙ v .log-room;
         }
       where
-        after : (j : Item) → OneOf untagged (kindOf item.the-type j) → levelAfter j (opened .level .0) ≡ openAfter j opened .level .0
-        after (Declaration e) k = refl
-        after (Instruction e) k = refl
-        after (Comment e) k = refl
-        after (Section e) k = refl
-        after (Reference n e) k = refl
-        after (Text e) k = refl
-        after (Start n h e m t) k = absurd (not-among untagged 6 refl k)
-        after (Finish n e) k = refl
-        after Doctype k = refl
-        after Malformed k = refl
-        after TooLarge k = refl
-        after Nothing k = refl
-
         level : levelAfter i (opened .level .0) ≡ opened′ .level .0
-        level = after i k ∙ ap (λ (y : Open). y .level .0) (sym eo)
+        level = level-other i opened k ∙ ap (λ (y : Open). y .level .0) (sym eo)
 
         no-more : (j : Item) (l : ℕ) → levelAfter j l ≤ l
         no-more (Declaration e) l = omega arith
@@ -461,7 +462,7 @@ module _ {counts : Bool} {list tb d o₀ g₀ : List ℕ} {states : List MatchSt
       pub tag-placed : Placed d starts′ lens′ (opened .level .0 + 1)
       tag-placed = rw (es, lens-is) (placed-more (v .judging .names) (at + 1) n tag-level tag-name)
 
-      name-is : nameAt d starts′ lens′ (opened .level .0) ≡ nameFrom d (at + 1) n
+      pub name-is : nameAt d starts′ lens′ (opened .level .0) ≡ nameFrom d (at + 1) n
       name-is =
           rw (es, lens-is)
           (name-here d starts lens (opened .level .0) (at + 1) n
@@ -557,7 +558,7 @@ module _ {counts : Bool} {list tb d o₀ g₀ : List ℕ} {states : List MatchSt
             (held-same (v .held) (at + 1) n ls ll (v .long) state-is et)
             (held-deeper (v .held) (at + 1) n ls ll (v .long) state-is et)
 
-        tests-are : {k : ℕ} → k ≡ cond counts (testsBy parent fit) 0
+        pub tests-are : {k : ℕ} → k ≡ cond counts (testsBy parent fit) 0
             → k ≡ countedTests counts (listPaths list) (nameFrom d (at + 1) n ∷ openOf (v .x))
         unfolding nameTests
         tests-are ek =

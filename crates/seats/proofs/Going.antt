@@ -2,8 +2,9 @@
 -- itself, and it stands behind k items. Then a law for each way on and the way out; the item that comes back from the tape is like the one
 -- in the document (proofs/Images.antt), so the laws of a pass (proofs/Passing.antt of the crate passes) serve for it.
 use mathlib.Core.Path.{_≡_, refl, sym, ap, ap₂, subst, _∙_}
-use mathlib.Core.Bool.{Bool, false, cond}
-use mathlib.Core.List.{List, []}
+use mathlib.Core.Bool.{Bool, true, false, cond}
+use mathlib.Core.List.{List, [], _∷_}
+use mathlib.Core.Logic.{_⊎_, inl, inr}
 use Prim.Native.Nat.{ℕ, zero, suc, _+_, _-_, _≤_, _<_}
 use native.Mathlib.Omega.{arith}
 use types.Run.{OneOf}
@@ -21,6 +22,7 @@ use Rattle.document.specs.Levels.{openedOf, Names, deeper, openAfter, lenOf}
 use Rattle.document.specs.declared.Open.{Open}
 use Rattle.document.specs.declared.Placement.the-variants.{Fine}
 use Rattle.document.proofs.After.{opened-after}
+use Rattle.document.proofs.Placing.{names-long}
 use Rattle.attributes.specs.Held.{attributesIn}
 use Rattle.matcher.specs.Fit.{fitFor}
 use Rattle.matcher.specs.State.{deeperOf, testsBy}
@@ -29,20 +31,26 @@ use Rattle.matcher.specs.declared.fit.Fit.{Fit}
 use Rattle.matcher.specs.declared.state.MatchState.{MatchState}
 use Rattle.recall.specs.Known.{unknown, Recalls}
 use Rattle.recall.specs.declared.Known.{Known}
-use Rattle.trees.specs.Grown.{part}
-use Rattle.trees.specs.Engine.{Engine}
+use Rattle.xml.specs.Forest.{Name}
+use Rattle.tags.specs.Kept.{nameFrom}
+use Rattle.trees.specs.Cut.{on}
+use Rattle.trees.specs.Grown.{part, tagOf, itemTokens}
+use Rattle.trees.specs.Engine.{Engine, keptOf, openOf, tallied, run as runs}
+use Rattle.trees.specs.Written.{verdicts}
 use Rattle.output.specs.Act.{onTag, onOther, levelAfter}
-use Rattle.output.specs.Levels.{nameAt, Placed, Moves, Ready}
+use Rattle.output.specs.Levels.{nameAt, Placed, Moves, Ready, within, entryAt as entryFrom}
 use Rattle.output.specs.declared.Run.{Run}
+use Rattle.output.proofs.Steps.{open-is}
 use Rattle.tape.specs.Tape.{entryAt, imageOf}
 use Rattle.tape.specs.Taped.{Spot, spotOf, itemOf, nextOf, behind, Taped}
 use Rattle.passes.specs.ByTests.{ByTests}
-use Rattle.passes.proofs.Rests.{untagged}
+use Rattle.passes.proofs.Rests.{untagged, tag-makes, tag-sums, other-makes, other-sums}
 use Rattle.passes.proofs.States.{none, Stored}
 use Rattle.passes.proofs.Passing.{Passing, Written, pass-ready, pass-many, pass-deep, pass-within, pass-next, pass-inside, pass-placed}
 use Rattle.passes.proofs.Passing.{pass-other, tag-level, tag-from, tag-to, tag-inside, tag-name, tag-behind, tag-head, tag-placed}
-use Rattle.passes.proofs.Passing.{verdict-judged, pass-tag}
+use Rattle.passes.proofs.Passing.{verdict-judged, pass-tag, countedTests, level-other, stands-kept, name-is, tests-are}
 use Rattle.seats.specs.Standing.{Standing}
+use Rattle.seats.specs.Made.{tokensAt, engineAfter, testsAfter, entryAfter, startsAfter, lensAfter, RunStands, Came}
 use Rattle.seats.specs.Seated.{Seated, Begun, seatSpot}
 use Rattle.seats.specs.Went.{Went}
 use Rattle.seats.specs.declared.seat.Seat.{Seat}
@@ -56,6 +64,11 @@ pub record Going (counts : Bool) (list tb d t : List ℕ) (items : ℕ) (starts�
   pub each : (o₀ : List ℕ) → Seated counts list d o₀ starts₀ lens₀ s o₁ g₁
       → Passing counts list tb d o₀ g₁ states memo slots starts lens opened run at first tests o g
   pub spot : spotOf d starts lens opened at first ≡ behind d (seatSpot d starts₀ lens₀ s) k
+  pub came : (o₀ : List ℕ) (x : Engine) → RunStands d starts₀ lens₀ o₀ (s .opened .level .0) (s .at) (s .run) o₁ g₁ x
+      → Came (verdicts (listPaths list)) (countedTests counts (listPaths list)) d (seatSpot d starts₀ lens₀ s) x (s .tests)
+      (s .run .kept) k starts lens o₀ (opened .level .0) at run tests o g
+  pub starts-are : starts ≡ startsAfter d (seatSpot d starts₀ lens₀ s) starts₀ k
+  pub lens-are : lens ≡ lensAfter d (seatSpot d starts₀ lens₀ s) lens₀ k
   pub turn : k ≤ items
   pub begun : Begun counts list d starts₀ lens₀ s o₁ g₁
   pub taped : Taped d t (seatSpot d starts₀ lens₀ s) items
@@ -74,9 +87,28 @@ pub going-start : {counts : Bool} {list d t : List ℕ} {items : ℕ} {starts le
     → Going counts list tb d t items starts lens s o g states (replicate 64 e) (replicate 64 0) starts lens (s .opened) (s .run) (s .at)
     (s .first) (s .tests) 0 o g
 going-start tb b p st u =
-    record { each = λ o₀ v. seated-passing v st u tb; spot = refl; turn = omega arith; begun = b; taped = p }
+    record {
+      each = λ o₀ v. seated-passing v st u tb;
+      spot = refl;
+      came = λ o₀ x v. record { stood = v; tried = refl; entry = refl };
+      starts-are = refl;
+      lens-are = refl;
+      turn = omega arith;
+      begun = b;
+      taped = p;
+    }
 
 -- ---- a turn
+
+-- inside a kept entry, and not
+entry-within : (kept at : ℕ) → within (entryFrom kept at) ≡ true
+entry-within zero at = let z : at + 1 ≡ suc at = omega arith in rw z refl
+entry-within (suc from) at = refl
+
+entry-told : (kept at kept′ : ℕ) {b : Bool} → b ≡ within kept′ → (kept′ ≡ 0) ⊎ (kept′ ≡ entryFrom kept at)
+    → kept′ ≡ cond b (entryFrom kept at) 0
+entry-told kept at kept′ e (inl z) = rw (e, z) refl
+entry-told kept at kept′ e (inr z) = z ∙ ap (λ (x : Bool). cond x (entryFrom kept at) 0) (sym (e ∙ ap within z ∙ entry-within kept at))
 
 -- behind an item
 abbrev later : ℕ → Opened → Spot
@@ -86,6 +118,10 @@ module _ {counts : Bool} {list tb d t : List ℕ} {items : ℕ} {starts₀ lens�
     {states : List MatchState} {memo : List Known} {slots starts lens : List ℕ} {opened : Open} {run : Run} {at : ℕ} {first : Bool}
     {tests k : ℕ} {o g : List ℕ}
     (w : Going counts list tb d t items starts₀ lens₀ s o₁ g₁ states memo slots starts lens opened run at first tests k o g) where
+  -- an engine that the client's run stood for at the beginning
+  abbrev Begins : List ℕ → Engine → Type 0
+  Begins o₀ x = RunStands d starts₀ lens₀ o₀ (s .opened .level .0) (s .at) (s .run) o₁ g₁ x
+
   -- some pass
   abbrev pub going : Passing counts list tb d (w .begun .0) g₁ states memo slots starts lens opened run at first tests o g
   going = w .each (w .begun .0) (w .begun .1)
@@ -99,6 +135,9 @@ module _ {counts : Bool} {list tb d t : List ℕ} {items : ℕ} {starts₀ lens�
       record {
         seated = λ o₀ v. passing-seated (w .each o₀ v);
         spot = w .spot ∙ ap (behind d (seatSpot d starts₀ lens₀ s)) z;
+        came = λ o₀ x v. rw z at (w .came o₀ x v);
+        starts-are = w .starts-are ∙ ap (startsAfter d (seatSpot d starts₀ lens₀ s) starts₀) z;
+        lens-are = w .lens-are ∙ ap (lensAfter d (seatSpot d starts₀ lens₀ s) lens₀) z;
         room = going .room ∙ sym (w .begun .1 .room);
         log-room = going .log-room;
       }
@@ -125,6 +164,71 @@ module _ {counts : Bool} {list tb d t : List ℕ} {items : ℕ} {starts₀ lens�
         ap₂ later en (rw (es, el, eo) (opened-after (going .judging .names) at here going-fine))
         ∙ ap (nextOf d) (w .spot)
         ∙ ap (behind d (seatSpot d starts₀ lens₀ s)) z
+
+    -- one name more is kept
+    level-is : length (behind d (seatSpot d starts₀ lens₀ s) k .opened .names) ≡ opened .level .0
+    level-is =
+        ap (λ (x : Spot). length (x .opened .names)) (sym (w .spot)) ∙ names-long d starts lens (opened .level .0)
+
+    starts-next : {starts′ : List ℕ} → starts′ ≡ set starts (opened .level .0) (at + 1)
+        → starts′ ≡ startsAfter d (seatSpot d starts₀ lens₀ s) starts₀ (k + 1)
+    starts-next es =
+        let z : suc k ≡ k + 1 = omega arith in
+        es
+        ∙ ap (λ (xs : List ℕ). set xs (opened .level .0) (at + 1)) (w .starts-are)
+        ∙ ap (λ (x : Spot). set (startsAfter d (seatSpot d starts₀ lens₀ s) starts₀ k) (opened .level .0) (x .at + 1)) (w .spot)
+        ∙ ap (λ (j : ℕ). set (startsAfter d (seatSpot d starts₀ lens₀ s) starts₀ k) j (behind d (seatSpot d starts₀ lens₀ s) k .at + 1))
+        (sym level-is)
+        ∙ ap (startsAfter d (seatSpot d starts₀ lens₀ s) starts₀) z
+
+    lens-next : {lens′ : List ℕ} → lens′ ≡ set lens (opened .level .0) (lenOf here)
+        → lens′ ≡ lensAfter d (seatSpot d starts₀ lens₀ s) lens₀ (k + 1)
+    lens-next el =
+        let z : suc k ≡ k + 1 = omega arith in
+        el
+        ∙ ap (λ (xs : List ℕ). set xs (opened .level .0) (lenOf here)) (w .lens-are)
+        ∙ ap (λ (x : Spot). set (lensAfter d (seatSpot d starts₀ lens₀ s) lens₀ k) (opened .level .0) (lenOf (itemOf d x))) (w .spot)
+        ∙ ap (λ (j : ℕ). set (lensAfter d (seatSpot d starts₀ lens₀ s) lens₀ k) j (lenOf (itemOf d (behind d (seatSpot d starts₀ lens₀ s) k))))
+        (sym level-is)
+        ∙ ap (lensAfter d (seatSpot d starts₀ lens₀ s) lens₀) z
+
+    -- what the items so far make of an engine
+    abbrev far : Engine → Engine
+    far x = engineAfter (verdicts (listPaths list)) d (seatSpot d starts₀ lens₀ s) x k
+
+    -- and the next, where that is told of its tokens
+    came-next : {starts′ lens′ o₀ : List ℕ} {run′ : Run} {level n tests′ : ℕ} {o′ g′ : List ℕ} (x y : Engine)
+        → Begins o₀ x
+        → runs (verdicts (listPaths list)) (itemTokens d at here []) (far x) ≡ y
+        → tests + tallied (countedTests counts (listPaths list)) (itemTokens d at here []) (openOf (far x)) ≡ tests′
+        → RunStands d starts′ lens′ o₀ level n run′ o′ g′ y
+        → (run′ .kept ≡ 0) ⊎ (run′ .kept ≡ entryFrom (run .kept) at)
+        → Came (verdicts (listPaths list)) (countedTests counts (listPaths list)) d (seatSpot d starts₀ lens₀ s) x (s .tests)
+        (s .run .kept) (k + 1) starts′ lens′ o₀ level n run′ tests′ o′ g′
+    came-next {starts′} {lens′} {o₀} {run′} {level} {n} {tests′} {o′} {g′} x y v em et st en =
+        let z : suc k ≡ k + 1 = omega arith in
+        rw z at came
+      where
+        engine-is : runs (verdicts (listPaths list)) (tokensAt d (behind d (seatSpot d starts₀ lens₀ s) k)) (far x) ≡ y
+        engine-is = ap (λ (p : Spot). runs (verdicts (listPaths list)) (tokensAt d p) (far x)) (sym (w .spot)) ∙ em
+
+        came : Came (verdicts (listPaths list)) (countedTests counts (listPaths list)) d (seatSpot d starts₀ lens₀ s) x (s .tests)
+            (s .run .kept) (suc k) starts′ lens′ o₀ level n run′ tests′ o′ g′
+        came =
+            record {
+              stood = rw engine-is st;
+              tried = sym et
+                  ∙ ap (λ (j : ℕ). j + tallied (countedTests counts (listPaths list)) (itemTokens d at here []) (openOf (far x)))
+                  (w .came o₀ x v .tried)
+                  ∙ ap (λ (p : Spot). testsAfter (verdicts (listPaths list)) (countedTests counts (listPaths list)) d (seatSpot d starts₀ lens₀ s)
+                  x (s .tests) k + tallied (countedTests counts (listPaths list)) (tokensAt d p) (openOf (far x))) (w .spot);
+              entry =
+                  entry-told (run .kept) at (run′ .kept) (ap keptOf engine-is ∙ st .kept-is) en
+                  ∙ ap (λ (j : ℕ). cond (keptOf (runs (verdicts (listPaths list)) (tokensAt d (behind d (seatSpot d starts₀ lens₀ s) k)) (far x)))
+                  (entryFrom j at) 0) (w .came o₀ x v .entry)
+                  ∙ ap (λ (p : Spot). cond (keptOf (runs (verdicts (listPaths list)) (tokensAt d (behind d (seatSpot d starts₀ lens₀ s) k)) (far x)))
+                  (entryFrom (entryAfter (verdicts (listPaths list)) d (seatSpot d starts₀ lens₀ s) x (s .run .kept) k) (p .at)) 0) (w .spot);
+            }
 
     module _ {next : Item} (e : next ≡ entryAt t k) where
       image : next ≡ imageOf at here
@@ -156,6 +260,10 @@ module _ {counts : Bool} {list tb d t : List ℕ} {items : ℕ} {starts₀ lens�
             record {
               each = λ o₀ b. pass-other (w .each o₀ b) refl refl going-fine es lens-are kind moved open-is end-is;
               spot = spot-next es lens-are open-is end-is;
+              came = λ o₀ x v.
+                  came-next x (onOther d at here (far x)) v (made x) (summed x) (stands o₀ x v) (m .entry);
+              starts-are = starts-next es;
+              lens-are = lens-next lens-are;
               turn = omega arith;
               begun = w .begun;
               taped = w .taped;
@@ -170,9 +278,29 @@ module _ {counts : Bool} {list tb d t : List ℕ} {items : ℕ} {starts₀ lens�
             end-is : n ≡ endOf at here
             end-is = en ∙ like .ends
 
+            made : (x : Engine) → runs (verdicts (listPaths list)) (itemTokens d at here []) (far x) ≡ onOther d at here (far x)
+            made x =
+                other-makes d at (openedOf d starts lens opened) (far x) (verdicts (listPaths list)) here going-fine kind []
+
+            summed : (x : Engine)
+                → tests + tallied (countedTests counts (listPaths list)) (itemTokens d at here []) (openOf (far x)) ≡ tests
+            summed x =
+                let z = other-sums d at (openedOf d starts lens opened) (far x) (countedTests counts (listPaths list)) tests here going-fine
+                kind [] in
+                omega (arith, z)
+
             moved : Moves d starts′ lens′ (opened .level .0) at run o g (onOther d at here) 1 (levelAfter here (opened .level .0))
                 (endOf at here) run′ o′ g′
             moved = rw (like .makes, like .level (opened .level .0), like .ends) at m
+
+            level-next : levelAfter here (opened .level .0) ≡ opened′ .level .0
+            level-next = level-other here opened kind ∙ ap (λ (y : Open). y .level .0) (sym open-is)
+
+            stands : (o₀ : List ℕ) (x : Engine) → Begins o₀ x
+                → RunStands d starts′ lens′ o₀ (opened′ .level .0) n run′ o′ g′ (onOther d at here (far x))
+            stands o₀ x v =
+                rw (end-is, ← level-next) (moved .moves o₀ (far x)
+                (rw (es, lens-are) (stands-kept (going .order) (w .came o₀ x v .stood) (at + 1) (lenOf here))))
 
       -- ---- a start tag or empty tag
 
@@ -208,25 +336,69 @@ module _ {counts : Bool} {list tb d t : List ℕ} {items : ℕ} {starts₀ lens�
 
           pub going-tag : listAnswer list ≡ SoundList → {parent : MatchState} → parent ≡ getD states (opened .level .0) none
               → {fit : Fit} → fit ≡ fitFor (listPaths list) (part d (at + 1) (at + 1 + n))
-              → {v : Verdict} → ByTests (listPaths list) (attributesIn 0 (take (b - (at + 1 + n)) (drop (at + 1 + n) d))) parent fit v
+              → {verdict : Verdict} → ByTests (listPaths list) (attributesIn 0 (take (b - (at + 1 + n)) (drop (at + 1 + n) d))) parent fit verdict
               → {states′ : List MatchState} → Stored states (opened .level .0) (deeperOf parent fit) states′
               → {memo′ : List Known} (slot : ℕ) {y : Known} → memo′ ≡ set memo slot y → Recalls counts tb y
               → {slots′ : List ℕ} → Written slots slots′
               → {tried : ℕ} → (tried ≡ cond counts (testsBy parent fit) 0) × (tried ≤ 512) → {run′ : Run} {o′ g′ : List ℕ}
               → Moves d starts′ lens′ (opened .level .0) at run o g
-              (onTag v (nameAt d starts′ lens′ (opened .level .0)) (part d at b) (part d at f) m) 2 (deeper m (opened .level .0)) f run′ o′
+              (onTag verdict (nameAt d starts′ lens′ (opened .level .0)) (part d at b) (part d at f) m) 2 (deeper m (opened .level .0)) f run′ o′
               g′
               → {opened′ : Open} → opened′ ≡ openAfter (Start n b f m c) opened
               → Going counts list tb d t items starts₀ lens₀ s o₁ g₁ states′ memo′ slots′ starts′ lens′ opened′ run′ f false (tests + tried)
               (k + 1) o′ g′
-          going-tag sound ep ef by st slot em er ws et mv eo =
+          going-tag sound {parent} ep {fit} ef {verdict} by st slot em er ws {tried} et {run′} {o′} {g′} mv {opened′} eo =
               record {
                 each = λ o₀ x.
                     let p = w .each o₀ x in
                     pass-tag p refl refl going-fine (was .1) es (lens-are es el) sound ep ef
                     (verdict-judged p refl refl going-fine (was .1) es (lens-are es el) sound ep ef by) st slot em er ws et mv eo;
+                came = λ o₀ x v.
+                    came-next x (onTag verdict (nameFrom d (at + 1) n) (part d at b) (part d at f) m (far x)) v (made o₀ x v)
+                    (summed o₀ x v) (stands o₀ x v) (mv .entry);
+                starts-are = starts-next es;
+                lens-are = lens-next (lens-are es el);
                 spot = spot-next es (lens-are es el) (eo ∙ sym (ap (λ (j : Item). openAfter j opened) (was .1))) (sym (ap (endOf at) (was .1)));
                 turn = omega arith;
                 begun = w .begun;
                 taped = w .taped;
               }
+            where
+              -- the names that are open are the same, whatever engine the run stands for
+              opens-are : (o₀ : List ℕ) (x : Engine) → Begins o₀ x → openOf (going .x) ≡ openOf (far x)
+              opens-are o₀ x v = open-is (going .stands) (going .order) ∙ sym (open-is (w .came o₀ x v .stood) (going .order))
+
+              verdict-is : (o₀ : List ℕ) (x : Engine) → Begins o₀ x
+                  → verdict ≡ on (verdicts (listPaths list)) (tagOf d at n b f) (openOf (far x))
+              verdict-is o₀ x v =
+                  verdict-judged going refl refl going-fine (was .1) es (lens-are es el) sound ep ef by
+                  ∙ ap (on (verdicts (listPaths list)) (tagOf d at n b f)) (opens-are o₀ x v)
+
+              made : (o₀ : List ℕ) (x : Engine) → Begins o₀ x
+                  → runs (verdicts (listPaths list)) (itemTokens d at here []) (far x)
+                  ≡ onTag verdict (nameFrom d (at + 1) n) (part d at b) (part d at f) m (far x)
+              made o₀ x v =
+                  ap (λ (j : Item). runs (verdicts (listPaths list)) (itemTokens d at j []) (far x)) (was .1)
+                  ∙ tag-makes (verdicts (listPaths list)) d at n b f (was .0) (far x) going-from going-to m []
+                  ∙ ap (λ (y : Verdict). onTag y (nameFrom d (at + 1) n) (part d at b) (part d at f) m (far x)) (sym (verdict-is o₀ x v))
+
+              summed : (o₀ : List ℕ) (x : Engine) → Begins o₀ x
+                  → tests + tallied (countedTests counts (listPaths list)) (itemTokens d at here []) (openOf (far x)) ≡ tests + tried
+              summed o₀ x v =
+                  let z = tag-sums (verdicts (listPaths list)) d at n b f (was .0) (far x) going-from going-to
+                  (countedTests counts (listPaths list)) tests m [] in
+                  let y = tests-are going refl refl going-fine (was .1) es (lens-are es el) sound ep ef (et .0)
+                  ∙ ap (λ (ns : List Name). countedTests counts (listPaths list) (nameFrom d (at + 1) n ∷ ns)) (opens-are o₀ x v) in
+                  ap (λ (j : Item). tests + tallied (countedTests counts (listPaths list)) (itemTokens d at j []) (openOf (far x))) (was .1)
+                  ∙ omega (arith, z, y)
+
+              level-next : deeper m (opened .level .0) ≡ opened′ .level .0
+              level-next = ap (λ (y : Open). y .level .0) (sym eo)
+
+              stands : (o₀ : List ℕ) (x : Engine) → Begins o₀ x
+                  → RunStands d starts′ lens′ o₀ (opened′ .level .0) f run′ o′ g′
+                  (onTag verdict (nameFrom d (at + 1) n) (part d at b) (part d at f) m (far x))
+              stands o₀ x v =
+                  rw (name-is going refl refl going-fine (was .1) es (lens-are es el), level-next) at
+                  (mv .moves o₀ (far x)
+                  (rw (es, lens-are es el) (stands-kept (going .order) (w .came o₀ x v .stood) (at + 1) (lenOf here))))
