@@ -33,7 +33,7 @@ use Rattle.recall.specs.Known.{unknown, Recalls}
 use Rattle.recall.specs.declared.Known.{Known}
 use Rattle.xml.specs.Forest.{Name}
 use Rattle.tags.specs.Kept.{nameFrom}
-use Rattle.trees.specs.Cut.{on}
+use Rattle.trees.specs.Cut.{Judge, on}
 use Rattle.trees.specs.Grown.{part, tagOf, itemTokens}
 use Rattle.trees.specs.Engine.{Engine, keptOf, openOf, tallied, run as runs}
 use Rattle.trees.specs.Written.{verdicts}
@@ -50,7 +50,8 @@ use Rattle.passes.proofs.Passing.{Passing, Written, pass-ready, pass-many, pass
 use Rattle.passes.proofs.Passing.{pass-other, tag-level, tag-from, tag-to, tag-inside, tag-name, tag-behind, tag-head, tag-placed}
 use Rattle.passes.proofs.Passing.{verdict-judged, pass-tag, countedTests, level-other, stands-kept, name-is, tests-are}
 use Rattle.seats.specs.Standing.{Standing}
-use Rattle.seats.specs.Made.{tokensAt, engineAfter, testsAfter, entryAfter, startsAfter, lensAfter, RunStands, Came}
+use Rattle.seats.specs.Made.{tokensAt, engineAfter, testsAfter, entryAfter, keptAfter, startsAfter, lensAfter}
+use Rattle.seats.specs.Made.{RunStands, Came}
 use Rattle.seats.specs.Seated.{Seated, Begun, seatSpot}
 use Rattle.seats.specs.Went.{Went}
 use Rattle.seats.specs.declared.seat.Seat.{Seat}
@@ -118,6 +119,16 @@ module _ {counts : Bool} {list tb d t : List ℕ} {items : ℕ} {starts₀ lens�
     {states : List MatchState} {memo : List Known} {slots starts lens : List ℕ} {opened : Open} {run : Run} {at : ℕ} {first : Bool}
     {tests k : ℕ} {o g : List ℕ}
     (w : Going counts list tb d t items starts₀ lens₀ s o₁ g₁ states memo slots starts lens opened run at first tests k o g) where
+  -- where the client began; the list's verdicts, and the name tests at an element
+  abbrev begins : Spot
+  begins = seatSpot d starts₀ lens₀ s
+
+  abbrev judge : Judge
+  judge = verdicts (listPaths list)
+
+  abbrev tested : List Name → ℕ
+  tested = countedTests counts (listPaths list)
+
   -- an engine that the client's run stood for at the beginning
   abbrev Begins : List ℕ → Engine → Type 0
   Begins o₀ x = RunStands d starts₀ lens₀ o₀ (s .opened .level .0) (s .at) (s .run) o₁ g₁ x
@@ -134,10 +145,10 @@ module _ {counts : Bool} {list tb d t : List ℕ} {items : ℕ} {starts₀ lens�
       let z : k ≡ items = omega (arith, w .turn) in
       record {
         seated = λ o₀ v. passing-seated (w .each o₀ v);
-        spot = w .spot ∙ ap (behind d (seatSpot d starts₀ lens₀ s)) z;
+        spot = w .spot ∙ ap (behind d begins) z;
         came = λ o₀ x v. rw z at (w .came o₀ x v);
-        starts-are = w .starts-are ∙ ap (startsAfter d (seatSpot d starts₀ lens₀ s) starts₀) z;
-        lens-are = w .lens-are ∙ ap (lensAfter d (seatSpot d starts₀ lens₀ s) lens₀) z;
+        starts-are = w .starts-are ∙ ap (startsAfter d begins starts₀) z;
+        lens-are = w .lens-are ∙ ap (lensAfter d begins lens₀) z;
         room = going .room ∙ sym (w .begun .1 .room);
         log-room = going .log-room;
       }
@@ -158,76 +169,59 @@ module _ {counts : Bool} {list tb d t : List ℕ} {items : ℕ} {starts₀ lens�
     spot-next : {starts′ lens′ : List ℕ} → starts′ ≡ set starts (opened .level .0) (at + 1)
         → lens′ ≡ set lens (opened .level .0) (lenOf here) → {opened′ : Open} → opened′ ≡ openAfter here opened
         → {n : ℕ} → n ≡ endOf at here
-        → spotOf d starts′ lens′ opened′ n false ≡ behind d (seatSpot d starts₀ lens₀ s) (k + 1)
+        → spotOf d starts′ lens′ opened′ n false ≡ behind d begins (k + 1)
     spot-next es el eo en =
         let z : suc k ≡ k + 1 = omega arith in
         ap₂ later en (rw (es, el, eo) (opened-after (going .judging .names) at here going-fine))
         ∙ ap (nextOf d) (w .spot)
-        ∙ ap (behind d (seatSpot d starts₀ lens₀ s)) z
+        ∙ ap (behind d begins) z
 
     -- one name more is kept
-    level-is : length (behind d (seatSpot d starts₀ lens₀ s) k .opened .names) ≡ opened .level .0
+    level-is : length (behind d begins k .opened .names) ≡ opened .level .0
     level-is =
         ap (λ (x : Spot). length (x .opened .names)) (sym (w .spot)) ∙ names-long d starts lens (opened .level .0)
 
-    starts-next : {starts′ : List ℕ} → starts′ ≡ set starts (opened .level .0) (at + 1)
-        → starts′ ≡ startsAfter d (seatSpot d starts₀ lens₀ s) starts₀ (k + 1)
-    starts-next es =
+    kept-next : (f : Spot → ℕ) (xs₀ : List ℕ) {xs xs′ : List ℕ} → xs ≡ keptAfter f d begins xs₀ k
+        → xs′ ≡ set xs (opened .level .0) (f (spotOf d starts lens opened at first)) → xs′ ≡ keptAfter f d begins xs₀ (k + 1)
+    kept-next f xs₀ e q =
         let z : suc k ≡ k + 1 = omega arith in
-        es
-        ∙ ap (λ (xs : List ℕ). set xs (opened .level .0) (at + 1)) (w .starts-are)
-        ∙ ap (λ (x : Spot). set (startsAfter d (seatSpot d starts₀ lens₀ s) starts₀ k) (opened .level .0) (x .at + 1)) (w .spot)
-        ∙ ap (λ (j : ℕ). set (startsAfter d (seatSpot d starts₀ lens₀ s) starts₀ k) j (behind d (seatSpot d starts₀ lens₀ s) k .at + 1))
-        (sym level-is)
-        ∙ ap (startsAfter d (seatSpot d starts₀ lens₀ s) starts₀) z
-
-    lens-next : {lens′ : List ℕ} → lens′ ≡ set lens (opened .level .0) (lenOf here)
-        → lens′ ≡ lensAfter d (seatSpot d starts₀ lens₀ s) lens₀ (k + 1)
-    lens-next el =
-        let z : suc k ≡ k + 1 = omega arith in
-        el
-        ∙ ap (λ (xs : List ℕ). set xs (opened .level .0) (lenOf here)) (w .lens-are)
-        ∙ ap (λ (x : Spot). set (lensAfter d (seatSpot d starts₀ lens₀ s) lens₀ k) (opened .level .0) (lenOf (itemOf d x))) (w .spot)
-        ∙ ap (λ (j : ℕ). set (lensAfter d (seatSpot d starts₀ lens₀ s) lens₀ k) j (lenOf (itemOf d (behind d (seatSpot d starts₀ lens₀ s) k))))
-        (sym level-is)
-        ∙ ap (lensAfter d (seatSpot d starts₀ lens₀ s) lens₀) z
+        q
+        ∙ ap₂ (λ (ys : List ℕ) (x : Spot). set ys (opened .level .0) (f x)) e (w .spot)
+        ∙ ap (λ (j : ℕ). set (keptAfter f d begins xs₀ k) j (f (behind d begins k))) (sym level-is)
+        ∙ ap (keptAfter f d begins xs₀) z
 
     -- what the items so far make of an engine
     abbrev far : Engine → Engine
-    far x = engineAfter (verdicts (listPaths list)) d (seatSpot d starts₀ lens₀ s) x k
+    far x = engineAfter judge d begins x k
 
     -- and the next, where that is told of its tokens
     came-next : {starts′ lens′ o₀ : List ℕ} {run′ : Run} {level n tests′ : ℕ} {o′ g′ : List ℕ} (x y : Engine)
         → Begins o₀ x
-        → runs (verdicts (listPaths list)) (itemTokens d at here []) (far x) ≡ y
-        → tests + tallied (countedTests counts (listPaths list)) (itemTokens d at here []) (openOf (far x)) ≡ tests′
+        → runs judge (itemTokens d at here []) (far x) ≡ y
+        → tests + tallied tested (itemTokens d at here []) (openOf (far x)) ≡ tests′
         → RunStands d starts′ lens′ o₀ level n run′ o′ g′ y
         → (run′ .kept ≡ 0) ⊎ (run′ .kept ≡ entryFrom (run .kept) at)
-        → Came (verdicts (listPaths list)) (countedTests counts (listPaths list)) d (seatSpot d starts₀ lens₀ s) x (s .tests)
+        → Came judge tested d begins x (s .tests)
         (s .run .kept) (k + 1) starts′ lens′ o₀ level n run′ tests′ o′ g′
     came-next {starts′} {lens′} {o₀} {run′} {level} {n} {tests′} {o′} {g′} x y v em et st en =
         let z : suc k ≡ k + 1 = omega arith in
         rw z at came
       where
-        engine-is : runs (verdicts (listPaths list)) (tokensAt d (behind d (seatSpot d starts₀ lens₀ s) k)) (far x) ≡ y
-        engine-is = ap (λ (p : Spot). runs (verdicts (listPaths list)) (tokensAt d p) (far x)) (sym (w .spot)) ∙ em
+        engine-is : runs judge (tokensAt d (behind d begins k)) (far x) ≡ y
+        engine-is = ap (λ (p : Spot). runs judge (tokensAt d p) (far x)) (sym (w .spot)) ∙ em
 
-        came : Came (verdicts (listPaths list)) (countedTests counts (listPaths list)) d (seatSpot d starts₀ lens₀ s) x (s .tests)
+        came : Came judge tested d begins x (s .tests)
             (s .run .kept) (suc k) starts′ lens′ o₀ level n run′ tests′ o′ g′
         came =
             record {
               stood = rw engine-is st;
-              tried = sym et
-                  ∙ ap (λ (j : ℕ). j + tallied (countedTests counts (listPaths list)) (itemTokens d at here []) (openOf (far x)))
-                  (w .came o₀ x v .tried)
-                  ∙ ap (λ (p : Spot). testsAfter (verdicts (listPaths list)) (countedTests counts (listPaths list)) d (seatSpot d starts₀ lens₀ s)
-                  x (s .tests) k + tallied (countedTests counts (listPaths list)) (tokensAt d p) (openOf (far x))) (w .spot);
+              tried =
+                  sym et
+                  ∙ ap₂ (λ (j : ℕ) (p : Spot). j + tallied tested (tokensAt d p) (openOf (far x))) (w .came o₀ x v .tried) (w .spot);
               entry =
                   entry-told (run .kept) at (run′ .kept) (ap keptOf engine-is ∙ st .kept-is) en
-                  ∙ ap (λ (j : ℕ). cond (keptOf (runs (verdicts (listPaths list)) (tokensAt d (behind d (seatSpot d starts₀ lens₀ s) k)) (far x)))
-                  (entryFrom j at) 0) (w .came o₀ x v .entry)
-                  ∙ ap (λ (p : Spot). cond (keptOf (runs (verdicts (listPaths list)) (tokensAt d (behind d (seatSpot d starts₀ lens₀ s) k)) (far x)))
-                  (entryFrom (entryAfter (verdicts (listPaths list)) d (seatSpot d starts₀ lens₀ s) x (s .run .kept) k) (p .at)) 0) (w .spot);
+                  ∙ ap₂ (λ (j : ℕ) (p : Spot). cond (keptOf (runs judge (tokensAt d (behind d begins k)) (far x)))
+                  (entryFrom j (p .at)) 0) (w .came o₀ x v .entry) (w .spot);
             }
 
     module _ {next : Item} (e : next ≡ entryAt t k) where
@@ -262,8 +256,8 @@ module _ {counts : Bool} {list tb d t : List ℕ} {items : ℕ} {starts₀ lens�
               spot = spot-next es lens-are open-is end-is;
               came = λ o₀ x v.
                   came-next x (onOther d at here (far x)) v (made x) (summed x) (stands o₀ x v) (m .entry);
-              starts-are = starts-next es;
-              lens-are = lens-next lens-are;
+              starts-are = kept-next (λ (p : Spot). p .at + 1) starts₀ (w .starts-are) es;
+              lens-are = kept-next (λ (p : Spot). lenOf (itemOf d p)) lens₀ (w .lens-are) lens-are;
               turn = omega arith;
               begun = w .begun;
               taped = w .taped;
@@ -278,14 +272,14 @@ module _ {counts : Bool} {list tb d t : List ℕ} {items : ℕ} {starts₀ lens�
             end-is : n ≡ endOf at here
             end-is = en ∙ like .ends
 
-            made : (x : Engine) → runs (verdicts (listPaths list)) (itemTokens d at here []) (far x) ≡ onOther d at here (far x)
+            made : (x : Engine) → runs judge (itemTokens d at here []) (far x) ≡ onOther d at here (far x)
             made x =
-                other-makes d at (openedOf d starts lens opened) (far x) (verdicts (listPaths list)) here going-fine kind []
+                other-makes d at (openedOf d starts lens opened) (far x) judge here going-fine kind []
 
             summed : (x : Engine)
-                → tests + tallied (countedTests counts (listPaths list)) (itemTokens d at here []) (openOf (far x)) ≡ tests
+                → tests + tallied tested (itemTokens d at here []) (openOf (far x)) ≡ tests
             summed x =
-                let z = other-sums d at (openedOf d starts lens opened) (far x) (countedTests counts (listPaths list)) tests here going-fine
+                let z = other-sums d at (openedOf d starts lens opened) (far x) tested tests here going-fine
                 kind [] in
                 omega (arith, z)
 
@@ -336,14 +330,15 @@ module _ {counts : Bool} {list tb d t : List ℕ} {items : ℕ} {starts₀ lens�
 
           pub going-tag : listAnswer list ≡ SoundList → {parent : MatchState} → parent ≡ getD states (opened .level .0) none
               → {fit : Fit} → fit ≡ fitFor (listPaths list) (part d (at + 1) (at + 1 + n))
-              → {verdict : Verdict} → ByTests (listPaths list) (attributesIn 0 (take (b - (at + 1 + n)) (drop (at + 1 + n) d))) parent fit verdict
+              → {verdict : Verdict}
+              → ByTests (listPaths list) (attributesIn 0 (take (b - (at + 1 + n)) (drop (at + 1 + n) d))) parent fit verdict
               → {states′ : List MatchState} → Stored states (opened .level .0) (deeperOf parent fit) states′
               → {memo′ : List Known} (slot : ℕ) {y : Known} → memo′ ≡ set memo slot y → Recalls counts tb y
               → {slots′ : List ℕ} → Written slots slots′
               → {tried : ℕ} → (tried ≡ cond counts (testsBy parent fit) 0) × (tried ≤ 512) → {run′ : Run} {o′ g′ : List ℕ}
               → Moves d starts′ lens′ (opened .level .0) at run o g
-              (onTag verdict (nameAt d starts′ lens′ (opened .level .0)) (part d at b) (part d at f) m) 2 (deeper m (opened .level .0)) f run′ o′
-              g′
+              (onTag verdict (nameAt d starts′ lens′ (opened .level .0)) (part d at b) (part d at f) m) 2 (deeper m (opened .level .0))
+              f run′ o′ g′
               → {opened′ : Open} → opened′ ≡ openAfter (Start n b f m c) opened
               → Going counts list tb d t items starts₀ lens₀ s o₁ g₁ states′ memo′ slots′ starts′ lens′ opened′ run′ f false (tests + tried)
               (k + 1) o′ g′
@@ -356,9 +351,11 @@ module _ {counts : Bool} {list tb d t : List ℕ} {items : ℕ} {starts₀ lens�
                 came = λ o₀ x v.
                     came-next x (onTag verdict (nameFrom d (at + 1) n) (part d at b) (part d at f) m (far x)) v (made o₀ x v)
                     (summed o₀ x v) (stands o₀ x v) (mv .entry);
-                starts-are = starts-next es;
-                lens-are = lens-next (lens-are es el);
-                spot = spot-next es (lens-are es el) (eo ∙ sym (ap (λ (j : Item). openAfter j opened) (was .1))) (sym (ap (endOf at) (was .1)));
+                starts-are = kept-next (λ (p : Spot). p .at + 1) starts₀ (w .starts-are) es;
+                lens-are = kept-next (λ (p : Spot). lenOf (itemOf d p)) lens₀ (w .lens-are) (lens-are es el);
+                spot =
+                    spot-next es (lens-are es el) (eo ∙ sym (ap (λ (j : Item). openAfter j opened) (was .1)))
+                    (sym (ap (endOf at) (was .1)));
                 turn = omega arith;
                 begun = w .begun;
                 taped = w .taped;
@@ -369,27 +366,27 @@ module _ {counts : Bool} {list tb d t : List ℕ} {items : ℕ} {starts₀ lens�
               opens-are o₀ x v = open-is (going .stands) (going .order) ∙ sym (open-is (w .came o₀ x v .stood) (going .order))
 
               verdict-is : (o₀ : List ℕ) (x : Engine) → Begins o₀ x
-                  → verdict ≡ on (verdicts (listPaths list)) (tagOf d at n b f) (openOf (far x))
+                  → verdict ≡ on judge (tagOf d at n b f) (openOf (far x))
               verdict-is o₀ x v =
                   verdict-judged going refl refl going-fine (was .1) es (lens-are es el) sound ep ef by
-                  ∙ ap (on (verdicts (listPaths list)) (tagOf d at n b f)) (opens-are o₀ x v)
+                  ∙ ap (on judge (tagOf d at n b f)) (opens-are o₀ x v)
 
               made : (o₀ : List ℕ) (x : Engine) → Begins o₀ x
-                  → runs (verdicts (listPaths list)) (itemTokens d at here []) (far x)
+                  → runs judge (itemTokens d at here []) (far x)
                   ≡ onTag verdict (nameFrom d (at + 1) n) (part d at b) (part d at f) m (far x)
               made o₀ x v =
-                  ap (λ (j : Item). runs (verdicts (listPaths list)) (itemTokens d at j []) (far x)) (was .1)
-                  ∙ tag-makes (verdicts (listPaths list)) d at n b f (was .0) (far x) going-from going-to m []
+                  ap (λ (j : Item). runs judge (itemTokens d at j []) (far x)) (was .1)
+                  ∙ tag-makes judge d at n b f (was .0) (far x) going-from going-to m []
                   ∙ ap (λ (y : Verdict). onTag y (nameFrom d (at + 1) n) (part d at b) (part d at f) m (far x)) (sym (verdict-is o₀ x v))
 
               summed : (o₀ : List ℕ) (x : Engine) → Begins o₀ x
-                  → tests + tallied (countedTests counts (listPaths list)) (itemTokens d at here []) (openOf (far x)) ≡ tests + tried
+                  → tests + tallied tested (itemTokens d at here []) (openOf (far x)) ≡ tests + tried
               summed o₀ x v =
-                  let z = tag-sums (verdicts (listPaths list)) d at n b f (was .0) (far x) going-from going-to
-                  (countedTests counts (listPaths list)) tests m [] in
+                  let z = tag-sums judge d at n b f (was .0) (far x) going-from going-to
+                  tested tests m [] in
                   let y = tests-are going refl refl going-fine (was .1) es (lens-are es el) sound ep ef (et .0)
-                  ∙ ap (λ (ns : List Name). countedTests counts (listPaths list) (nameFrom d (at + 1) n ∷ ns)) (opens-are o₀ x v) in
-                  ap (λ (j : Item). tests + tallied (countedTests counts (listPaths list)) (itemTokens d at j []) (openOf (far x))) (was .1)
+                  ∙ ap (λ (ns : List Name). tested (nameFrom d (at + 1) n ∷ ns)) (opens-are o₀ x v) in
+                  ap (λ (j : Item). tests + tallied tested (itemTokens d at j []) (openOf (far x))) (was .1)
                   ∙ omega (arith, z, y)
 
               level-next : deeper m (opened .level .0) ≡ opened′ .level .0

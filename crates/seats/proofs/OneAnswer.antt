@@ -1,6 +1,6 @@
--- Two results that a public function's contract allows are alike: `Seat::none` has one; of `through`, the seat is the same but for the number
--- of notes, so is every byte of the buffer and the names by level, and the notes stand for the same text, unless some were left out. The
--- theorems are over the contracts that the toolchain makes of the source.
+-- Two results that a public function's contract allows are alike: `Seat::none` has one; of `through`, the seat is the same but for the
+-- number of notes, so is every byte of the buffer and the names by level, and the notes stand for the same text, unless some were left out.
+-- The theorems are over the contracts that the toolchain makes of the source.
 use mathlib.Core.Path.{_≡_, refl, sym, ap, ap₂, _∙_}
 use mathlib.Core.Bool.{Bool, true, false}
 use mathlib.Core.List.{List}

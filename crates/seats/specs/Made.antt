@@ -33,14 +33,16 @@ entryAfter v d s x kept zero = kept
 entryAfter v d s x kept (suc k) =
     cond (keptOf (engineAfter v d s x (suc k))) (entryAt (entryAfter v d s x kept k) (behind d s k .at)) 0
 
--- each item's name is kept at the level that it would open
+-- one number of an item's name is kept at the level that the item would open: its place, and its length
+abbrev pub keptAfter : (Spot → ℕ) → List ℕ → Spot → List ℕ → ℕ → List ℕ
+keptAfter f d s xs zero = xs
+keptAfter f d s xs (suc k) = set (keptAfter f d s xs k) (length (behind d s k .opened .names)) (f (behind d s k))
+
 abbrev pub startsAfter : List ℕ → Spot → List ℕ → ℕ → List ℕ
-startsAfter d s starts zero = starts
-startsAfter d s starts (suc k) = set (startsAfter d s starts k) (length (behind d s k .opened .names)) (behind d s k .at + 1)
+startsAfter d = keptAfter (λ (p : Spot). p .at + 1) d
 
 abbrev pub lensAfter : List ℕ → Spot → List ℕ → ℕ → List ℕ
-lensAfter d s lens zero = lens
-lensAfter d s lens (suc k) = set (lensAfter d s lens k) (length (behind d s k .opened .names)) (lenOf (itemOf d (behind d s k)))
+lensAfter d = keptAfter (λ (p : Spot). lenOf (itemOf d p)) d
 
 -- The run stands for an engine, at a level and a place.
 abbrev pub RunStands : List ℕ → List ℕ → List ℕ → List ℕ → ℕ → ℕ → Run → List ℕ → List ℕ → Engine → Type 0
