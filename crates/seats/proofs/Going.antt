@@ -17,8 +17,8 @@ use Rattle.tags.specs.declared.Item.{Item}
 use Rattle.tags.specs.declared.Item.the-variants.{Start}
 use Rattle.items.specs.Inside.{Inside}
 use Rattle.items.specs.Item.{itemAt}
-use Rattle.document.specs.Place.{Opened, placement, endOf, afterItem}
-use Rattle.document.specs.Levels.{openedOf, Names, deeper, openAfter, lenOf}
+use Rattle.document.specs.Place.{Opened, placement, endOf}
+use Rattle.document.specs.Levels.{openedOf, deeper, openAfter, lenOf}
 use Rattle.document.specs.declared.Open.{Open}
 use Rattle.document.specs.declared.Placement.the-variants.{Fine}
 use Rattle.document.proofs.After.{opened-after}
@@ -38,7 +38,7 @@ use Rattle.trees.specs.Grown.{part, tagOf, itemTokens}
 use Rattle.trees.specs.Engine.{Engine, keptOf, openOf, tallied, run as runs}
 use Rattle.trees.specs.Written.{verdicts}
 use Rattle.output.specs.Act.{onTag, onOther, levelAfter}
-use Rattle.output.specs.Levels.{nameAt, Placed, Moves, Ready, within, entryAt as entryFrom}
+use Rattle.output.specs.Levels.{nameAt, Placed, Moves, within, entryAt as entryFrom}
 use Rattle.output.specs.declared.Run.{Run}
 use Rattle.output.proofs.Steps.{open-is}
 use Rattle.tape.specs.Tape.{entryAt, imageOf}
@@ -46,11 +46,11 @@ use Rattle.tape.specs.Taped.{Spot, spotOf, itemOf, nextOf, behind, Taped}
 use Rattle.passes.specs.ByTests.{ByTests}
 use Rattle.passes.proofs.Rests.{untagged, tag-makes, tag-sums, other-makes, other-sums}
 use Rattle.passes.proofs.States.{none, Stored}
-use Rattle.passes.proofs.Passing.{Passing, Written, pass-ready, pass-many, pass-deep, pass-within, pass-next, pass-inside, pass-placed}
+use Rattle.passes.proofs.Passing.{Passing, Written, pass-within, pass-inside, pass-placed}
 use Rattle.passes.proofs.Passing.{pass-other, tag-level, tag-from, tag-to, tag-inside, tag-name, tag-behind, tag-head, tag-placed}
 use Rattle.passes.proofs.Passing.{verdict-judged, pass-tag, countedTests, level-other, stands-kept, name-is, tests-are}
 use Rattle.seats.specs.Standing.{Standing}
-use Rattle.seats.specs.Made.{tokensAt, engineAfter, testsAfter, entryAfter, keptAfter, startsAfter, lensAfter}
+use Rattle.seats.specs.Made.{tokensAt, engineAfter, keptAfter, startsAfter, lensAfter}
 use Rattle.seats.specs.Made.{RunStands, Came}
 use Rattle.seats.specs.Seated.{Seated, Begun, seatSpot}
 use Rattle.seats.specs.Went.{Went}

@@ -1,7 +1,7 @@
 -- What items make, from a spot on, the first k of them: of an engine; of the number of name tests tried; of the place where a kept entry
 -- begins; and of the names kept by level.
 use mathlib.Core.Path.{_≡_}
-use mathlib.Core.Bool.{Bool, cond}
+use mathlib.Core.Bool.{cond}
 use mathlib.Core.List.{List, []}
 use Prim.Native.Nat.{ℕ, zero, suc, _+_}
 use lib.ListN.{length, set}
