@@ -106,8 +106,8 @@ next-item-one κs a z z′ e e′ x p q =
     next-made i (p .1 ∙ ap (λ (j : Item). placement d (a .1 .1 .1 .1 .1 .0) j s) i ∙ sym (q .1))
 
 -- `judged`
-judged-told : (list : List ℕ) → listAnswer list ≡ SoundList → (names : List Name) (n : Name) (xs : List Attribute) {m : MatchState} {f : Fit}
-    → m ≡ stateOf (listPaths list) names → f ≡ fitFor (listPaths list) n → {w : Verdict} → ByTests (listPaths list) xs m f w
+judged-told : (list : List ℕ) → listAnswer list ≡ SoundList → (names : List Name) (n : Name) (xs : List Attribute) {m : MatchState}
+    {f : Fit} → m ≡ stateOf (listPaths list) names → f ≡ fitFor (listPaths list) n → {w : Verdict} → ByTests (listPaths list) xs m f w
     → w ≡ verdictOf (listPaths list) (names ++ n ∷ []) xs
 judged-told list sound names n xs em ef t = go (rw (em, ef) at t)
   where

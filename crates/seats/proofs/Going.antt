@@ -17,7 +17,7 @@ use Rattle.tags.specs.declared.Item.{Item}
 use Rattle.tags.specs.declared.Item.the-variants.{Start}
 use Rattle.items.specs.Inside.{Inside}
 use Rattle.items.specs.Item.{itemAt}
-use Rattle.document.specs.Place.{Opened, placement, endOf}
+use Rattle.document.specs.Place.{Opened, placement, endOf, afterItem}
 use Rattle.document.specs.Levels.{openedOf, deeper, openAfter, lenOf}
 use Rattle.document.specs.declared.Open.{Open}
 use Rattle.document.specs.declared.Placement.the-variants.{Fine}
@@ -48,14 +48,14 @@ use Rattle.passes.proofs.Rests.{untagged, tag-makes, tag-sums, other-makes, oth
 use Rattle.passes.proofs.States.{none, Stored}
 use Rattle.passes.proofs.Passing.{Passing, Written, pass-within, pass-inside, pass-placed}
 use Rattle.passes.proofs.Passing.{pass-other, tag-level, tag-from, tag-to, tag-inside, tag-name, tag-behind, tag-head, tag-placed}
-use Rattle.passes.proofs.Passing.{verdict-judged, pass-tag, countedTests, level-other, stands-kept, name-is, tests-are}
+use Rattle.passes.proofs.Passing.{verdict-judged, pass-tag, countedTests, level-other, opened-past, stands-kept, name-is, tests-are}
 use Rattle.seats.specs.Standing.{Standing}
-use Rattle.seats.specs.Made.{tokensAt, engineAfter, keptAfter, startsAfter, lensAfter}
-use Rattle.seats.specs.Made.{RunStands, Came}
+use Rattle.seats.specs.Made.{tokensAt, engineAfter, keptAt, keptAfter, startsAfter}
+use Rattle.seats.specs.Made.{lensAfter, RunStands, Came}
 use Rattle.seats.specs.Seated.{Seated, Begun, seatSpot}
 use Rattle.seats.specs.Went.{Went}
 use Rattle.seats.specs.declared.seat.Seat.{Seat}
-use Rattle.seats.proofs.Images.{Like, image-like, image-inside, image-start, image-untagged}
+use Rattle.seats.proofs.Images.{Like, image-like, image-inside, image-start, image-untagged, kept-other}
 use Rattle.seats.proofs.Seating.{seated-passing, passing-seated}
 
 -- from the seat s, with the names starts₀ and lens₀, the buffer o₁ and the log g₁, through the tape t
@@ -165,29 +165,28 @@ module _ {counts : Bool} {list tb d t : List ℕ} {items : ℕ} {starts₀ lens�
     pub going-near : at < length d
     going-near = pass-within going refl refl going-fine
 
-    -- one item more
-    spot-next : {starts′ lens′ : List ℕ} → starts′ ≡ set starts (opened .level .0) (at + 1)
-        → lens′ ≡ set lens (opened .level .0) (lenOf here) → {opened′ : Open} → opened′ ≡ openAfter here opened
-        → {n : ℕ} → n ≡ endOf at here
-        → spotOf d starts′ lens′ opened′ n false ≡ behind d begins (k + 1)
-    spot-next es el eo en =
-        let z : suc k ≡ k + 1 = omega arith in
-        ap₂ later en (rw (es, el, eo) (opened-after (going .judging .names) at here going-fine))
-        ∙ ap (nextOf d) (w .spot)
-        ∙ ap (behind d begins) z
+    pub going-placed : Placed d starts lens (opened .level .0)
+    going-placed = pass-placed going refl refl going-fine
 
-    -- one name more is kept
+    -- one item more
+    spot-next : (starts′ lens′ : List ℕ) (opened′ : Open)
+        → openedOf d starts′ lens′ opened′ ≡ afterItem d at here (openedOf d starts lens opened) → {n : ℕ} → n ≡ endOf at here
+        → spotOf d starts′ lens′ opened′ n false ≡ behind d begins (k + 1)
+    spot-next starts′ lens′ opened′ eo en =
+        let z : suc k ≡ k + 1 = omega arith in
+        ap₂ later en eo ∙ ap (nextOf d) (w .spot) ∙ ap (behind d begins) z
+
+    -- one name more is kept, or none
     level-is : length (behind d begins k .opened .names) ≡ opened .level .0
     level-is =
         ap (λ (x : Spot). length (x .opened .names)) (sym (w .spot)) ∙ names-long d starts lens (opened .level .0)
 
-    kept-next : (f : Spot → ℕ) (xs₀ : List ℕ) {xs xs′ : List ℕ} → xs ≡ keptAfter f d begins xs₀ k
-        → xs′ ≡ set xs (opened .level .0) (f (spotOf d starts lens opened at first)) → xs′ ≡ keptAfter f d begins xs₀ (k + 1)
-    kept-next f xs₀ e q =
+    kept-next : (f : Spot → ℕ) (xs₀ : List ℕ) {xs : List ℕ} → xs ≡ keptAfter f d begins xs₀ k
+        → keptAt here (opened .level .0) (f (spotOf d starts lens opened at first)) xs ≡ keptAfter f d begins xs₀ (k + 1)
+    kept-next f xs₀ e =
         let z : suc k ≡ k + 1 = omega arith in
-        q
-        ∙ ap₂ (λ (ys : List ℕ) (x : Spot). set ys (opened .level .0) (f x)) e (w .spot)
-        ∙ ap (λ (j : ℕ). set (keptAfter f d begins xs₀ k) j (f (behind d begins k))) (sym level-is)
+        ap₂ (λ (ys : List ℕ) (x : Spot). keptAt (itemOf d x) (opened .level .0) (f x) ys) e (w .spot)
+        ∙ ap (λ (j : ℕ). keptAt (itemOf d (behind d begins k)) j (f (behind d begins k)) (keptAfter f d begins xs₀ k)) (sym level-is)
         ∙ ap (keptAfter f d begins xs₀) z
 
     -- what the items so far make of an engine
@@ -237,64 +236,57 @@ module _ {counts : Bool} {list tb d t : List ℕ} {items : ℕ} {starts₀ lens�
       going-inside =
           rw image (image-inside d at here (openedOf d starts lens opened) (pass-inside going refl refl going-fine) going-fine)
 
-      module _ {starts′ lens′ : List ℕ} (es : starts′ ≡ set starts (opened .level .0) (at + 1))
-          (el : lens′ ≡ set lens (opened .level .0) (lenOf next)) where
-        lens-are : lens′ ≡ set lens (opened .level .0) (lenOf here)
-        lens-are = el ∙ ap (set lens (opened .level .0)) (like .len)
+      pub going-other : OneOf untagged (kindOf item.the-type next) → {run′ : Run} {o′ g′ : List ℕ}
+          → Moves d starts lens (opened .level .0) at run o g (onOther d at next) 1 (levelAfter next (opened .level .0))
+          (endOf at next) run′ o′ g′
+          → {opened′ : Open} → opened′ ≡ openAfter next opened → {n : ℕ} → n ≡ endOf at next
+          → Going counts list tb d t items starts₀ lens₀ s o₁ g₁ states memo slots starts lens opened′ run′ n false tests (k + 1) o′ g′
+      going-other u {run′} {o′} {g′} m {opened′} eo {n} en =
+          record {
+            each = λ o₀ b. pass-other (w .each o₀ b) refl refl going-fine kind moved opened-is end-is;
+            spot = spot-next starts lens opened′ (rw opened-is (opened-past d starts lens at opened here kind)) end-is;
+            came = λ o₀ x v. came-next x (onOther d at here (far x)) v (made x) (summed x) (stands o₀ x v) (m .entry);
+            starts-are =
+                kept-other here kind (opened .level .0) (at + 1) starts
+                ∙ kept-next (λ (p : Spot). p .at + 1) starts₀ (w .starts-are);
+            lens-are =
+                kept-other here kind (opened .level .0) (lenOf here) lens
+                ∙ kept-next (λ (p : Spot). lenOf (itemOf d p)) lens₀ (w .lens-are);
+            turn = omega arith;
+            begun = w .begun;
+            taped = w .taped;
+          }
+        where
+          kind : OneOf untagged (kindOf item.the-type here)
+          kind = image-untagged at here (rw image at u)
 
-        pub going-placed : Placed d starts′ lens′ (opened .level .0)
-        going-placed = pass-placed going refl refl going-fine es lens-are
+          opened-is : opened′ ≡ openAfter here opened
+          opened-is = eo ∙ like .opens opened
 
-        pub going-other : OneOf untagged (kindOf item.the-type next) → {run′ : Run} {o′ g′ : List ℕ}
-            → Moves d starts′ lens′ (opened .level .0) at run o g (onOther d at next) 1 (levelAfter next (opened .level .0))
-            (endOf at next) run′ o′ g′
-            → {opened′ : Open} → opened′ ≡ openAfter next opened → {n : ℕ} → n ≡ endOf at next
-            → Going counts list tb d t items starts₀ lens₀ s o₁ g₁ states memo slots starts′ lens′ opened′ run′ n false tests (k + 1) o′ g′
-        going-other u {run′} {o′} {g′} m {opened′} eo {n} en =
-            record {
-              each = λ o₀ b. pass-other (w .each o₀ b) refl refl going-fine es lens-are kind moved open-is end-is;
-              spot = spot-next es lens-are open-is end-is;
-              came = λ o₀ x v.
-                  came-next x (onOther d at here (far x)) v (made x) (summed x) (stands o₀ x v) (m .entry);
-              starts-are = kept-next (λ (p : Spot). p .at + 1) starts₀ (w .starts-are) es;
-              lens-are = kept-next (λ (p : Spot). lenOf (itemOf d p)) lens₀ (w .lens-are) lens-are;
-              turn = omega arith;
-              begun = w .begun;
-              taped = w .taped;
-            }
-          where
-            kind : OneOf untagged (kindOf item.the-type here)
-            kind = image-untagged at here (rw image at u)
+          end-is : n ≡ endOf at here
+          end-is = en ∙ like .ends
 
-            open-is : opened′ ≡ openAfter here opened
-            open-is = eo ∙ like .opens opened
+          made : (x : Engine) → runs judge (itemTokens d at here []) (far x) ≡ onOther d at here (far x)
+          made x =
+              other-makes d at (openedOf d starts lens opened) (far x) judge here going-fine kind []
 
-            end-is : n ≡ endOf at here
-            end-is = en ∙ like .ends
+          summed : (x : Engine)
+              → tests + tallied tested (itemTokens d at here []) (openOf (far x)) ≡ tests
+          summed x =
+              let z = other-sums d at (openedOf d starts lens opened) (far x) tested tests here going-fine
+              kind [] in
+              omega (arith, z)
 
-            made : (x : Engine) → runs judge (itemTokens d at here []) (far x) ≡ onOther d at here (far x)
-            made x =
-                other-makes d at (openedOf d starts lens opened) (far x) judge here going-fine kind []
+          moved : Moves d starts lens (opened .level .0) at run o g (onOther d at here) 1 (levelAfter here (opened .level .0))
+              (endOf at here) run′ o′ g′
+          moved = rw (like .makes, like .level (opened .level .0), like .ends) at m
 
-            summed : (x : Engine)
-                → tests + tallied tested (itemTokens d at here []) (openOf (far x)) ≡ tests
-            summed x =
-                let z = other-sums d at (openedOf d starts lens opened) (far x) tested tests here going-fine
-                kind [] in
-                omega (arith, z)
+          level-next : levelAfter here (opened .level .0) ≡ opened′ .level .0
+          level-next = level-other here opened kind ∙ ap (λ (y : Open). y .level .0) (sym opened-is)
 
-            moved : Moves d starts′ lens′ (opened .level .0) at run o g (onOther d at here) 1 (levelAfter here (opened .level .0))
-                (endOf at here) run′ o′ g′
-            moved = rw (like .makes, like .level (opened .level .0), like .ends) at m
-
-            level-next : levelAfter here (opened .level .0) ≡ opened′ .level .0
-            level-next = level-other here opened kind ∙ ap (λ (y : Open). y .level .0) (sym open-is)
-
-            stands : (o₀ : List ℕ) (x : Engine) → Begins o₀ x
-                → RunStands d starts′ lens′ o₀ (opened′ .level .0) n run′ o′ g′ (onOther d at here (far x))
-            stands o₀ x v =
-                rw (end-is, ← level-next) (moved .moves o₀ (far x)
-                (rw (es, lens-are) (stands-kept (going .order) (w .came o₀ x v .stood) (at + 1) (lenOf here))))
+          stands : (o₀ : List ℕ) (x : Engine) → Begins o₀ x
+              → RunStands d starts lens o₀ (opened′ .level .0) n run′ o′ g′ (onOther d at here (far x))
+          stands o₀ x v = rw (end-is, ← level-next) (moved .moves o₀ (far x) (w .came o₀ x v .stood))
 
       -- ---- a start tag or empty tag
 
@@ -324,9 +316,9 @@ module _ {counts : Bool} {list tb d t : List ℕ} {items : ℕ} {starts₀ lens�
         going-head = tag-head going refl refl going-fine (was .1)
 
         module _ {starts′ lens′ : List ℕ} (es : starts′ ≡ set starts (opened .level .0) (at + 1))
-            (el : lens′ ≡ set lens (opened .level .0) (lenOf next)) where
+            (el : lens′ ≡ set lens (opened .level .0) n) where
           pub going-deeper : Placed d starts′ lens′ (opened .level .0 + 1)
-          going-deeper = tag-placed going refl refl going-fine (was .1) es (lens-are es el)
+          going-deeper = tag-placed going refl refl going-fine (was .1) es el
 
           pub going-tag : listAnswer list ≡ SoundList → {parent : MatchState} → parent ≡ getD states (opened .level .0) none
               → {fit : Fit} → fit ≡ fitFor (listPaths list) (part d (at + 1) (at + 1 + n))
@@ -346,21 +338,33 @@ module _ {counts : Bool} {list tb d t : List ℕ} {items : ℕ} {starts₀ lens�
               record {
                 each = λ o₀ x.
                     let p = w .each o₀ x in
-                    pass-tag p refl refl going-fine (was .1) es (lens-are es el) sound ep ef
-                    (verdict-judged p refl refl going-fine (was .1) es (lens-are es el) sound ep ef by) st slot em er ws et mv eo;
+                    pass-tag p refl refl going-fine (was .1) es el sound ep ef
+                    (verdict-judged p refl refl going-fine (was .1) es el sound ep ef by) st slot em er ws et mv eo;
                 came = λ o₀ x v.
                     came-next x (onTag verdict (nameFrom d (at + 1) n) (part d at b) (part d at f) m (far x)) v (made o₀ x v)
                     (summed o₀ x v) (stands o₀ x v) (mv .entry);
-                starts-are = kept-next (λ (p : Spot). p .at + 1) starts₀ (w .starts-are) es;
-                lens-are = kept-next (λ (p : Spot). lenOf (itemOf d p)) lens₀ (w .lens-are) (lens-are es el);
+                starts-are =
+                    es
+                    ∙ sym (ap (λ (j : Item). keptAt j (opened .level .0) (at + 1) starts) (was .1))
+                    ∙ kept-next (λ (p : Spot). p .at + 1) starts₀ (w .starts-are);
+                lens-are =
+                    el
+                    ∙ sym (ap (λ (j : Item). keptAt j (opened .level .0) (lenOf j) lens) (was .1))
+                    ∙ kept-next (λ (p : Spot). lenOf (itemOf d p)) lens₀ (w .lens-are);
                 spot =
-                    spot-next es (lens-are es el) (eo ∙ sym (ap (λ (j : Item). openAfter j opened) (was .1)))
-                    (sym (ap (endOf at) (was .1)));
+                    spot-next starts′ lens′ opened′ opened-is (sym (ap (endOf at) (was .1)));
                 turn = omega arith;
                 begun = w .begun;
                 taped = w .taped;
               }
             where
+              opened-is : openedOf d starts′ lens′ opened′ ≡ afterItem d at here (openedOf d starts lens opened)
+              opened-is =
+                  let l : lens′ ≡ set lens (opened .level .0) (lenOf here) =
+                  el ∙ ap (λ (j : Item). set lens (opened .level .0) (lenOf j)) (sym (was .1)) in
+                  let p : opened′ ≡ openAfter here opened = eo ∙ sym (ap (λ (j : Item). openAfter j opened) (was .1)) in
+                  rw (es, l, p) (opened-after (going .judging .names) at here going-fine)
+
               -- the names that are open are the same, whatever engine the run stands for
               opens-are : (o₀ : List ℕ) (x : Engine) → Begins o₀ x → openOf (going .x) ≡ openOf (far x)
               opens-are o₀ x v = open-is (going .stands) (going .order) ∙ sym (open-is (w .came o₀ x v .stood) (going .order))
@@ -368,7 +372,7 @@ module _ {counts : Bool} {list tb d t : List ℕ} {items : ℕ} {starts₀ lens�
               verdict-is : (o₀ : List ℕ) (x : Engine) → Begins o₀ x
                   → verdict ≡ on judge (tagOf d at n b f) (openOf (far x))
               verdict-is o₀ x v =
-                  verdict-judged going refl refl going-fine (was .1) es (lens-are es el) sound ep ef by
+                  verdict-judged going refl refl going-fine (was .1) es el sound ep ef by
                   ∙ ap (on judge (tagOf d at n b f)) (opens-are o₀ x v)
 
               made : (o₀ : List ℕ) (x : Engine) → Begins o₀ x
@@ -384,7 +388,7 @@ module _ {counts : Bool} {list tb d t : List ℕ} {items : ℕ} {starts₀ lens�
               summed o₀ x v =
                   let z = tag-sums judge d at n b f (was .0) (far x) going-from going-to
                   tested tests m [] in
-                  let y = tests-are going refl refl going-fine (was .1) es (lens-are es el) sound ep ef (et .0)
+                  let y = tests-are going refl refl going-fine (was .1) es el sound ep ef (et .0)
                   ∙ ap (λ (ns : List Name). tested (nameFrom d (at + 1) n ∷ ns)) (opens-are o₀ x v) in
                   ap (λ (j : Item). tests + tallied tested (itemTokens d at j []) (openOf (far x))) (was .1)
                   ∙ omega (arith, z, y)
@@ -396,6 +400,6 @@ module _ {counts : Bool} {list tb d t : List ℕ} {items : ℕ} {starts₀ lens�
                   → RunStands d starts′ lens′ o₀ (opened′ .level .0) f run′ o′ g′
                   (onTag verdict (nameFrom d (at + 1) n) (part d at b) (part d at f) m (far x))
               stands o₀ x v =
-                  rw (name-is going refl refl going-fine (was .1) es (lens-are es el), level-next) at
+                  rw (name-is going refl refl going-fine (was .1) es el, level-next) at
                   (mv .moves o₀ (far x)
-                  (rw (es, lens-are es el) (stands-kept (going .order) (w .came o₀ x v .stood) (at + 1) (lenOf here))))
+                  (rw (es, el) (stands-kept (going .order) (w .came o₀ x v .stood) (at + 1) n)))

@@ -6,6 +6,9 @@ use mathlib.Core.List.{List, []}
 use Prim.Native.Nat.{ℕ, zero, suc, _+_}
 use lib.ListN.{length, set}
 use Rattle.xml.specs.Forest.{Name}
+use Rattle.tags.specs.declared.Item.{Item}
+use Rattle.tags.specs.declared.Item.the-variants.{Declaration, Instruction, Comment, Section, Reference, Text, Start, Finish}
+use Rattle.tags.specs.declared.Item.the-variants.{Doctype, Malformed, TooLarge, Nothing}
 use Rattle.document.specs.Levels.{lenOf}
 use Rattle.trees.specs.Cut.{Judge}
 use Rattle.trees.specs.Grown.{Token, itemTokens}
@@ -33,10 +36,25 @@ entryAfter v d s x kept zero = kept
 entryAfter v d s x kept (suc k) =
     cond (keptOf (engineAfter v d s x (suc k))) (entryAt (entryAfter v d s x kept k) (behind d s k .at)) 0
 
--- one number of an item's name is kept at the level that the item would open: its place, and its length
+-- one number of a start tag's name, or an empty tag's, is kept at the level that the tag opens: its place, or its length
+abbrev pub keptAt : Item → ℕ → ℕ → List ℕ → List ℕ
+keptAt (Declaration e) l y xs = xs
+keptAt (Instruction e) l y xs = xs
+keptAt (Comment e) l y xs = xs
+keptAt (Section e) l y xs = xs
+keptAt (Reference c e) l y xs = xs
+keptAt (Text e) l y xs = xs
+keptAt (Start n h e m t) l y xs = set xs l y
+keptAt (Finish n e) l y xs = xs
+keptAt Doctype l y xs = xs
+keptAt Malformed l y xs = xs
+keptAt TooLarge l y xs = xs
+keptAt Nothing l y xs = xs
+
 abbrev pub keptAfter : (Spot → ℕ) → List ℕ → Spot → List ℕ → ℕ → List ℕ
 keptAfter f d s xs zero = xs
-keptAfter f d s xs (suc k) = set (keptAfter f d s xs k) (length (behind d s k .opened .names)) (f (behind d s k))
+keptAfter f d s xs (suc k) =
+    keptAt (itemOf d (behind d s k)) (length (behind d s k .opened .names)) (f (behind d s k)) (keptAfter f d s xs k)
 
 abbrev pub startsAfter : List ℕ → Spot → List ℕ → ℕ → List ℕ
 startsAfter d = keptAfter (λ (p : Spot). p .at + 1) d
