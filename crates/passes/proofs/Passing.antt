@@ -273,7 +273,8 @@ module _ {counts : Bool} {list tb d o₀ g₀ : List ℕ} {states : List MatchSt
           × Stood d g (run .noted) (cutOf list d)
       go (engine k p′ d′ w c) t z =
           let f : false ≡ k = cc in
-          let a : t .said ≡ cutOf list d = sym (out-laid d (t .said) (run .kept) at (t .out-is) (kept-none (run .kept) (f ∙ t .kept-is))) ∙ cc in
+          let a : t .said ≡ cutOf list d =
+          sym (out-laid d (t .said) (run .kept) at (t .out-is) (kept-none (run .kept) (f ∙ t .kept-is))) ∙ cc in
           let b : c ≡ countOf list d = cc in
           (sym (t .text .long) ∙ ap length a, sym (t .num-is) ∙ b, counted, t .text .laid ∙ ap (sets o₀ 0) a, rw a at (t .notes))
 
@@ -340,14 +341,28 @@ placed-more {d} {starts} {lens} {opened} s a n h l =
         let le : i ≤ opened .level .0 = omega arith in
         ⊎-elim (λ (q : i ≡ opened .level .0). rw q here) (λ (q : i < opened .level .0). k .inside i q) (eq-or-lt-of-le le)
 
--- what is open after an item that is no start tag and no empty tag
+-- the level after an item that is no start tag and no empty tag, and what is open then
+pub level-other : (i : Item) (o : Open) → OneOf untagged (kindOf item.the-type i) → levelAfter i (o .level .0) ≡ openAfter i o .level .0
+level-other (Declaration e) o k = refl
+level-other (Instruction e) o k = refl
+level-other (Comment e) o k = refl
+level-other (Section e) o k = refl
+level-other (Reference n e) o k = refl
+level-other (Text e) o k = refl
+level-other (Start n h e m t) o k = absurd (not-among untagged 6 refl k)
+level-other (Finish n e) o k = refl
+level-other Doctype o k = refl
+level-other Malformed o k = refl
+level-other TooLarge o k = refl
+level-other Nothing o k = refl
+
 closed-less : (d starts lens : List ℕ) (l : ℕ) → namesOf d starts lens (l - 1) ≡ closed (namesOf d starts lens l)
 closed-less d starts lens zero = refl
 closed-less d starts lens (suc l) =
     let z : suc l - 1 ≡ l = omega arith in
     ap (namesOf d starts lens) z
 
-opened-past : (d starts lens : List ℕ) (at : ℕ) (o : Open) (i : Item) → OneOf untagged (kindOf item.the-type i)
+pub opened-past : (d starts lens : List ℕ) (at : ℕ) (o : Open) (i : Item) → OneOf untagged (kindOf item.the-type i)
     → openedOf d starts lens (openAfter i o) ≡ afterItem d at i (openedOf d starts lens o)
 opened-past d starts lens at o (Declaration e) k = refl
 opened-past d starts lens at o (Instruction e) k = refl
@@ -364,7 +379,7 @@ opened-past d starts lens at o TooLarge k = refl
 opened-past d starts lens at o Nothing k = refl
 
 -- what the state stands for does not see a name kept at the level reached
-stands-kept : {d starts lens o₀ o g : List ℕ} {level reached kept at len count m : ℕ} {x : Engine} → reached ≤ level
+pub stands-kept : {d starts lens o₀ o g : List ℕ} {level reached kept at len count m : ℕ} {x : Engine} → reached ≤ level
     → Stands d starts lens o₀ level reached kept at len count m o g x → (a n : ℕ)
     → Stands d (set starts level a) (set lens level n) o₀ level reached kept at len count m o g x
 stands-kept {d} {starts} {lens} {level = level} {reached} h t a n =
@@ -442,22 +457,8 @@ module _ {counts : Bool} {list tb d o₀ g₀ : List ℕ} {states : List MatchSt
         log-room = m .room ∙ v .log-room;
       }
     where
-      after : (j : Item) → OneOf untagged (kindOf item.the-type j) → levelAfter j (opened .level .0) ≡ openAfter j opened .level .0
-      after (Declaration e) k = refl
-      after (Instruction e) k = refl
-      after (Comment e) k = refl
-      after (Section e) k = refl
-      after (Reference n e) k = refl
-      after (Text e) k = refl
-      after (Start n h e m t) k = absurd (not-among untagged 6 refl k)
-      after (Finish n e) k = refl
-      after Doctype k = refl
-      after Malformed k = refl
-      after TooLarge k = refl
-      after Nothing k = refl
-
       level : levelAfter i (opened .level .0) ≡ opened′ .level .0
-      level = after i k ∙ ap (λ (y : Open). y .level .0) (sym eo)
+      level = level-other i opened k ∙ ap (λ (y : Open). y .level .0) (sym eo)
 
       no-more : (j : Item) (l : ℕ) → levelAfter j l ≤ l
       no-more (Declaration e) l = omega arith
@@ -479,7 +480,7 @@ module _ {counts : Bool} {list tb d o₀ g₀ : List ℕ} {states : List MatchSt
       names : Names d starts lens (openAfter i opened)
       names =
           let s = v .judging .names in
-          let l : openAfter i opened .level .0 ≤ opened .level .0 = rw (after i k) at (no-more i (opened .level .0)) in
+          let l : openAfter i opened .level .0 ≤ opened .level .0 = rw (level-other i opened k) at (no-more i (opened .level .0)) in
           record {
             deep = omega (arith, s .deep, l);
             starts-long = s .starts-long;
@@ -525,7 +526,7 @@ module _ {counts : Bool} {list tb d o₀ g₀ : List ℕ} {states : List MatchSt
       pub tag-placed : Placed d starts′ lens′ (opened .level .0 + 1)
       tag-placed = rw (es, el) (placed-more (v .judging .names) (at + 1) n tag-level tag-name)
 
-      name-is : nameAt d starts′ lens′ (opened .level .0) ≡ nameFrom d (at + 1) n
+      pub name-is : nameAt d starts′ lens′ (opened .level .0) ≡ nameFrom d (at + 1) n
       name-is =
           rw (es, el)
           (name-here d starts lens (opened .level .0) (at + 1) n
@@ -621,7 +622,7 @@ module _ {counts : Bool} {list tb d o₀ g₀ : List ℕ} {states : List MatchSt
             (held-same (v .held) (at + 1) n ls ll (v .long) state-is et)
             (held-deeper (v .held) (at + 1) n ls ll (v .long) state-is et)
 
-        tests-are : {k : ℕ} → k ≡ cond counts (testsBy parent fit) 0
+        pub tests-are : {k : ℕ} → k ≡ cond counts (testsBy parent fit) 0
             → k ≡ countedTests counts (listPaths list) (nameFrom d (at + 1) n ∷ openOf (v .x))
         unfolding nameTests
         tests-are ek =
@@ -652,7 +653,9 @@ module _ {counts : Bool} {list tb d o₀ g₀ : List ℕ} {states : List MatchSt
             → Passing counts list tb d o₀ g₀ states′ memo′ slots′ starts′ lens′ opened′ run′ f false (tests + k) o′ g′
         pass-tag {w} ew et slot em er el′ {k} ek {run′} {o′} {g′} mv {opened′} eo =
             record {
-              judging = scan-on (v .judging) e q h es (el ∙ ap (λ (j : Item). set lens (opened .level .0) (lenOf j)) (sym s)) (eo ∙ sym (ap (λ (j : Item). openAfter j opened) s)) (sym (ap (endOf at) s));
+              judging =
+                  scan-on (v .judging) e q h es (el ∙ ap (λ (j : Item). set lens (opened .level .0) (lenOf j)) (sym s))
+                  (eo ∙ sym (ap (λ (j : Item). openAfter j opened) s)) (sym (ap (endOf at) s));
               x = onTag w (nameFrom d (at + 1) n) (part d at b) (part d at f) m (v .x);
               rest = rw (ew, tests-are (ek .0)) (rest-tag (v .rest) (sym s ∙ e) tag-from (places .1) (places .2));
               stands =

@@ -9,7 +9,8 @@ use borrow.Author.Needs.{needs}
 use lib.ListN.{length}
 use Rattle.matcher.proofs.Serving.{row-few, row-fit}
 use Rattle.passes.proofs.Passing.{Passing, pass-start, pass-fault, pass-over, pass-ready, pass-many, pass-deep, pass-within}
-use Rattle.passes.proofs.Passing.{pass-next, Remembered, kept-there, known-there, known-stored, known-recalls, tests-told, below-told, verdict-told-by}
+use Rattle.passes.proofs.Passing.{pass-next, Remembered, kept-there, known-there, known-stored, known-recalls, tests-told}
+use Rattle.passes.proofs.Passing.{below-told, verdict-told-by}
 use Rattle.passes.proofs.Passing.{pass-fits, pass-inside, pass-less, pass-placed, pass-other, tag-level, tag-from, tag-to}
 use Rattle.passes.proofs.Passing.{tag-inside, tag-name, tag-fits, tag-less, tag-placed, tag-behind, tag-head}
 use Rattle.passes.proofs.Passing.{verdict-judged, pass-tag}
