@@ -1,2 +1,3 @@
 -- The laws of a tape's entries. And that a call has one result.
 pub mod Entries
+pub mod OneAnswer
