@@ -2,7 +2,7 @@
 -- where. Over the contract that the toolchain makes of the source. The entries are told by the definitions; of what stands in the arrays
 -- above the level reached, and on the tape behind the items, nothing is said.
 use mathlib.Core.Path.{_≡_, refl, sym, ap, _∙_}
-use mathlib.Core.Bool.{Bool}
+use mathlib.Core.Bool.{Bool, false≢true}
 use mathlib.Core.List.{List}
 use Prim.Native.Nat.{ℕ, _≤_, _<_}
 use native.Mathlib.Omega.{arith}
@@ -24,8 +24,8 @@ use Rattle.reel.proofs.items.Reads as items
 -- one that stopped is not behind another
 not-less : (d : List ℕ) (s : Spot) (n n′ : ℕ) (x : Stop) (t : List ℕ) → Stopped d s n x → Taped d t s n′ → n′ ≤ 1024 → n < n′ → ⊥
 not-less d s n n′ Full t p v l h = omega arith
-not-less d s n n′ Over t p v l h = let e : placed.Over ≡ placed.Fine = sym (p .1) ∙ v .fine n h in cc
-not-less d s n n′ (Fault why) t p v l h = let e : placed.Fault why ≡ placed.Fine = sym (p .1) ∙ v .fine n h in cc
+not-less d s n n′ Over t p v l h = let e : placed.Over ≡ placed.Fine = sym (p .1) ∙ v .fine n h in false≢true cc
+not-less d s n n′ (Fault why) t p v l h = let e : placed.Fault why ≡ placed.Fine = sym (p .1) ∙ v .fine n h in false≢true cc
 
 same-stop : (d : List ℕ) (s : Spot) (n : ℕ) (x y : Stop) → Stopped d s n x → Stopped d s n y → x ≡ y
 same-stop d s n Full Full p q = refl
