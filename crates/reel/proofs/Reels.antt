@@ -94,11 +94,11 @@ module _ {d : List ℕ} {s : Spot} {starts lens tape : List ℕ} {opened : Open}
   placed-here =
       ap (placedAt d) (sym (v .spot)) ∙ ap (λ (j : Item). placement d at j (openedOf d starts lens opened)) (sym e) ∙ sym q
 
-  pub reel-over : p ≡ placed.Over → Stopped d s k Over
-  reel-over h = placed-here ∙ h
+  pub reel-over : k < 1024 → p ≡ placed.Over → Stopped d s k Over
+  reel-over l h = (l, placed-here ∙ h)
 
-  pub reel-fault : (why : Why) → p ≡ placed.Fault why → Stopped d s k (Fault why)
-  reel-fault why h = placed-here ∙ h
+  pub reel-fault : k < 1024 → (why : Why) → p ≡ placed.Fault why → Stopped d s k (Fault why)
+  reel-fault l why h = (l, placed-here ∙ h)
 
   module _ (h : p ≡ placed.Fine) where
     inner : Inside d at i

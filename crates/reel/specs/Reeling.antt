@@ -3,7 +3,7 @@
 use mathlib.Core.Path.{_≡_}
 use mathlib.Core.Bool.{Bool}
 use mathlib.Core.List.{List}
-use Prim.Native.Nat.{ℕ, _+_, _≤_}
+use Prim.Native.Nat.{ℕ, _+_, _≤_, _<_}
 use lib.ListN.{length}
 use Rattle.document.specs.Place.{placement}
 use Rattle.document.specs.Levels.{Names}
@@ -30,8 +30,8 @@ pub record Reeling (d : List ℕ) (s : Spot) (starts lens tape : List ℕ) (open
 abbrev pub placedAt : List ℕ → Spot → Placement
 placedAt d s = placement d (s .at) (itemOf d s) (s .opened)
 
--- after n items
+-- after n items: there is no more room; or there is, and the next item is none or at fault
 abbrev pub Stopped : List ℕ → Spot → ℕ → Stop → Type 0
 Stopped d s n Full = n ≡ 1024
-Stopped d s n Over = placedAt d (behind d s n) ≡ placed.Over
-Stopped d s n (Fault why) = placedAt d (behind d s n) ≡ placed.Fault why
+Stopped d s n Over = (n < 1024) × (placedAt d (behind d s n) ≡ placed.Over)
+Stopped d s n (Fault why) = (n < 1024) × (placedAt d (behind d s n) ≡ placed.Fault why)

@@ -149,7 +149,11 @@ module _ {d : List ℕ} {here : Spot} {starts lens tape : List ℕ} {opened : Op
 
   pub next-over : {x : Stop} → Stopped d here n x → x ≡ stop.Over → {y : Outcome}
       → y ≡ Fine (r .run .len) (r .run .count) (r .tests) (r .run .noted) → PassedFor live counts list d o₀ g₀ y o′ g′
-  next-over p q e = go-over next-going (ap (placedAt d) (l .spot) ∙ rw q at p) e
+  next-over p q e =
+      let w : Stopped d here n stop.Over = rw q at p in
+      go-over next-going (ap (placedAt d) (l .spot) ∙ w .1) e
 
   pub next-fault : {x : Stop} → Stopped d here n x → (why : Why) → x ≡ stop.Fault why → PassedFor live counts list d o₀ g₀ (Fault why at) o′ g′
-  next-fault p why q = go-fault next-going why (ap (placedAt d) (l .spot) ∙ rw q at p) refl
+  next-fault p why q =
+      let w : Stopped d here n (stop.Fault why) = rw q at p in
+      go-fault next-going why (ap (placedAt d) (l .spot) ∙ w .1) refl
