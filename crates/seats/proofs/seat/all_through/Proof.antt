@@ -32,9 +32,11 @@ any-requires c κs =
     search needs
 
 states-of-requires : tie.Need-states-of-requires Inv-loop μ-loop
-states-of-requires c κs =
-    (c .before .before .before .before .before .before .before .before .before .pre .4, c .before .before .before .before .before .before
-    .before .before .before .pre .1, begun-placed (c .before .before .before .before .before .before .before .before .before .pre .5))
+states-of-requires c κs = (
+  c .before .before .before .before .before .before .before .before .before .pre .4,
+  c .before .before .before .before .before .before .before .before .before .pre .1,
+  begun-placed (c .before .before .before .before .before .before .before .before .before .pre .5),
+)
 
 nothing-requires : tie.Need-nothing-requires Inv-loop μ-loop
 nothing-requires c κs =
