@@ -8,6 +8,7 @@
 # make host-tests   its tests
 # make install      the command, its man page and completions, the header and the library, below PREFIX (/usr/local); make uninstall
 #                   removes them
+# make deb          a package of the same for Debian, in target/
 #
 # docs/src/rules.mk, ordinary Rust that the filter is compared with:
 # make cases        writes the packed cases and their answers anew, by the second program

@@ -1,13 +1,15 @@
 # The command `choughbell`, and the library under it.
 
-.PHONY: library xmllint cargo proving choughbell host-tests install uninstall x86 x86-library x86-host-tests
+.PHONY: library xmllint cargo proving choughbell host-tests changed install uninstall deb x86 x86-library x86-host-tests
 
 # The proved library: for the machine at hand, and on the way the toolchain's static library for x86-64. It is made again when source or
-# proofs have changed.
+# proofs have changed. While it is proved there is a line for each crate, and else nothing is said unless it fails.
 NATIVE = target/native
+MAKE_LIBRARY = host/native.sh
 PROVED = $(shell find crates -name '*.rt' -o -name '*.antt')
 $(NATIVE)/libexported.a: host/native.sh host/native.c host/include/choughbell.h $(PROVED) | rt rust
-	@mkdir -p target/log && host/native.sh $(NATIVE) > target/log/library 2>&1 || { cat target/log/library; exit 1; }
+	@mkdir -p $(NATIVE) && { $(MAKE_LIBRARY) $(NATIVE) 2>&1; echo $$? > $(NATIVE)/status; } | tee $(NATIVE)/log | \
+	    sed -u -n 's/^rt: \([^ ]* proved ([0-9].*)\)$$/\1/p'; [ "$$(cat $(NATIVE)/status)" = 0 ] || { cat $(NATIVE)/log; exit 1; }
 
 library: $(NATIVE)/libexported.a
 
@@ -25,7 +27,6 @@ cargo:
 	@command -v cargo > /dev/null || $(call fetch,cargo) || { \
 	    echo 'missing: cargo, which builds the command. Install the Debian package cargo.'; exit 1; }
 
-# Said first, since the proof says nothing while it lasts.
 proving:
 	@echo 'proving the library and building the command: minutes the first time, then seconds'
 
@@ -45,13 +46,19 @@ host-tests: choughbell xmllint
 PREFIX = /usr/local
 PUT = $(DESTDIR)$(PREFIX)
 
-# What is built and no older than its source is taken as it is: who installs as root may have no toolchain.
+# What is built and no older than its source is taken as it is: who installs as root may have no toolchain. `make changed` names what is
+# newer.
+BUILT = target/host/choughbell
+SOURCES = host/src host/include host/Cargo.toml host/Cargo.lock host/build.rs host/native.sh host/native.c
+changed:
+	@[ ! -e '$(BUILT)' ] || { find $(SOURCES) -type f -newer '$(BUILT)'; find crates -name '*.rt' -newer '$(BUILT)'; \
+	    find crates -name '*.antt' -newer '$(BUILT)'; }
+
 install:
-	@[ -x target/host/choughbell ] && [ -z "$$(find host/src crates -name '*.r[st]' -newer target/host/choughbell)" ] || \
-	    $(MAKE) --no-print-directory choughbell
+	@[ -x $(BUILT) ] && [ -z "$$($(MAKE) --no-print-directory -s changed)" ] || $(MAKE) --no-print-directory choughbell
 	install -d '$(PUT)/bin' '$(PUT)/share/man/man1' '$(PUT)/include' '$(PUT)/lib/pkgconfig' \
 	    '$(PUT)/share/bash-completion/completions' '$(PUT)/share/zsh/site-functions' '$(PUT)/share/fish/vendor_completions.d'
-	install target/host/choughbell '$(PUT)/bin/choughbell'
+	install $(BUILT) '$(PUT)/bin/choughbell'
 	install -m 644 host/man/choughbell.1 '$(PUT)/share/man/man1/choughbell.1'
 	install -m 644 host/include/choughbell.h '$(PUT)/include/choughbell.h'
 	install -m 644 $(NATIVE)/libexported.a '$(PUT)/lib/libchoughbell.a'
@@ -66,6 +73,14 @@ uninstall:
 	rm -f '$(PUT)/bin/choughbell' '$(PUT)/share/man/man1/choughbell.1' '$(PUT)/include/choughbell.h' '$(PUT)/lib/libchoughbell.a' \
 	    '$(PUT)/lib/pkgconfig/choughbell.pc' '$(PUT)/share/bash-completion/completions/choughbell' \
 	    '$(PUT)/share/zsh/site-functions/_choughbell' '$(PUT)/share/fish/vendor_completions.d/choughbell.fish'
+
+# A package of the same for Debian, target/choughbell_VERSION_MACHINE.deb.
+DEB = target
+VERSION = $(shell sed -n 's/^version = "\(.*\)"/\1/p' host/Cargo.toml)
+deb:
+	@command -v dpkg-deb > /dev/null || { echo 'missing: dpkg-deb, which makes the package. It is in Debian'"'"'s package dpkg.'; exit 1; }
+	@$(MAKE) --no-print-directory -s install DESTDIR='$(DEB)/staged' PREFIX=/usr
+	host/package.sh '$(DEB)/staged' $(VERSION) '$(DEB)'
 
 # Elsewhere than on x86-64 the toolchain's static library, x86-64 code, is tried too, as a second check: under an emulator, in programs of
 # Debian's compilers for x86-64, since they come with that machine's standard library.

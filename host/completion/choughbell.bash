@@ -3,15 +3,16 @@ _choughbell() {
     local word=$2 before=$3 command=${COMP_WORDS[1]} options
     COMPREPLY=()
     if [ "$COMP_CWORD" = 1 ]; then
-        mapfile -t COMPREPLY < <(compgen -W 'cut rows check batch pack unpack covers mend explain --help --version' -- "$word")
+        mapfile -t COMPREPLY < <(compgen -W 'cut rows check batch pack unpack covers mend show explain --help --version' -- "$word")
         return
     fi
     case $command in
     cut) options='--list --path --packed --output --count --each --plain --quiet --json' ;;
     rows) options='--list --path --packed --output --quiet --json' ;;
     check) options='--quiet --json' ;;
-    batch) options='--list --path --packed --output --folder --quiet' ;;
+    batch) options='--list --path --packed --output --folder --quiet --json' ;;
     pack | unpack | mend) options='--output --quiet --json' ;;
+    show) options='--list --path --packed --output --quiet' ;;
     covers) options='--narrow --wide --packed --quiet --json' ;;
     explain) options= ;;
     *) return ;;

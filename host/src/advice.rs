@@ -15,6 +15,9 @@ const STEP: &str = "a step is /, //, /self:: or /descendant-or-self::, then * or
 const TEST: &str = "behind an axis stands * or a name";
 const ONLY: &str = "the axes are self:: and descendant-or-self::, behind one slash, and no others";
 const MARK: &str = "one space and # mark a line, at its end";
+const BEHIND: &str = "# ends the line, and a list has no comments";
+const RETURNS: &str = "a line ends in a line feed; a carriage return stands in its place";
+const UTF16: &str = "this seems to be UTF-16; a list is in UTF-8";
 const ELEMENTS: &str = "a path selects elements, no attributes or functions; a test is [@name=\"value\"], behind the last step";
 
 /// What may stand between one slash and a name test.
@@ -37,6 +40,9 @@ fn fault(line: &[u8], ended: bool) -> Advice {
     if line.is_empty() {
         return advice(0, "an empty line");
     }
+    if utf16(line) {
+        return advice(0, UTF16);
+    }
     let mut at = 0;
     while line.get(at) == Some(&b'/') {
         match step(line, at) {
@@ -55,10 +61,18 @@ fn fault(line: &[u8], ended: bool) -> Advice {
         _ if at == 0 => advice(0, beginning(line)),
         b"" | b" #" if ended => advice(0, STEP),
         b"" | b" #" => advice(line.len(), "a line ends in a line feed"),
-        b"\r" | b" #\r" => advice(line.len() - 1, "a line ends in a line feed alone, without a carriage return"),
+        b"\r" | b" #\r" if ended => advice(line.len() - 1, "a line ends in a line feed alone, without a carriage return"),
+        [b'\r', ..] => advice(at, RETURNS),
+        [b' ', b'#', b'\r', ..] => advice(at + 2, RETURNS),
+        [b' ', b'#', ..] => advice(at + 2, BEHIND),
         _ if steps < at => attribute::after(line, steps, at),
         rest => after_steps(line, rest, at),
     }
+}
+
+/// Whether a line has a byte order mark of UTF-16, or its first byte or the second is zero, as a slash is written there.
+fn utf16(line: &[u8]) -> bool {
+    line.starts_with(b"\xFF\xFE") || line.starts_with(b"\xFE\xFF") || line.iter().take(2).any(|&b| b == 0)
 }
 
 /// What to say of a line that doesn't begin with a slash.

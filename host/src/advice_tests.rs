@@ -12,6 +12,19 @@ fn says(line: &[u8], at: usize, hint: &str) {
 }
 
 #[test]
+fn what_ends_a_line() {
+    says(b"//v # lakes", 5, BEHIND);
+    says(b"/a # ", 4, BEHIND);
+    says(b"/a #\r", 4, "a line ends in a line feed alone, without a carriage return");
+    says(b"/a\r/b\r/c", 2, RETURNS);
+    says(b"/a[@k=\"x\"] #\r/b", 12, RETURNS);
+    assert_eq!(malformed(b"/a\r", false), advice(2, RETURNS));
+    says(b"\xFF\xFE/\0a\0", 0, UTF16);
+    says(b"/\0a\0", 0, UTF16);
+    says(b"\0/\0a\0", 0, UTF16);
+}
+
+#[test]
 fn beginnings() {
     says(b"", 0, "an empty line");
     says(b"\r", 0, "an empty line");
@@ -78,7 +91,6 @@ fn marks_and_ends() {
     says(b"/a#", 2, MARK);
     says(b"/a  #", 2, MARK);
     says(b"/a\t#", 2, MARK);
-    says(b"/a # ", 2, MARK);
     says(b"/a ", 2, MARK);
     says(b"/a\r", 2, "a line ends in a line feed alone, without a carriage return");
     says(b"/a #\r", 4, "a line ends in a line feed alone, without a carriage return");
@@ -111,4 +123,25 @@ fn large_lines() {
     assert_eq!(too_large(long.as_bytes(), 1), advice(283, "a name over 255 bytes"));
     assert_eq!(too_large("/self::*".repeat(17).as_bytes(), 1), advice(128, "over 16 steps"));
     assert_eq!(too_large(b"/a", 1), advice(0, "a line has at most 16 steps, a name or a value at most 255 bytes"));
+}
+
+/// Lines of bits and pieces: each that is refused has its place in the line, between two characters.
+#[test]
+fn any_refused_line_has_a_place() {
+    let bits =
+        ["/", "//", "a", "日", "\u{301}", "*", "[@", "k", "=\"", "x", "\"]", " #", " ", "#", "\r", "::", "self::", "\0", "\u{A0}", "1"];
+    let (mut seed, mut refused) = (3u64, 0);
+    for _ in 0..20_000 {
+        let mut line = "/".to_string();
+        for _ in 0..6 {
+            seed = seed.wrapping_mul(6_364_136_223_846_793_005).wrapping_add(1_442_695_040_888_963_407);
+            line += bits[(seed >> 33) as usize % bits.len()];
+        }
+        if choughbell::covers_of(format!("{line}\n").as_bytes(), b"").is_err() {
+            let Advice { at, hint } = malformed(line.as_bytes(), true);
+            assert!(line.is_char_boundary(at) && !hint.is_empty(), "{line:?}");
+            refused += 1;
+        }
+    }
+    assert!(refused > 10_000, "{refused}");
 }

@@ -20,7 +20,7 @@ fn places() {
     says("/g[@k=\"x\"]v", 10, AFTER);
     says("/g[@k=\"x\"]#", 10, AFTER);
     says("/g[@k=\"x\"]  #", 10, AFTER);
-    says("/g[@k=\"x\"] # ", 10, AFTER);
+    says("/g[@k=\"x\"] # ", 12, "# ends the line, and a list has no comments");
     says("/[@k=\"x\"]", 1, "before a test stands * or a name");
     says("/a/self::[@k=\"x\"]", 9, "before a test stands * or a name");
     says("[@k=\"x\"]", 0, "a line begins with / or //");

@@ -34,6 +34,8 @@ mod tests {
         assert_eq!(caret(b"/a\t #\r", 5), "    /a\\t #\\r\n          ^");
         assert_eq!(caret("/pre\u{301} #!".as_bytes(), 8), "    /pre\u{301} #!\n          ^");
         assert_eq!(caret("/pr\u{E9} #!".as_bytes(), 7), "    /pr\u{E9} #!\n          ^");
+        assert_eq!(caret("/日本 b".as_bytes(), 7), "    /日本 b\n         ^");
+        assert_eq!(caret("/שָׁ b".as_bytes(), 7), "    /שָׁ b\n      ^");
     }
 
     #[test]

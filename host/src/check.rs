@@ -2,6 +2,7 @@
 //! be read does not end the run. Gives the exit status: 0, or the first other one.
 use crate::input::Source;
 use crate::output;
+use crate::progress;
 use crate::report::{self, Read};
 use crate::say;
 use crate::trouble::Trouble;
@@ -36,7 +37,7 @@ pub fn run(checking: &Checking) -> Result<u8, Trouble> {
 /// The status of one document, or why it can't be read; or why the answer can't be printed.
 fn one(checking: &Checking, source: &Source) -> Result<Result<u8, Trouble>, Trouble> {
     let document = Read::of(source, DOCUMENT_LIMIT)?;
-    let refusal = match choughbell::check(&document.bytes) {
+    let refusal = match progress::during("checking", || choughbell::check(&document.bytes)) {
         Ok(()) => return Ok(sound(checking, &document).map(|()| 0)),
         Err(refusal) => refusal,
     };

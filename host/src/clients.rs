@@ -6,6 +6,7 @@ use crate::input::Source;
 use crate::json::Object;
 use crate::output::{self, Sink};
 use crate::paths::Paths;
+use crate::progress;
 use crate::report::{self, Read, Report};
 use crate::say;
 use crate::trouble::Trouble;
@@ -43,7 +44,7 @@ pub fn run(clients: &Clients) -> Result<u8, Trouble> {
     let document = Read::of(&clients.document, DOCUMENT_LIMIT)?;
     // A seat that is not used, or whose list is not there, has an empty list.
     let texts = std::array::from_fn(|seat| lists.get(seat).and_then(|list| list.as_ref().ok()).map_or(&b""[..], |list| &list.bytes));
-    let cuts: [_; SEATS] = choughbell::four_of(texts, &document.bytes);
+    let cuts: [_; SEATS] = progress::during("cutting", || choughbell::four_of(texts, &document.bytes));
     let mut run = Run { clients, document: &document, told: false, status: 0 };
     for ((client, list), cut) in clients.clients.iter().zip(lists).zip(cuts) {
         match list {
@@ -83,10 +84,12 @@ impl Run<'_> {
             let mut object = report::numbers(0, length, cut.selected, Some(cut.name_tests), "written");
             object.number("length", length);
             object.number("selected", cut.selected);
+            object.number("tests", cut.name_tests);
             return self.line(client, object, Object::line);
         }
         if !self.clients.quiet {
-            each::idle(list, &each::each(&list.bytes, &self.document.bytes, &cut.bytes)).iter().for_each(|line| say(line));
+            let each = progress::during("counting", || each::each(&list.bytes, &self.document.bytes, &cut.bytes));
+            each::idle(list, &each).iter().for_each(|line| say(line));
         }
         Ok(())
     }

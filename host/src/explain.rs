@@ -185,7 +185,11 @@ See that the name is right and that you may read the file.
 const CANT_CREATE: &str = "\
 73: the output can't be created. What was there is as it was.
 OUTPUT must not be a directory, you must be allowed to write it where it exists, and a
-file must fit beside it, since the cut is written there first.
+file must fit beside it, since the cut is written there first and then takes its name. In
+a folder that you may not write, over another's file in a sticky folder, or over a file
+that is mounted by itself, that can't be done. Into such a file itself goes
+  choughbell cut -l short.lst whole.xml > mounted.xml
+which begins by losing what the file holds, also where the document is refused then.
 ";
 
 const IO: &str = "\

@@ -17,6 +17,7 @@ choughbell cuts XML by a list of paths, by a filter that is proved.
   choughbell covers --narrow LIST --wide LIST     whether one list is covered by another
   choughbell mend [DOCUMENT] [-o OUTPUT]          what is whole of one that stops half way,
                                                   and the end tags that are missing
+  choughbell show -l LIST [DOCUMENT] [-o PAGE]    a page to look at: what becomes of each part
   choughbell explain [NUMBER]                     what an answer or an exit status means
 
 A file that is not named, or named -, is the standard input or output.
@@ -42,8 +43,9 @@ A file that is not named, or named -, is the standard input or output.
                        narrow line that nothing covers
   -q, --quiet          no message and no numbers, only the exit status and what is to be
                        written
-      --json           print the numbers as one line of JSON, on the standard output, or on
-                       the standard error where the document goes to the other
+      --json           print the numbers as one line of JSON, of batch one for each document
+                       too; on the standard output, or on the standard error where the
+                       document goes to the other
   -h, --help           this text
   -V, --version        the version
       --               what follows is no option

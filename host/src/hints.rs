@@ -1,25 +1,70 @@
-//! A short hint on a refused document, read off the bytes at the place that the library names. It only advises; the number is the
-//! library's.
+//! A short hint on a refused document, read off the bytes at the place that the library names, and where in the item the fault itself
+//! seems to be. It only advises; the number and the offset are the library's.
 use crate::advice;
 use crate::names;
 use crate::outline::{self, Outline};
 use crate::places;
 use crate::shown;
+use crate::tag::{self, Tag};
 use choughbell::Refusal;
 
 const OUTSIDE: &str = "outside the root stand only comments, instructions and white space";
 const TAG: &str = "a tag is <, a name, attributes as name=\"value\", none twice, and > or />; a value has no <";
-const SIZES: &str = "elements stand at most 64 deep, names have at most 255 bytes, tags at most 32 attributes";
+const COMMENT: &str = "a comment ends in --> and has no -- inside";
+
+/// A hint, and the offset of the fault where it is known.
+#[derive(PartialEq, Eq, Debug)]
+pub struct Hint {
+    pub text: String,
+    pub at: Option<usize>,
+}
 
 /// What to say of a document that is refused at an offset.
-pub fn hint(refusal: Refusal, document: &[u8], offset: usize) -> String {
-    match refusal {
+pub fn hint(refusal: Refusal, document: &[u8], offset: usize) -> Hint {
+    let text = match refusal {
         Refusal::NotCharacter { .. } => not_character(document, offset),
         Refusal::DocumentType { .. } => "documents with a type are not taken".to_string(),
-        Refusal::OverSize { .. } => over_size(document, offset),
         Refusal::OtherEncoding { .. } => other_encoding(document, offset),
         Refusal::NoRoot { .. } => "no start tag before it is whole, so nothing can be kept".to_string(),
-        _ => not_well_formed(document, offset),
+        Refusal::OverSize { .. } => return within(offset, over_size(document, offset)),
+        _ => {
+            let text = not_well_formed(document, offset);
+            return within(offset, fault(document, offset).unwrap_or((0, text)));
+        }
+    };
+    Hint { text, at: None }
+}
+
+/// A fault in the item at an offset.
+fn within(offset: usize, (at, text): tag::Fault) -> Hint {
+    Hint { text, at: Some(offset + at) }
+}
+
+/// The place of a fault inside an item that is not well-formed, where it is found.
+fn fault(document: &[u8], offset: usize) -> Option<tag::Fault> {
+    let outline = outline::outline(document, offset);
+    let rest = &document[offset..];
+    let inside = !outline.open.is_empty();
+    match rest.first()? {
+        b'<' if rest.starts_with(b"<!--") => {
+            let at = 4 + rest[4..].windows(2).position(|pair| pair == b"--")?;
+            Some((at, COMMENT.to_string()))
+        }
+        b'<' if rest.starts_with(b"<!") || rest.starts_with(b"<?") || rest.starts_with(b"</") => None,
+        b'<' if outline.rooted && !inside => None,
+        b'<' if named(&rest[1..]) => {
+            let tag = tag::read(rest);
+            let twice = tag.twice(rest);
+            let (at, text) = tag.fault.or(twice)?;
+            Some((at, unseen(&rest[at..], &text)))
+        }
+        b'<' => None,
+        b'&' if inside => tag::reference(rest).err().map(|hint| (0, hint.to_string())),
+        _ if inside => rest.windows(3).position(|three| three == b"]]>").map(|at| (at, "text has no ]]>".to_string())),
+        _ => {
+            let at = rest.iter().position(|b| !b" \t\r\n".contains(b))?;
+            Some((at, unseen(&rest[at..], OUTSIDE)))
+        }
     }
 }
 
@@ -47,13 +92,26 @@ fn length(first: u8) -> usize {
     }
 }
 
-fn over_size(document: &[u8], offset: usize) -> String {
-    let deep = outline::outline(document, offset).open.len() >= 64 && !document[offset..].starts_with(b"</");
-    if deep {
-        format!("65 deep: {SIZES}")
-    } else {
-        SIZES.to_string()
+/// Which of the sizes it is: too deep, a name too long, or too many attributes.
+fn over_size(document: &[u8], offset: usize) -> tag::Fault {
+    let rest = &document[offset..];
+    if let Some(tag) = rest.strip_prefix(b"</") {
+        return long(outline::name(tag).len(), 2);
     }
+    if outline::outline(document, offset).open.len() >= 64 {
+        return (0, "it is 65 deep; elements stand at most 64 deep".to_string());
+    }
+    let Tag { name, attributes, .. } = tag::read(rest);
+    if let Some(name) = std::iter::once(&name).chain(&attributes).find(|name| name.len() > 255) {
+        return long(name.len(), name.start);
+    }
+    let at = attributes.get(32).map_or(0, |name| name.start);
+    (at, format!("it has {} attributes; a tag has at most 32", attributes.len()))
+}
+
+/// A name of some bytes at a place in a tag.
+fn long(bytes: usize, at: usize) -> tag::Fault {
+    (at, format!("a name of {bytes} bytes; names have at most 255"))
 }
 
 /// What the declaration says, and how to mend it. Behind the mark of UTF-8 the bytes are hardly what it says: to convert them as it says
@@ -82,7 +140,7 @@ fn not_well_formed(document: &[u8], offset: usize) -> String {
     let text = match rest.first() {
         None => return at_the_end(document, &outline),
         Some(b'<') if rest.starts_with(b"</") => return end_tag(document, rest, &outline),
-        Some(b'<') if rest.starts_with(b"<!--") => "a comment ends in --> and has no -- inside",
+        Some(b'<') if rest.starts_with(b"<!--") => COMMENT,
         Some(b'<') if rest.starts_with(b"<![CDATA[") => {
             if inside {
                 "a section ends in ]]>"
@@ -93,11 +151,11 @@ fn not_well_formed(document: &[u8], offset: usize) -> String {
         Some(b'<') if rest.starts_with(b"<!") => "<! begins a comment, <!--, or a section, <![CDATA[",
         Some(b'<') if rest.starts_with(b"<?") => instruction(document, offset),
         Some(b'<') if outline.rooted && !inside => "the root is closed, and there is only one",
-        Some(b'<') if !named(&rest[1..]) => "a < that begins no tag is written &lt;",
-        Some(b'<') => return unseen(in_tag(rest), TAG),
-        Some(b'&') if inside => "a reference is &lt; &gt; &amp; &apos; &quot; or a character's number, as &#233;",
+        Some(b'<') if !named(&rest[1..]) => return no_tag(&rest[1..]),
+        Some(b'<') => TAG,
+        Some(b'&') if inside => tag::REFERENCE,
         Some(_) if inside => "text has no ]]>",
-        Some(_) => return unseen(rest, OUTSIDE),
+        Some(_) => OUTSIDE,
     };
     text.to_string()
 }
@@ -107,20 +165,13 @@ fn unseen(bytes: &[u8], rule: &str) -> String {
     shown::unseen_front(bytes).map_or(rule.to_string(), |name| format!("{name} stands there; {rule}"))
 }
 
-/// A tag from its first character on that can't be seen and stands outside a value; or nothing of it.
-fn in_tag(rest: &[u8]) -> &[u8] {
-    let (mut at, mut quote) = (0, None);
-    while let Ok(c) = shown::front(&rest[at..]) {
-        match (quote, c) {
-            (None, '>') => break,
-            (None, '"' | '\'') => quote = Some(c),
-            (None, _) if shown::unseen(c).is_some() => return &rest[at..],
-            (Some(open), _) if open == c => quote = None,
-            _ => {}
-        }
-        at += c.len_utf8();
+/// What to say of a `<` with no name behind it, where something stands that names have, but not at their front.
+fn no_tag(rest: &[u8]) -> String {
+    const SIGN: &str = "a < that begins no tag is written &lt;";
+    match shown::front(rest) {
+        Ok(c) if names::within(c) => format!("a name can't begin with {c}; {SIGN}"),
+        _ => SIGN.to_string(),
     }
-    b""
 }
 
 /// Whether a name can begin there.

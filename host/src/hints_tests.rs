@@ -4,7 +4,7 @@ use super::*;
 /// The number and the hint for a document.
 fn said(document: &[u8]) -> (u64, String) {
     let refusal = choughbell::check(document).unwrap_err();
-    (refusal.number(), hint(refusal, document, refusal.offset().unwrap() as usize))
+    (refusal.number(), hint(refusal, document, refusal.offset().unwrap() as usize).text)
 }
 
 fn says(document: &[u8], number: u64, text: &str) {
@@ -54,7 +54,9 @@ fn items() {
     says(b"<g><!-- a -- b --></g>", 7, "a comment ends in --> and has no -- inside");
     says(b"<g><![CDATA[</g>", 7, "a section ends in ]]>");
     says(b"<!ELEMENT g ANY><g/>", 7, "<! begins a comment, <!--, or a section, <![CDATA[");
-    says(b"<g a=1/>", 7, TAG);
+    says(b"<g a=1/>", 7, "a value stands in quotes");
+    says(b"<g><1a/></g>", 7, "a name can't begin with 1; a < that begins no tag is written &lt;");
+    says(b"<g>Pres & Moulins</g>", 7, "a & that begins no reference is written &amp;");
     says(b"<g>1 < 2</g>", 7, "a < that begins no tag is written &lt;");
     says(b"<g><", 7, "a < that begins no tag is written &lt;");
     says(b"<g>]]></g>", 7, "text has no ]]>");
@@ -67,13 +69,35 @@ fn items() {
 
 #[test]
 fn blanks_that_are_none() {
-    says("<g\u{A0}a='1'/>".as_bytes(), 7, &format!("U+00A0 (no-break space) stands there; {TAG}"));
-    says("<g a='\u{A0}' b=1/>".as_bytes(), 7, TAG);
+    says("<g\u{A0}a='1'/>".as_bytes(), 7, "U+00A0 (no-break space) stands there; an attribute begins with a blank and its name");
+    says("<g a='\u{A0}' b=1/>".as_bytes(), 7, "a value stands in quotes");
     says("<g/>\u{202F}".as_bytes(), 7, &format!("U+202F (narrow no-break space) stands there; {OUTSIDE}"));
 }
 
 #[test]
 fn sizes() {
-    says("<g>".repeat(65).as_bytes(), 8, &format!("65 deep: {SIZES}"));
-    says(format!("<{}/>", "g".repeat(256)).as_bytes(), 8, SIZES);
+    says("<g>".repeat(65).as_bytes(), 8, "it is 65 deep; elements stand at most 64 deep");
+    let (name, most) = ("g".repeat(256), "a name of 256 bytes; names have at most 255");
+    says(format!("<{name}/>").as_bytes(), 8, most);
+    says(format!("<g a='1' {name}=''/>").as_bytes(), 8, most);
+    says(format!("<g></{name}>").as_bytes(), 8, most);
+    let attributes: String = (0..34).map(|i| format!(" a{i}=''")).collect();
+    says(format!("<g{attributes}/>").as_bytes(), 8, "it has 34 attributes; a tag has at most 32");
+}
+
+#[test]
+fn faults_have_their_place() {
+    let at = |document: &str| {
+        let refusal = choughbell::check(document.as_bytes()).unwrap_err();
+        hint(refusal, document.as_bytes(), refusal.offset().unwrap() as usize).at
+    };
+    assert_eq!(at("<g>one\ntwo ]]> three</g>"), Some(11));
+    assert_eq!(at("<g/>\n\n end"), Some(7));
+    assert_eq!(at("<g a='1'\n a='2'/>"), Some(10));
+    assert_eq!(at("<g><!-- a\n -- b --></g>"), Some(11));
+    assert_eq!(at("<g>a &nbsp; b</g>"), Some(5));
+    assert_eq!(at("<g></v>"), Some(3));
+    assert_eq!(at("<g>\u{1}</g>"), None);
+    let many: String = (0..33).map(|i| format!(" a{i:02}=''")).collect();
+    assert_eq!(at(&format!("<g{many}/>")), Some(2 + 32 * 7 + 1));
 }

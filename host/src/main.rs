@@ -19,20 +19,28 @@ mod names;
 mod outline;
 mod output;
 mod packing;
+mod page;
+mod parts;
 mod paths;
+mod picked;
 mod places;
+mod progress;
 mod report;
+mod show;
 mod shown;
 #[allow(unsafe_code)]
 mod system;
 mod table;
+mod tag;
 mod task;
 mod trouble;
 mod usage;
+mod widths;
 
 use std::env;
 use std::io::{self, Write};
 use std::process::ExitCode;
+use std::sync::atomic::{AtomicBool, Ordering::Relaxed};
 use trouble::Trouble;
 use usage::Request;
 
@@ -49,13 +57,15 @@ fn main() -> ExitCode {
         Request::Task(task) => (task.quiet, task.json),
         Request::Clients(clients) => (clients.quiet, clients.json),
         Request::Check(checking) => (checking.quiet, checking.json),
-        Request::Batch(post) => (post.quiet, false),
+        Request::Batch(post) => (post.quiet, post.json),
         Request::Packing(packing) => (packing.quiet, packing.json),
         Request::Covers(asked) => (asked.quiet, asked.json),
         Request::Mend(task) => (task.quiet, task.json),
         Request::Rows(table) => (table.quiet, table.json),
+        Request::Show(showing) => (showing.quiet, false),
         _ => (false, false),
     };
+    QUIET.store(quiet, Relaxed);
     match answer(&request) {
         Ok(status) => {
             if (1..=13).contains(&status) && !quiet && !json {
@@ -83,11 +93,22 @@ fn answer(request: &Request) -> Result<u8, Trouble> {
         Request::Covers(asked) => return covers::run(asked),
         Request::Mend(task) => return mend::run(task),
         Request::Rows(table) => return table::run(table),
+        Request::Show(showing) => return show::run(showing),
         Request::Explain(text) => output::print(text)?,
         Request::Help => output::print(help::HELP)?,
         Request::Version => output::print(help::VERSION)?,
     }
     Ok(0)
+}
+
+/// Whether messages are left out.
+static QUIET: AtomicBool = AtomicBool::new(false);
+
+/// A message that is left out where nothing is to be said.
+fn note(message: &str) {
+    if !QUIET.load(Relaxed) {
+        say(message);
+    }
 }
 
 /// A message on the standard error. Where that can't be written, there is nobody to tell.

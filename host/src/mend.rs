@@ -4,6 +4,7 @@ use crate::input::Source;
 use crate::json::Object;
 use crate::output::{self, Sink};
 use crate::places;
+use crate::progress;
 use crate::report::{self, Read};
 use crate::trouble::Trouble;
 use choughbell::{Mended, DOCUMENT_LIMIT};
@@ -19,7 +20,7 @@ pub struct Mending {
 
 pub fn run(task: &Mending) -> Result<u8, Trouble> {
     let document = Read::of(&task.document, DOCUMENT_LIMIT)?;
-    match choughbell::mend_of(&document.bytes) {
+    match progress::during("mending", || choughbell::mend_of(&document.bytes)) {
         Ok(mended) => {
             task.output.write(&mended.bytes)?;
             let line = format!("{}: {}", document.name, summary(&document.bytes, &mended));

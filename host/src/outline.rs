@@ -1,5 +1,5 @@
-//! Which elements are open at an offset. It is asked only of offsets up to which the library found every item sound, so items are told by
-//! their first bytes and passed by their last.
+//! The items of a document, and which elements are open at an offset. It is asked only of bytes in which the library found every item
+//! sound, so items are told by their first bytes and passed by their last.
 
 pub struct Outline<'a> {
     /// The open elements, the root first: the offset of each start tag and its name.
@@ -8,32 +8,58 @@ pub struct Outline<'a> {
     pub rooted: bool,
 }
 
+/// What an item that begins with `<` is, as far as elements go.
+#[derive(Clone, Copy, PartialEq, Eq, Debug)]
+pub enum Kind {
+    Start,
+    Empty,
+    End,
+    Other,
+}
+
+/// The items of some bytes that begin with `<`, each with where it begins and ends. What stands between them is text and references.
+pub fn items(bytes: &[u8]) -> impl Iterator<Item = (Kind, usize, usize)> + '_ {
+    let mut at = 0;
+    std::iter::from_fn(move || {
+        let from = at + bytes[at..].iter().position(|&b| b == b'<')?;
+        let (kind, length) = item(&bytes[from..]);
+        at = from + length;
+        Some((kind, from, at))
+    })
+}
+
 /// The outline of a document before an offset.
 pub fn outline(document: &[u8], offset: usize) -> Outline<'_> {
-    let items = &document[..offset];
     let mut outline = Outline { open: Vec::new(), rooted: false };
-    let mut at = 0;
-    while let Some(item) = items[at..].iter().position(|&b| b == b'<').map(|n| at + n) {
-        let rest = &items[item..];
-        let length = if rest.starts_with(b"<!--") {
-            through(rest, 4, b"-->")
-        } else if rest.starts_with(b"<![CDATA[") {
-            through(rest, 9, b"]]>")
-        } else if rest.starts_with(b"<?") {
-            through(rest, 2, b"?>")
-        } else if rest.starts_with(b"</") {
-            outline.open.pop();
-            through(rest, 2, b">")
-        } else {
-            tag(&mut outline, rest, item)
-        };
-        at = item + length;
+    for (kind, from, _) in items(&document[..offset]) {
+        match kind {
+            Kind::Start => outline.open.push((from, name(&document[from + 1..offset]))),
+            Kind::End => drop(outline.open.pop()),
+            Kind::Empty | Kind::Other => {}
+        }
+        outline.rooted |= matches!(kind, Kind::Start | Kind::Empty);
     }
     outline
 }
 
-/// The length of a start tag or an empty tag, which is noted.
-fn tag<'a>(outline: &mut Outline<'a>, rest: &'a [u8], item: usize) -> usize {
+/// The kind and the length of the item at the front.
+fn item(rest: &[u8]) -> (Kind, usize) {
+    if rest.starts_with(b"<!--") {
+        (Kind::Other, through(rest, 4, b"-->"))
+    } else if rest.starts_with(b"<![CDATA[") {
+        (Kind::Other, through(rest, 9, b"]]>"))
+    } else if rest.starts_with(b"<?") {
+        (Kind::Other, through(rest, 2, b"?>"))
+    } else if rest.starts_with(b"</") {
+        (Kind::End, through(rest, 2, b">"))
+    } else {
+        let length = tag(rest);
+        (if rest[..length].ends_with(b"/>") { Kind::Empty } else { Kind::Start }, length)
+    }
+}
+
+/// The length of a start tag or an empty tag: through the first `>` outside a value.
+fn tag(rest: &[u8]) -> usize {
     let mut quote = None;
     let end = rest.iter().position(|&b| match quote {
         Some(q) => {
@@ -45,12 +71,7 @@ fn tag<'a>(outline: &mut Outline<'a>, rest: &'a [u8], item: usize) -> usize {
             b == b'>'
         }
     });
-    outline.rooted = true;
-    let length = end.map_or(rest.len(), |end| end + 1);
-    if !rest[..length].ends_with(b"/>") {
-        outline.open.push((item, name(&rest[1..])));
-    }
-    length
+    end.map_or(rest.len(), |end| end + 1)
 }
 
 /// The length of an item that ends in a text, which is looked for from `from` on.

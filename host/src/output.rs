@@ -1,13 +1,15 @@
 //! Where a cut goes. A file is replaced as a whole: the cut is written to a temporary file in the same folder, which then takes the file's
-//! name. So a run that fails or is ended leaves the old file as it was. What is no regular file, as a pipe, is written directly.
+//! name. So a run that fails or is ended leaves the old file as it was, and one that can't be replaced so is not written at all. What is no
+//! regular file, as a pipe, is written directly.
+use crate::note;
 use crate::shown;
 use crate::system;
 use crate::trouble::{self, Trouble};
 use std::ffi::OsStr;
-use std::fs::{self, File, Metadata, OpenOptions};
+use std::fs::{self, File, Metadata, OpenOptions, Permissions};
 use std::io::{self, Write};
 use std::os::unix::ffi::OsStrExt;
-use std::os::unix::fs::OpenOptionsExt;
+use std::os::unix::fs::{MetadataExt, OpenOptionsExt, PermissionsExt};
 use std::path::{Path, PathBuf};
 use std::process;
 
@@ -105,18 +107,59 @@ fn folder(path: &Path) -> &Path {
     }
 }
 
-/// Gives a file new bytes, with the permissions of the old file where there is one.
+/// Gives a file new bytes, with the owner, the group and the permissions of the old file where there is one.
 fn replace(name: &str, path: &Path, old: Option<&Metadata>, bytes: &[u8]) -> Result<(), Trouble> {
     // Until it has the old file's permissions, nobody else may read it.
     let mode = if old.is_some() { 0o600 } else { 0o666 };
-    let (mut file, scratch) = Scratch::beside(path, mode)
-        .map_err(|e| trouble::creating(name, &format!("no temporary file beside it: {}", trouble::words(&e))))?;
+    let (mut file, scratch) = Scratch::beside(path, mode).map_err(|e| trouble::creating(name, &unmade(&e, old)))?;
     file.write_all(bytes).map_err(|e| trouble::writing(name, &e))?;
-    if let Some(old) = old {
-        file.set_permissions(old.permissions()).map_err(|e| trouble::writing(name, &e))?;
-    }
+    let lost = old.map_or(Ok(None), |old| inherit(&file, old)).map_err(|e| trouble::writing(name, &e))?;
     file.sync_all().map_err(|e| trouble::writing(name, &e))?;
-    scratch.rename(path).map_err(|e| trouble::creating(name, &trouble::words(&e)))
+    scratch.rename(path).map_err(|e| trouble::creating(name, &unrenamed(&e, old)))?;
+    if let Some(lost) = lost {
+        note(&format!("choughbell: {name}: {lost} could not be kept"));
+    }
+    Ok(())
+}
+
+/// How a file that may be written is written where it can't be replaced. It is for the user to do, since it loses the old file at once.
+const IN_PLACE: &str = "; -o - and the shell's > write into it, and lose what it holds first";
+
+/// Why there is no temporary file.
+fn unmade(e: &io::Error, old: Option<&Metadata>) -> String {
+    let more = if old.is_some() { IN_PLACE } else { "" };
+    format!("no temporary file beside it: {}{more}", trouble::words(e))
+}
+
+/// Why a file does not take the place of another.
+fn unrenamed(e: &io::Error, old: Option<&Metadata>) -> String {
+    const EPERM: i32 = 1;
+    const EBUSY: i32 = 16;
+    let words = trouble::words(e);
+    match e.raw_os_error() {
+        Some(EPERM) if old.is_some() => format!("{words}: its folder lets nobody replace another's file{IN_PLACE}"),
+        Some(EBUSY) if old.is_some() => format!("{words}: it is mounted by itself and can't be replaced{IN_PLACE}"),
+        _ => words,
+    }
+}
+
+/// Gives a file the owner, the group and the permissions of an old one. Gives which of the first two it does not get: to hand a file to
+/// another is for root, and to a group for its members. Another group gets the rights that all others have.
+fn inherit(file: &File, old: &Metadata) -> io::Result<Option<String>> {
+    let own = file.metadata()?;
+    if (own.uid(), own.gid()) != (old.uid(), old.gid()) && !system::give(file, old.uid(), old.gid()) {
+        system::give(file, own.uid(), old.gid());
+    }
+    let new = file.metadata()?;
+    let (owner, group) = (new.uid() == old.uid(), new.gid() == old.gid());
+    let mode = old.mode() & if owner && group { 0o7777 } else { 0o777 };
+    file.set_permissions(Permissions::from_mode(if group { mode } else { mode & 0o707 | (mode & 0o007) << 3 }))?;
+    Ok(match (owner, group) {
+        (true, true) => None,
+        (false, true) => Some(format!("its owner, {},", old.uid())),
+        (true, false) => Some(format!("its group, {},", old.gid())),
+        (false, false) => Some(format!("its owner, {}, and its group, {},", old.uid(), old.gid())),
+    })
 }
 
 /// A temporary file. It is removed when it is let go, unless it has got its name.

@@ -20,16 +20,21 @@ pub fn column(line: &[u8], at: usize) -> usize {
     line[..at].iter().filter(|&&b| b & 0xC0 != 0x80).count() + 1
 }
 
-/// The front of what stands at an offset: a tag or another item that begins with `<` through the next `>`, a reference through `;`, text up
-/// to the next item.
-pub fn item(document: &[u8], offset: usize) -> String {
+/// Where what stands at an offset seems to end: a tag or another item that begins with `<` behind the next `>`, a reference behind `;`,
+/// text at the next item.
+pub fn item_end(document: &[u8], offset: usize) -> usize {
     let rest = &document[offset..];
     let end = match rest.first() {
         Some(b'<') => rest.iter().position(|&b| b == b'>').map(|end| end + 1),
         Some(b'&') => rest.iter().position(|&b| b == b';').map(|end| end + 1),
         _ => rest.iter().position(|&b| b == b'<' || b == b'&'),
     };
-    shown::some(&rest[..end.unwrap_or(rest.len())], QUOTED)
+    end.map_or(document.len(), |end| offset + end)
+}
+
+/// The front of what stands at an offset.
+pub fn item(document: &[u8], offset: usize) -> String {
+    shown::some(&document[offset..item_end(document, offset)], QUOTED)
 }
 
 /// The front of a line.

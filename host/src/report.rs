@@ -1,7 +1,7 @@
 //! A refusal for a person, as one line and for a list two more, and for a script, as JSON.
 use crate::advice::{self, Advice};
 use crate::caret;
-use crate::hints;
+use crate::hints::{self, Hint};
 use crate::input::Source;
 use crate::json::Object;
 use crate::places;
@@ -51,6 +51,9 @@ struct Item {
     /// What stands there, or nothing at the end of the document.
     there: String,
     hint: String,
+    /// The line and the column of the fault itself, where that is elsewhere in the item; and its offset.
+    fault: Option<(usize, usize)>,
+    at: usize,
 }
 
 /// The report on a refusal of a list or a document.
@@ -68,7 +71,7 @@ pub fn report(refusal: Refusal, list: &Read, document: &Read) -> Report {
 }
 
 /// A number with a comma before each three digits from the right.
-fn grouped(number: u64) -> String {
+pub fn grouped(number: u64) -> String {
     let digits = number.to_string();
     let comma = |at: usize| if at > 0 && (digits.len() - at) % 3 == 0 { "," } else { "" };
     digits.chars().enumerate().map(|(at, digit)| format!("{}{digit}", comma(at))).collect()
@@ -89,7 +92,9 @@ fn in_list(refusal: Refusal, number: u64, list: &[u8]) -> Place {
 fn in_document(refusal: Refusal, offset: u64, document: &[u8]) -> Place {
     let at = (offset as usize).min(document.len());
     let (line, column) = places::line_and_column(document, at);
-    Place::Item(Item { offset, line, column, there: places::item(document, at), hint: hints::hint(refusal, document, at) })
+    let Hint { text, at: found } = hints::hint(refusal, document, at);
+    let fault = found.filter(|&found| found != at).map(|found| places::line_and_column(document, found));
+    Place::Item(Item { offset, line, column, there: places::item(document, at), hint: text, fault, at: found.unwrap_or(at) })
 }
 
 impl Report {
@@ -103,10 +108,19 @@ impl Report {
                 let (there, caret) = (places::quoted(bytes), caret::caret(bytes, *at));
                 format!("{file}:{line}: {number}: {meaning}: \"{there}\": {hint}\n{caret}")
             }
-            Place::Item(Item { offset, line, column, there, hint }) => {
+            Place::Item(Item { offset, line, column, there, hint, fault, .. }) => {
                 let there = if there.is_empty() { "at the end".to_string() } else { format!("\"{there}\"") };
-                format!("{file}:{line}:{column}: {number}: {meaning}: {there}: {hint} (offset {offset})")
+                let fault = fault.map_or(String::new(), |(line, column)| format!(", at {line}:{column}"));
+                format!("{file}:{line}:{column}: {number}: {meaning}: {there}: {hint}{fault} (offset {offset})")
             }
+        }
+    }
+
+    /// The offset of the fault in a document.
+    pub fn fault(&self) -> Option<usize> {
+        match &self.place {
+            Place::Item(item) => Some(item.at),
+            _ => None,
         }
     }
 
@@ -127,12 +141,16 @@ impl Report {
                 object.string("there", &places::quoted(bytes));
                 object.string("hint", hint);
             }
-            Place::Item(Item { offset, line, column, there, hint }) => {
+            Place::Item(Item { offset, line, column, there, hint, fault, .. }) => {
                 object.number("offset", *offset);
                 object.number("line", *line as u64);
                 object.number("column", *column as u64);
                 object.string("there", there);
                 object.string("hint", hint);
+                if let Some((line, column)) = fault {
+                    object.number("fault_line", *line as u64);
+                    object.number("fault_column", *column as u64);
+                }
             }
         }
         object.line()

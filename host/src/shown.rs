@@ -1,6 +1,7 @@
 //! Bytes as a message shows them, on one line. Control characters, marks that turn the direction of writing, blanks other than the space
 //! and what else can't be seen, backslashes, and bytes that are not UTF-8 are escaped. Bytes may be of any kind here: a document, a list,
 //! a file's name.
+use crate::widths;
 use std::str;
 
 /// The character at the front, or how many bytes there begin none.
@@ -19,7 +20,7 @@ pub struct Shown {
     /// How many bytes it has.
     pub bytes: usize,
     pub text: String,
-    /// How many columns it takes: none where it stands over the letter before it.
+    /// How many columns it takes.
     pub width: usize,
 }
 
@@ -43,11 +44,10 @@ fn one(c: char) -> Shown {
         '\t' => plain(1, "\\t".to_string()),
         '\\' => plain(1, "\\\\".to_string()),
         '\u{34F}' => coded(c),
-        '\u{300}'..='\u{36F}' => Shown { bytes: c.len_utf8(), text: c.to_string(), width: 0 },
         '\u{FEFF}' | '\u{FFFE}' | '\u{FFFF}' => coded(c),
         _ if unseen(c).is_some() => coded(c),
         _ if c.is_control() => coded(c),
-        _ => plain(c.len_utf8(), c.to_string()),
+        _ => Shown { bytes: c.len_utf8(), text: c.to_string(), width: widths::width(c) },
     }
 }
 

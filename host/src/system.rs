@@ -1,13 +1,13 @@
-//! What the standard library has no safe word for: open files by their numbers, which of the first three were closed at the start, and
-//! signals that end a run. This is the one file of the command with unsafe code. What is declared here is the C library's, on Linux of 64
-//! bits.
+//! What the standard library has no safe word for: open files by their numbers, which of the first three were closed at the start, a file's
+//! owner, and signals that end a run. This is the one file of the command with unsafe code. What is declared here is the C library's, on
+//! Linux of 64 bits.
 use std::ffi::{CString, OsStr};
 use std::fs::File;
 use std::io;
 use std::mem::ManuallyDrop;
-use std::os::raw::{c_char, c_int};
+use std::os::raw::{c_char, c_int, c_uint};
 use std::os::unix::ffi::OsStrExt;
-use std::os::unix::io::FromRawFd;
+use std::os::unix::io::{AsRawFd, FromRawFd};
 use std::path::Path;
 use std::ptr;
 use std::sync::atomic::{AtomicBool, AtomicPtr, Ordering::SeqCst};
@@ -21,6 +21,7 @@ extern "C" {
     fn signal(signal: c_int, handler: usize) -> usize;
     fn raise(signal: c_int) -> c_int;
     fn unlink(path: *const c_char) -> c_int;
+    fn fchown(number: c_int, owner: c_uint, group: c_uint) -> c_int;
     fn sigprocmask(how: c_int, set: *const Signals, old: *mut Signals) -> c_int;
 }
 
@@ -51,6 +52,12 @@ pub fn number(word: &OsStr) -> Option<u16> {
 pub fn stream(number: u16) -> ManuallyDrop<File> {
     // SAFETY: the file is never dropped, so a descriptor that belongs to another is not closed; reading and writing ask for no more.
     ManuallyDrop::new(unsafe { File::from_raw_fd(number.into()) })
+}
+
+/// Gives a file another owner and group. False where that is not permitted, or fails.
+pub fn give(file: &File, owner: u32, group: u32) -> bool {
+    // SAFETY: the descriptor is that of a file which is borrowed, and stays open.
+    unsafe { fchown(file.as_raw_fd(), owner, group) == 0 }
 }
 
 /// Which of the first three were closed when the program was started. Before `main` the runtime opens /dev/null in their place, which takes

@@ -4,6 +4,7 @@ use crate::input::Source;
 use crate::json::Object;
 use crate::output::{self, Sink};
 use crate::paths::Paths;
+use crate::progress;
 use crate::report::{self, Read};
 use crate::say;
 use crate::trouble::Trouble;
@@ -39,15 +40,18 @@ pub fn run(task: &Task) -> Result<u8, Trouble> {
         Ok(text) => text,
         Err(refusal) => return refused(task, refusal, &list, &document),
     };
-    let made = if task.plain {
-        choughbell::plain_of(&list.bytes, &document.bytes).map(|cut| Made { cut: cut.bytes, selected: cut.selected, name_tests: None })
-    } else {
-        let cut = choughbell::cut_of(&list.bytes, &document.bytes);
-        cut.map(|cut| Made { cut: cut.bytes, selected: cut.selected, name_tests: Some(cut.name_tests) })
-    };
-    match made {
+    match progress::during("cutting", || make(task, &list.bytes, &document.bytes)) {
         Ok(made) => written(task, &made, &list, &document).map(|()| 0),
         Err(refusal) => refused(task, refusal, &list, &document),
+    }
+}
+
+fn make(task: &Task, list: &[u8], document: &[u8]) -> Result<Made, Refusal> {
+    if task.plain {
+        choughbell::plain_of(list, document).map(|cut| Made { cut: cut.bytes, selected: cut.selected, name_tests: None })
+    } else {
+        let cut = choughbell::cut_of(list, document);
+        cut.map(|cut| Made { cut: cut.bytes, selected: cut.selected, name_tests: Some(cut.name_tests) })
     }
 }
 
@@ -61,7 +65,7 @@ fn written(task: &Task, made: &Made, list: &Read, document: &Read) -> Result<(),
     if task.quiet || (task.json && !task.each) {
         return numbers(task, || object(made).line());
     }
-    let each = each::each(&list.bytes, &document.bytes, &made.cut);
+    let each = progress::during("counting", || each::each(&list.bytes, &document.bytes, &made.cut));
     if task.json {
         let mut object = object(made);
         object.numbers("each", &each);
@@ -82,12 +86,15 @@ fn written(task: &Task, made: &Made, list: &Read, document: &Read) -> Result<(),
     Ok(())
 }
 
-/// The numbers, and the second and the third again by what they are.
+/// The numbers, and the later ones again by what they are.
 fn object(made: &Made) -> Object {
     let length = made.cut.len() as u64;
     let mut object = report::numbers(0, length, made.selected, made.name_tests, "written");
     object.number("length", length);
     object.number("selected", made.selected);
+    if let Some(name_tests) = made.name_tests {
+        object.number("tests", name_tests);
+    }
     object
 }
 

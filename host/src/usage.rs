@@ -10,6 +10,7 @@ use crate::mend::Mending;
 use crate::output::Sink;
 use crate::packing::Packing;
 use crate::paths::Paths;
+use crate::show::Showing;
 use crate::shown;
 use crate::table::Table;
 use crate::task::Task;
@@ -28,6 +29,7 @@ pub enum Request {
     Covers(Asked),
     Mend(Mending),
     Rows(Table),
+    Show(Showing),
     /// The text on a number, or the list of all.
     Explain(String),
     Help,
@@ -65,15 +67,16 @@ const OPTIONS: [Known; 14] = [
 
 /// The commands, what reads the rest of their words, and which options they take besides `--help` and `--version`.
 type Reading = fn(&str, Given) -> Result<Request, String>;
-const COMMANDS: [(&str, Reading, &[&str]); 9] = [
+const COMMANDS: [(&str, Reading, &[&str]); 10] = [
     ("cut", cut, &["--list", "--path", "--packed", "--output", "--count", "--each", "--plain", "--quiet", "--json"]),
     ("rows", rows, &["--list", "--path", "--packed", "--output", "--quiet", "--json"]),
     ("check", check, &["--quiet", "--json"]),
-    ("batch", batch, &["--list", "--path", "--packed", "--output", "--folder", "--quiet"]),
+    ("batch", batch, &["--list", "--path", "--packed", "--output", "--folder", "--quiet", "--json"]),
     ("pack", packing, &["--output", "--quiet", "--json"]),
     ("unpack", packing, &["--output", "--quiet", "--json"]),
     ("covers", covers, &["--narrow", "--wide", "--packed", "--quiet", "--json"]),
     ("mend", mend, &["--output", "--quiet", "--json"]),
+    ("show", show, &["--list", "--path", "--packed", "--output", "--quiet"]),
     ("explain", explain, &[]),
 ];
 
@@ -89,7 +92,7 @@ struct Given {
 
 /// What the words ask for. The first is the command.
 pub fn read(mut words: impl Iterator<Item = OsString>) -> Result<Request, String> {
-    const WHICH: &str = "it is cut, rows, check, batch, pack, unpack, covers, mend or explain";
+    const WHICH: &str = "it is cut, rows, check, batch, pack, unpack, covers, mend, show or explain";
     let first = words.next().ok_or(format!("there is no command: {WHICH}"))?;
     match first.as_bytes() {
         b"help" | b"--help" | b"-h" => return Ok(Request::Help),
@@ -220,17 +223,28 @@ impl Given {
     }
 }
 
-const BOTH: &str = "the list and the document can't both come from the standard input";
+/// The paths and the document of a command that takes one of each. `none` says what an empty list does.
+fn one_of_each(command: &str, given: &Given, none: &str) -> Result<(Paths, Source), String> {
+    let paths = given.paths(&format!("{command} wants a list: -l LIST, or -e PATH{none}"))?;
+    let document = given.only(command, "document")?;
+    if paths.list == Some(Source::Standard) && document == Source::Standard {
+        return Err("the list and the document can't both come from the standard input".to_string());
+    }
+    Ok((paths, document))
+}
+
+const ROOT: &str = "; by -l /dev/null the root alone is kept";
+
+fn show(command: &str, given: Given) -> Result<Request, String> {
+    let (paths, document) = one_of_each(command, &given, ROOT)?;
+    Ok(Request::Show(Showing { paths, document, output: given.output(), quiet: given.has("--quiet") }))
+}
 
 fn cut(command: &str, given: Given) -> Result<Request, String> {
     if given.again().next().is_some() {
         return clients(command, given);
     }
-    let paths = given.paths("cut wants a list: -l LIST, or -e PATH; by -l /dev/null the root alone is kept")?;
-    let document = given.only(command, "document")?;
-    if paths.list == Some(Source::Standard) && document == Source::Standard {
-        return Err(BOTH.to_string());
-    }
+    let (paths, document) = one_of_each(command, &given, ROOT)?;
     let (count, each) = (given.has("--count"), given.has("--each"));
     if (count || each) && given.has("--output") {
         return Err(format!("{} writes no cut, so it takes no --output", if count { "--count" } else { "--each" }));
@@ -241,11 +255,7 @@ fn cut(command: &str, given: Given) -> Result<Request, String> {
 }
 
 fn rows(command: &str, given: Given) -> Result<Request, String> {
-    let paths = given.paths("rows wants a list: -l LIST, or -e PATH")?;
-    let document = given.only(command, "document")?;
-    if paths.list == Some(Source::Standard) && document == Source::Standard {
-        return Err(BOTH.to_string());
-    }
+    let (paths, document) = one_of_each(command, &given, "")?;
     let (output, quiet, json) = (given.output(), given.has("--quiet"), given.has("--json"));
     Ok(Request::Rows(Table { paths, document, output, quiet, json }))
 }
@@ -316,7 +326,7 @@ fn batch(_: &str, given: Given) -> Result<Request, String> {
         }
         (None, _) => return Err("batch takes one batch, or with -d FOLDER documents".to_string()),
     };
-    Ok(Request::Batch(Post { paths, way, quiet: given.has("--quiet") }))
+    Ok(Request::Batch(Post { paths, way, quiet: given.has("--quiet"), json: given.has("--json") }))
 }
 
 /// Documents with the names of their cuts, of which no two are the same.

@@ -75,6 +75,15 @@ fn the_plain_engine_is_asked_for() {
 }
 
 #[test]
+fn show_takes_what_cuts_a_document() {
+    let paths = Paths { list: Some(file("a")), packed: false, more: Vec::new() };
+    let showing = Showing { paths, document: file("m"), output: Sink::File(PathBuf::from("p")), quiet: true };
+    assert_eq!(asked(&["show", "-qla", "m", "-op"]), Ok(Request::Show(showing)));
+    assert_eq!(asked(&["show", "-la", "--count"]), Err("show takes no --count".to_string()));
+    assert_eq!(asked(&["show", "m"]).unwrap_err(), asked(&["cut", "m"]).unwrap_err().replace("cut wants", "show wants"));
+}
+
+#[test]
 fn mend_takes_a_document_and_an_output() {
     let mend = |document, output| Ok(Request::Mend(Mending { document, output, quiet: false, json: false }));
     assert_eq!(asked(&["mend"]), mend(Source::Standard, Sink::Standard));
@@ -85,7 +94,7 @@ fn mend_takes_a_document_and_an_output() {
 #[test]
 fn wrong_words_are_told() {
     let wrong = |words: &[&str]| asked(words).unwrap_err();
-    assert_eq!(wrong(&[]), "there is no command: it is cut, rows, check, batch, pack, unpack, covers, mend or explain");
+    assert_eq!(wrong(&[]), "there is no command: it is cut, rows, check, batch, pack, unpack, covers, mend, show or explain");
     assert_eq!(wrong(&["cut", "m"]), "cut wants a list: -l LIST, or -e PATH; by -l /dev/null the root alone is kept");
     assert_eq!(wrong(&["cut", "-l"]), "--list wants a file's name");
     assert_eq!(wrong(&["batch", "-la", "-lb"]), "--list is given twice");
@@ -112,6 +121,7 @@ fn batch_goes_two_ways() {
     let documents = vec![(PathBuf::from("x/a.xml"), OsString::from("a.xml")), (PathBuf::from("b.xml"), OsString::from("b.xml"))];
     assert_eq!(way(&["batch", "-la", "-d", "cuts", "x/a.xml", "b.xml"]), Way::Documents(documents, PathBuf::from("cuts")));
     assert_eq!(way(&["batch", "-la"]), Way::Batch(Source::Standard, Sink::Standard));
+    assert!(matches!(asked(&["batch", "-la", "--json"]), Ok(Request::Batch(Post { json: true, quiet: false, .. }))));
     assert_eq!(way(&["batch", "-la", "n.post", "-oo"]), Way::Batch(file("n.post"), Sink::File(PathBuf::from("o"))));
     let wrong = |words: &[&str]| asked(words).unwrap_err();
     assert_eq!(wrong(&["batch", "a.xml"]), "batch wants a list: -l LIST, or -e PATH");

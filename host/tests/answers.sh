@@ -122,7 +122,8 @@ malformed 'no slash' 'v' 'a line begins with / or //' '^'
 malformed 'three slashes' '/a///b' 'at most two slashes stand before a name' '    ^'
 malformed 'no space before #' '/a#' 'one space and # mark a line, at its end' '  ^'
 malformed 'two spaces before #' '/a  #' 'one space and # mark a line, at its end' '  ^'
-malformed 'blank after #' '/a # ' 'one space and # mark a line, at its end' '  ^'
+malformed 'blank after #' '/a # ' '# ends the line, and a list has no comments' '    ^'
+malformed 'a comment after #' '//v # lakes' '# ends the line, and a list has no comments' '     ^'
 malformed 'digit' '/a/1b' "a name can't begin with 1" '   ^'
 malformed 'attribute' '/a/@id' \
     'a path selects elements, no attributes or functions; a test is [@name="value"], behind the last step' '   ^'
@@ -159,6 +160,19 @@ try 'a tab in a value' 2 cut -l tab.lst b.xml
 printf '/a\r\n' > crlf.lst
 says 'crlf.lst:1: 2: malformed line: "/a\r": a line ends in a line feed alone, without a carriage return' '    /a\r' '      ^'
 try 'carriage return' 2 cut -l crlf.lst b.xml
+malformed 'wide characters' '/日本 b' "$step" '     ^'
+malformed 'marks over letters' "$(printf '/\327\251\326\270\327\201 b')" "$step" '  ^'
+printf '/a #\r/b\r' > cr.lst
+says 'cr.lst:1: 2: malformed line: "/a #\r/b\r": a line ends in a line feed; a carriage return stands in its place' '    /a #\r/b\r' \
+    '        ^'
+try 'carriage returns alone' 2 cut -l cr.lst b.xml
+printf '\377\376/\000a\000\n\000' > utf16.lst
+says 'utf16.lst:1: 2: malformed line: "\xFF\xFE/\u{0}a\u{0}": this seems to be UTF-16; a list is in UTF-8' \
+    '    \xFF\xFE/\u{0}a\u{0}' '    ^'
+try 'UTF-16' 2 cut -l utf16.lst b.xml
+printf '/\000a\000\n\000' > utf16.lst
+says 'utf16.lst:1: 2: malformed line: "/\u{0}a\u{0}": this seems to be UTF-16; a list is in UTF-8' '    /\u{0}a\u{0}' '    ^'
+try 'UTF-16 without a mark' 2 cut -l utf16.lst b.xml
 printf '/a\n/b' > open.lst
 says 'open.lst:2: 2: malformed line: "/b": a line ends in a line feed' '    /b' '      ^'
 try 'no line feed' 2 cut -l open.lst b.xml

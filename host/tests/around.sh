@@ -142,9 +142,81 @@ program=$room/started
 prints '<g><p><v></v></p></g>'
 try 'the installed command, by a link' 0 cut -l v.lst b.xml
 run=$run_before program=$program_before
+
+# The crate for Rust, elsewhere than in the repository, finds the library as it is installed, by its name there.
+if [ -z "$run" ] && command -v cargo > "$notes/found"; then
+    ran=$((ran + 1))
+    mkdir -p crate/uses/src && cp -r "$root/host/src" "$root/host/Cargo.toml" "$root/host/build.rs" crate/
+    printf '[package]\nname = "uses"\nversion = "0.1.0"\nedition = "2021"\n[dependencies]\nchoughbell = { path = ".." }\n[workspace]\n' \
+        > crate/uses/Cargo.toml
+    echo 'fn main() { println!("{:?}", choughbell::cut_of(b"//v\n", b"<g><v/></g>").map(|cut| cut.selected)); }' > crate/uses/src/main.rs
+    got=$(cd crate/uses && CHOUGHBELL_LIBRARY=$room/stage/opt/chough/lib cargo run -q --offline 2>&1) || :
+    [ "$got" = 'Ok(1)' ] || fault 'the crate and the installed library' "$(echo "$got" | tail -n 3 | tr '\n' '~')"
+    ran=$((ran + 1))
+    got=$(cd crate/uses && CHOUGHBELL_LIBRARY=$room/nowhere cargo run -q --offline 2>&1) || :
+    echo "$got" | grep -q "missing: the library, as one of $room/nowhere/libexported.a, " || fault 'no library' "$(echo "$got" | tail -n 3)"
+    rm -rf crate
+fi
 put uninstall DESTDIR="$room/stage" PREFIX=/opt/chough
 left=$(find stage -type f)
 [ -z "$left" ] || fault 'make uninstall' "left $left"
+
+
+# What is newer than the command makes it be built again: the crate's own files too, and the proofs.
+ran=$((ran + 2))
+touch -d 1970-01-02 built
+put changed BUILT="$room/built"
+for file in host/Cargo.toml host/build.rs host/src/main.rs host/src/page.css host/native.c crates/cutter/src/lib.rt; do
+    grep -qx "$file" "$notes/printed" || fault 'make changed' "no $file"
+done
+touch -d 2100-01-01 built
+put changed BUILT="$room/built"
+[ ! -s "$notes/printed" ] || fault 'make changed' "$(cat "$notes/printed")"
+
+# While the library is proved there is a line for each crate that is; a proof that fails shows all that was said. Here by a stand-in.
+cat > prover <<'END'
+#!/bin/sh
+printf 'rt: %s\n' 'xml proved (unchanged since it was last proved)' 'utf8 proved (19 s)' 'points proved (2 s)'
+echo 'fn points::is: proved'
+[ "${1##*/}" != fails ] || exit 1
+echo > "$1/libexported.a"
+END
+chmod 755 prover
+ran=$((ran + 2))
+put library NATIVE="$room/proving" MAKE_LIBRARY="$room/prover"
+[ "$(tr '\n' ' ' < "$notes/printed")" = 'utf8 proved (19 s) points proved (2 s) ' ] || fault 'lines while proving' "$(cat "$notes/printed")"
+! MAKEFLAGS='' make -s -C "$root" library NATIVE="$room/fails" MAKE_LIBRARY="$room/prover" > "$notes/printed" 2>&1 ||
+    fault 'a proof that fails' 'status'
+grep -q '^fn points::is: proved$' "$notes/printed" || fault 'a proof that fails' "$(cat "$notes/printed")"
+
+# The package: put into a root of its own and taken out again, which leaves nothing there but what dpkg notes.
+if [ -z "$run" ] && command -v dpkg-deb > "$notes/found" && [ "$(id -u)" = 0 ]; then
+    ran=$((ran + 3))
+    put deb DEB="$room/deb"
+    package=$(echo deb/choughbell_*.deb)
+    [ "$package" = "deb/choughbell_0.3.0_$(dpkg --print-architecture).deb" ] || fault 'make deb' "$package"
+    [ "$(ls deb)" = "$(basename "$package")" ] || fault 'make deb' "$(ls deb)"
+    mkdir -p alone/var/lib/dpkg/info alone/var/lib/dpkg/updates alone/var/lib/dpkg/triggers
+    : > alone/var/lib/dpkg/status
+    alone() {
+        dpkg --root="$room/alone" --force-depends --log="$notes/dpkg" "$@" > "$notes/printed" 2>&1 ||
+            fault "dpkg $1" "$(cat "$notes/printed")"
+    }
+    alone -i "$package"
+    alone --verify choughbell
+    [ ! -s "$notes/printed" ] || fault 'dpkg --verify' "$(cat "$notes/printed")"
+    for file in bin/choughbell share/man/man1/choughbell.1.gz include/choughbell.h lib/libchoughbell.a lib/pkgconfig/choughbell.pc \
+        share/bash-completion/completions/choughbell share/zsh/vendor-completions/_choughbell \
+        share/fish/vendor_completions.d/choughbell.fish; do
+        [ -f "alone/usr/$file" ] || fault 'the package' "no $file"
+    done
+    [ "$(alone/usr/bin/choughbell --version)" = 'choughbell 0.3.0' ] || fault 'the package' 'version'
+    alone -r choughbell
+    left=$(find alone -path alone/var -prune -o -type f -print -o -name '*choughbell*' -print)
+    [ -z "$left" ] || fault 'dpkg -r' "left $left"
+else
+    echo 'choughbell: left out: the package, which is tried as root, where dpkg is'
+fi
 
 ran=$((ran + 1))
 if command -v man > /dev/null; then

@@ -76,6 +76,30 @@ refuses 'another version' '\002' 'its version byte is 2, not 1 (offset 0)'
 refuses 'a length cut short' '\001\000\000\000\001<\000\000\000' 'a length has 3 of its 4 bytes (offset 6)'
 refuses 'a length past the end' '\001\000\000\000\002<' 'a length says 2, and 1 bytes are left (offset 1)'
 
+# --json: a line for each document, and one for the whole; trouble with files stays a message.
+written() { echo "{\"number\":0,\"second\":$2,\"meaning\":\"written\",\"file\":\"$1\",\"length\":$2}"; }
+whole() {
+    echo "{\"number\":0,\"second\":$1,\"third\":$2,\"meaning\":\"written\",\"length\":$1,\"selected\":$2,\"documents\":$3,\"cut\":$4}"
+}
+two='{"number":7,"second":7,"third":0,"meaning":"not well-formed","file":"post/two.xml",'
+place='"offset":7,"line":2,"column":4,"there":"</g>","hint":"<v> of line 2 is open"}'
+lines "$(written post/one.xml 21)" "$two$place" "$(written post/three.xml 7)" "$(whole 28 2 4 2)"
+says 'choughbell: post/six.xml: No such file or directory'
+try 'a batch, json' 66 batch --json -l v.lst -d cuts post/one.xml post/six.xml post/two.xml post/three.xml
+end='"offset":3,"line":1,"column":4,"there":"","hint":"<g> of line 1 is open"}'
+open="{\"number\":7,\"second\":3,\"third\":0,\"meaning\":\"not well-formed\",\"file\":\"night.post, document 2\",$end"
+lines "$(written 'night.post, document 1' 21)" "$open" "$(whole 30 1 2 1)"
+try 'a batch file, json' 7 batch --json -l v.lst night.post -o night.cut
+cp "$notes/night" "$notes/prints"
+says "$(written 'night.post, document 1' 21)" "$open" "$(whole 30 1 2 1)"
+try 'a batch file, json beside it' 7 batch --json -l v.lst night.post
+printf '\002' > bad.post
+lines '{"number":11,"second":0,"third":0,"meaning":"not a batch","file":"bad.post","offset":0,"hint":"its version byte is 2, not 1"}'
+try 'no batch, json' 11 batch --json -l v.lst bad.post -o bad.cut
+place='"line":1,"column":1,"there":"v","hint":"a line begins with / or //"}'
+lines "{\"number\":2,\"second\":1,\"third\":0,\"meaning\":\"malformed line\",\"file\":\"bad.lst\",$place"
+try 'a refused list, json' 2 batch --json -l bad.lst -d unmade post/one.xml
+
 wrong 'a batch without a list' 'batch wants a list: -l LIST, or -e PATH' batch post/one.xml
 wrong 'a folder without documents' 'batch with --folder wants documents' batch -l v.lst -d cuts
 wrong 'two documents of one name' 'two documents have the name one.xml' batch -l v.lst -d cuts post/one.xml one.xml

@@ -131,6 +131,7 @@ chmod 666 shut/old.xml
 chmod 444 open/old.xml
 chmod 000 shut.xml
 chmod 555 shut
+in_place="; -o - and the shell's > write into it, and lose what it holds first"
 nobody=
 [ "$(id -u)" != 0 ] || nobody='setpriv --reuid 65534 --regid 65534 --clear-groups'
 # shellcheck disable=SC2086
@@ -145,14 +146,80 @@ if $nobody $run "$program" --version > /dev/null 2>&1; then
     says 'choughbell: shut/new.xml: no temporary file beside it: Permission denied'
     try 'an unwritable folder' 73 cut -l v.lst b.xml -o shut/new.xml
     user=$nobody
-    says 'choughbell: shut/old.xml: no temporary file beside it: Permission denied'
+    says "choughbell: shut/old.xml: no temporary file beside it: Permission denied$in_place"
     try 'a file in an unwritable folder' 73 cut -l v.lst b.xml -o shut/old.xml
     user=$nobody
     says 'choughbell: open/old.xml: Permission denied'
     try 'an unwritable file' 73 cut -l v.lst b.xml -o open/old.xml
     holds 'an unwritable file' open/old.xml old
+    # Another's file that may be written: in a sticky folder it can't be replaced, elsewhere it changes hands, which is told.
+    mkdir -p sticky
+    printf old > sticky/old.xml
+    chmod 666 sticky/old.xml && chmod 1777 sticky
+    if [ "$(id -u)" = 0 ]; then
+        user=$nobody
+        says "choughbell: sticky/old.xml: Operation not permitted: its folder lets nobody replace another's file$in_place"
+        try 'a file in a sticky folder' 73 cut -l v.lst b.xml -o sticky/old.xml
+        holds 'a file in a sticky folder' sticky/old.xml old
+        printf old > open/root.xml
+        chmod 646 open/root.xml
+        user=$nobody
+        says 'choughbell: open/root.xml: its owner, 0, and its group, 0, could not be kept'
+        try 'a file that changes hands' 0 cut -l v.lst b.xml -o open/root.xml
+        # Another group gets the rights that all others had.
+        got=$(stat -c '%u:%g %a' open/root.xml)
+        [ "$got" = '65534:65534 666' ] || fault 'a file that changes hands' "$got"
+        printf old > open/group.xml
+        chown 65534:0 open/group.xml && chmod 640 open/group.xml
+        user=$nobody
+        says 'choughbell: open/group.xml: its group, 0, could not be kept'
+        try 'a file that changes its group' 0 cut -l v.lst b.xml -o open/group.xml
+        got=$(stat -c '%u:%g %a' open/group.xml)
+        [ "$got" = '65534:65534 600' ] || fault 'a file that changes its group' "$got"
+        chown 0:0 open/root.xml && chmod 666 open/root.xml
+        user=$nobody
+        try 'a file that changes hands, quietly' 0 cut -q -l v.lst b.xml -o open/root.xml
+    fi
 else
     echo 'choughbell: left out: files that may not be read, since root may read all and no run as nobody can be started here'
 fi
 chmod 755 shut
 holds 'a file in an unwritable folder' shut/old.xml old
+
+# Root keeps the owner and the group of a file, with its permissions.
+if [ "$(id -u)" = 0 ]; then
+    printf old > owned.xml
+    chown 65534:65533 owned.xml && chmod 4751 owned.xml
+    try "another's file" 0 cut -l v.lst b.xml -o owned.xml
+    holds "another's file" owned.xml '<g><p><v></v></p></g>'
+    [ "$(stat -c '%u:%g %a' owned.xml)" = '65534:65533 4751' ] || fault "another's file" "$(stat -c '%u:%g %a' owned.xml)"
+fi
+# A file that is mounted by itself, where that can be done.
+printf old > mounted.xml
+printf old > under.xml
+if mount --bind under.xml mounted.xml 2> "$notes/mount"; then
+    says "choughbell: mounted.xml: Device or resource busy: it is mounted by itself and can't be replaced$in_place"
+    try 'a file that is mounted' 73 cut -l v.lst b.xml -o mounted.xml
+    holds 'a file that is mounted' mounted.xml old
+    umount mounted.xml
+fi
+
+# On a terminal a long run says that it goes on, on a line that it takes back, and nothing of that with --quiet or where there is none.
+if [ -z "$run" ] && command -v script > "$notes/found"; then
+    ran=$((ran + 3))
+    repeat 32 "//*$(repeat 15 /self::*)[@k=\"x\"]
+" > slow.lst
+    { printf '<g>' && yes '<v k="y"/>' | head -n 200000 | tr -d '\n' && printf '</g>'; } > slow.xml
+    seen() {
+        script -qec "'$program' cut --plain $1 -l slow.lst slow.xml -o slow.cut $2" "$notes/typed" < /dev/null > "$notes/printed" || :
+    }
+    # More than this is said in the end: the lines that select nothing.
+    seen '' ''
+    tr '\r' '\n' < "$notes/printed" | grep -q '^cutting, 1 s' || fault 'a long run on a terminal' "$(head -c 300 "$notes/printed")"
+    grep -q "$(printf '\r\033\\[K')" "$notes/printed" || fault 'a long run on a terminal' 'the line is not taken back'
+    seen -q ''
+    [ ! -s "$notes/printed" ] || fault 'a long run on a terminal, quietly' "$(head -c 300 "$notes/printed")"
+    seen '' '2> slow.said'
+    ! grep -q cutting "$notes/printed" slow.said || fault 'a long run elsewhere' "$(head -c 300 slow.said)"
+    rm -f slow.xml
+fi

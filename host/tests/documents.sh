@@ -34,17 +34,28 @@ refused 'empty' 7 '' '1:1: 7: not well-formed: at the end: there is no root (off
 refused 'no root' 7 '<!-- <g> -->\n' '2:1: 7: not well-formed: at the end: there is no root (offset 13)'
 refused 'a second root' 7 '<g/><h/>' '1:5: 7: not well-formed: "<h/>": the root is closed, and there is only one (offset 4)'
 refused 'text outside' 7 '<g/>\nend\n' \
-    '1:5: 7: not well-formed: "\nend\n": outside the root stand only comments, instructions and white space (offset 4)'
+    '1:5: 7: not well-formed: "\nend\n": outside the root stand only comments, instructions and white space, at 2:1 (offset 4)'
 refused 'a reference' 7 '<g>\303\251 &nbsp; </g>' \
     "1:6: 7: not well-formed: \"&nbsp;\": a reference is &lt; &gt; &amp; &apos; &quot; or a character's number, as &#233; (offset 6)"
 refused 'a sign in text' 7 '<g>1 < 2</g>' '1:6: 7: not well-formed: "< 2</g>": a < that begins no tag is written &lt; (offset 5)'
 refused 'a declaration below' 7 '\n<?xml version="1.0"?><g/>' \
     '2:1: 7: not well-formed: "<?xml version="1.0"?>": the declaration stands at the very front (offset 1)'
-tag='a tag is <, a name, attributes as name="value", none twice, and > or />; a value has no <'
-refused 'an attribute twice' 7 '<g a="1" a="2"/>' "1:1: 7: not well-formed: \"<g a=\"1\" a=\"2\"/>\": $tag (offset 0)"
+# tag NAME DOCUMENT PLACE HINT: a tag at the front, with the place of the fault in it.
+tag() { refused "$1" 7 "$2" "1:1: 7: not well-formed: \"$(echo "${2%%>*}" | sed 's/\n.*//')>\": $4, at $3 (offset 0)"; }
+tag 'an attribute twice' '<g a="1" a="2"/>' 1:10 'the attribute a stands twice'
+tag 'no blank between attributes' '<g a="1"b="2"/>' 1:9 'a blank stands before each attribute'
+tag 'a sign in a value' '<g a="1 & 2"/>' 1:9 'a & that begins no reference is written &amp;'
+tag 'an entity in a value' '<g a="&nbsp;"/>' 1:7 "a reference is &lt; &gt; &amp; &apos; &quot; or a character's number, as &#233;"
+tag 'no quotes' '<g a=1/>' 1:6 'a value stands in quotes'
+refused 'a digit first' 7 '<g><1a/></g>' \
+    "1:4: 7: not well-formed: \"<1a/>\": a name can't begin with 1; a < that begins no tag is written &lt; (offset 3)"
+refused 'a sign in text, alone' 7 '<g>1 & 2</g>' \
+    '1:6: 7: not well-formed: "& 2</g>": a & that begins no reference is written &amp; (offset 5)'
+refused 'two ends three lines below' 7 '<g>one\ntwo\nthree\n four ]]></g>' \
+    '1:4: 7: not well-formed: "one\ntwo\nthree\n four ]]>": text has no ]]>, at 4:7 (offset 3)'
 refused 'after three bytes' 7 '\357\273\277</g>' '1:1: 7: not well-formed: "</g>": no element is open (offset 3)'
 refused 'a long item' 7 "<g>$(repeat 40 a)]]></g>" \
-    "1:4: 7: not well-formed: \"$(repeat 40 a)...\": text has no ]]> (offset 3)"
+    "1:4: 7: not well-formed: \"$(repeat 40 a)...\": text has no ]]>, at 1:44 (offset 3)"
 try 'refused, quiet' 7 check --quiet master.xml
 says 'standard input:1:4: 7: not well-formed: "</v>": <g> of line 1 is open (offset 3)'
 printf '<g></v>' > in.xml
@@ -52,13 +63,15 @@ input=in.xml
 try 'refused on standard input' 7 check -
 
 # 8
-sizes='elements stand at most 64 deep, names have at most 255 bytes, tags at most 32 attributes'
 printf '%s%s' "$(repeat 64 '<g>')" "$(repeat 64 '</g>')" > deep.xml
 try '64 deep' 0 check deep.xml
-refused '65 deep' 8 "$(repeat 64 '<g>')<v/>" "1:193: 8: over a size: \"<v/>\": 65 deep: $sizes (offset 192)"
-refused 'a name of 256 bytes' 8 "<g>\n<$(repeat 256 n)/></g>" "2:1: 8: over a size: \"<$(repeat 39 n)...\": $sizes (offset 4)"
+refused '65 deep' 8 "$(repeat 64 '<g>')<v/>" '1:193: 8: over a size: "<v/>": it is 65 deep; elements stand at most 64 deep (offset 192)'
+refused 'a name of 256 bytes' 8 "<g>\n<$(repeat 256 n)/></g>" \
+    "2:1: 8: over a size: \"<$(repeat 39 n)...\": a name of 256 bytes; names have at most 255, at 2:2 (offset 4)"
 attributes=$(awk 'BEGIN { for (i = 1; i < 34; i++) printf " a%d=\"\"", i }')
-refused '33 attributes' 8 "<g$attributes/>" "1:1: 8: over a size: \"$(echo "<g$attributes" | cut -c 1-40)...\": $sizes (offset 0)"
+refused '33 attributes' 8 "<g$attributes/>" \
+    "1:1: 8: over a size: \"$(echo "<g$attributes" | cut -c 1-40)...\": it has 33 attributes; \
+a tag has at most 32, at 1:$((3 + 9 * 6 + 23 * 7 + 1)) (offset 0)"
 
 # 10
 # encoded NAME DOCUMENT THERE SAID: a declaration at the front that names another encoding.

@@ -32,8 +32,9 @@ try 'a line that selects nothing, by the plain engine' 0 cut --plain -l each.lst
 same 'a line that selects nothing, by the plain engine' each.xml plain-each.xml
 try 'each line, quietly' 0 cut -q --each -l each.lst "$sample"
 length=$(wc -c < each.xml)
-numbers="\"number\":0,\"second\":$length,\"third\":7,\"name_tests\":131,\"meaning\":\"written\",\"length\":$length,\"selected\":7"
-lines "{$numbers,\"each\":[3,2,0,1,1]}"
+numbers="\"number\":0,\"second\":$length,\"third\":7,\"name_tests\":131,\"meaning\":\"written\""
+named="\"length\":$length,\"selected\":7,\"tests\":131"
+lines "{$numbers,$named,\"each\":[3,2,0,1,1]}"
 try 'each line, json' 0 cut --json --each -l each.lst "$sample"
 lines '0 //river' '1 //lake'
 says '-e:1: "//river" selects nothing'

@@ -49,6 +49,11 @@ follow 13
 try 'explain 13' 0 unpack explained/short.bin -o explained/back.lst
 same 'explain 13' explained/short.lst explained/back.lst
 
+# 73
+echo '<g>old</g>' > explained/mounted.xml
+follow 73
+same 'explain 73' explained/whole.xml explained/mounted.xml
+
 # taken NUMBER TEXT: what a conversion makes is taken, and has this text in its element v.
 taken() {
     printf '//v #\n' > explained/v.lst
@@ -82,3 +87,19 @@ if command -v xmllint > "$notes/found" && command -v iconv > "$notes/found"; the
 else
     echo 'choughbell: left out: the conversions that explain 5, 6 and 10 name, since xmllint or iconv is missing'
 fi
+
+# README's first cut and its page, as they stand there.
+ran=$((ran + 2))
+ln -sfn "$root/examples" explained/examples
+# section NAME: the commands of a section of README, run in order. What they say is kept in `followed`.
+section() {
+    sed -n "/^## $1\$/,/^## /s/^    \(printf .*\|choughbell [a-z]* -l .*\)/\1/p" "$root/README.md" > "$notes/commands"
+    [ "$(wc -l < "$notes/commands")" = 2 ] || fault "README: $1" "$(cat "$notes/commands")"
+    (cd explained && PATH=$PWD/bin:$PATH && sh -eu "$notes/commands") > followed 2>&1 || fault "README: $1" "$(tr '\n' '~' < followed)"
+}
+section 'A first cut'
+[ ! -s followed ] || fault 'README: A first cut' "$(cat followed)"
+grep -q '^<gazetteer><country>.*<commune id="c1">.*<lake id="l1" ><name>' explained/first.xml || fault 'README: A first cut' 'another cut'
+section 'A page to look at'
+[ "$(cat followed)" = 'page.lst:4: "//river" selects nothing' ] || fault 'README: A page to look at' "$(cat followed)"
+grep -q '<title>examples/gazetteer.xml by page.lst</title>' explained/page.html || fault 'README: A page to look at' 'no page'

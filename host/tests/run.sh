@@ -67,7 +67,7 @@ holds() {
 repeat() { awk -v n="$1" -v t="$2" 'BEGIN { for (i = 0; i < n; i++) printf "%s", t }'; }
 
 fresh
-for part in answers documents sizes pack files mend each broken words explained scripts plain batch covers clients rows around; do
+for part in answers documents sizes pack files mend each show broken words explained scripts plain batch covers clients rows around; do
     . "$here/$part.sh"
 done
 echo "choughbell: $ran runs, $wrong wrong"

@@ -27,13 +27,13 @@ assert type(o["meaning"]) is str and (o["number"] == 0 or type(o["file"]) is str
 END
 }
 
-kept='{"number":0,"second":21,"third":1,"name_tests":3,"meaning":"written","length":21,"selected":1}'
+kept='{"number":0,"second":21,"third":1,"name_tests":3,"meaning":"written","length":21,"selected":1,"tests":3}'
 json 'numbers only' 0 "$kept" cut -l v.lst b.xml --count --json
 json 'to a file' 0 "$kept" cut -l v.lst b.xml --json -o json.xml
 holds 'json: to a file' json.xml '<g><p><v></v></p></g>'
-json 'the sample' 0 '{"number":0,"second":289,"third":8,"name_tests":113,"meaning":"written","length":289,"selected":8}' \
+json 'the sample' 0 '{"number":0,"second":289,"third":8,"name_tests":113,"meaning":"written","length":289,"selected":8,"tests":113}' \
     cut -l "$root/examples/atlas.lst" "$root/examples/gazetteer.xml" --count --json
-json 'an empty list' 0 '{"number":0,"second":7,"third":0,"name_tests":0,"meaning":"written","length":7,"selected":0}' \
+json 'an empty list' 0 '{"number":0,"second":7,"third":0,"name_tests":0,"meaning":"written","length":7,"selected":0,"tests":0}' \
     cut -l none.lst b.xml --count --json
 json 'check' 0 '{"number":0,"second":0,"third":0,"name_tests":0,"meaning":"sound"}' check --json b.xml
 long='"meaning":"list over 8,192 bytes","file":"long.lst","hint":"it has 8,193"'
@@ -44,7 +44,6 @@ refusal() {
     printf '{"number":%s,"second":%s,"third":0,"name_tests":0,"meaning":"%s","file":"%s",%s,"there":"%s","hint":"%s"}' "$@"
 }
 step='a step is /, //, /self:: or /descendant-or-self::, then * or a name'
-tag='a tag is <, a name, attributes as name=\"value\", none twice, and > or />; a value has no <'
 open='<g> of line 1 is open'
 printf '/a\n/b "\\\n' > quote.lst
 json 'a line' 2 "$(refusal 2 2 'malformed line' quote.lst '"line":2,"column":3' '/b \"\\\\' "$step")" cut -l quote.lst b.xml --count --json
@@ -56,7 +55,8 @@ place='"offset":14,"line":2,"column":5'
 json 'a byte' 5 "$(refusal 5 14 'not a character' quote.xml "$place" '\\xFF' 'FF is not UTF-8')" check --json quote.xml
 printf '<g k="1" k="1"/>' > 'q".xml'
 place='"offset":0,"line":1,"column":1'
-json 'a name with a quote' 7 "$(refusal 7 0 'not well-formed' 'q\".xml' "$place" '<g k=\"1\" k=\"1\"/>' "$tag")" check --json 'q".xml'
+json 'a name with a quote' 7 "$(refusal 7 0 'not well-formed' 'q\".xml' "$place" '<g k=\"1\" k=\"1\"/>' 'the attribute k stands twice' \
+    | sed 's/}$/,"fault_line":1,"fault_column":10}/')" check --json 'q".xml'
 bytes=$(printf 'b\377d')
 cp bad.xml "$bytes"
 place='"offset":3,"line":1,"column":4'
@@ -69,7 +69,7 @@ json 'the end' 7 "$(refusal 7 0 'not well-formed' 'standard input' '"offset":0,"
 
 # Where the cut goes to the standard output, or would go there, the numbers go to the standard error.
 prints '<g><p><v></v></p></g>'
-says '{"number":0,"second":21,"third":1,"name_tests":3,"meaning":"written","length":21,"selected":1}'
+says '{"number":0,"second":21,"third":1,"name_tests":3,"meaning":"written","length":21,"selected":1,"tests":3}'
 try 'json: beside the cut' 0 cut -l v.lst b.xml --json
 says "$(refusal 7 3 'not well-formed' bad.xml "$place" '</v>' "$open")"
 try 'json: beside no cut' 7 cut -l v.lst bad.xml --json

@@ -7,7 +7,7 @@ wrong() {
     shift 2
     try "wrong usage: $name" 64 "$@"
 }
-commands='it is cut, rows, check, batch, pack, unpack, covers, mend or explain'
+commands='it is cut, rows, check, batch, pack, unpack, covers, mend, show or explain'
 wrong 'nothing' "there is no command: $commands"
 wrong 'another command' "there is no command trim: $commands" trim b.xml
 wrong 'an option first' "there is no command --quiet: $commands" --quiet check b.xml
@@ -91,7 +91,7 @@ explains 13 'the input is not the packed form of a sound list;' 6
 explains 20 'under `covers`: both lists are sound,' 3
 explains 64 'wrong usage.' 2
 explains 66 "the list or the document can't be opened, or is a directory," 3
-explains 73 "the output can't be created." 3
+explains 73 "the output can't be created." 7
 explains 74 'reading or writing failed' 2
 
 ran=$((ran + 1))
