@@ -1,22 +1,49 @@
 -- Two results that the contract of `pass` allows are alike: the outcome but for the number of notes; and where it is no fault, every byte
 -- of the buffer, and what the notes stand for, unless some were left out. After a fault nothing is said of the buffer and of the log.
--- Both theorems are over the contract that the toolchain makes of the source.
-use mathlib.Core.Path.{_≡_, sym, _∙_}
+-- First `next_item`, which can't change what it is lent: one item, and one answer whether it may stand there. All theorems are over the
+-- contracts that the toolchain makes of the source.
+use mathlib.Core.Path.{_≡_, sym, ap, _∙_}
 use mathlib.Core.Bool.{Bool, cond, false≢true}
 use mathlib.Core.List.{List}
 use Prim.Native.Nat.{ℕ, _≤_}
 use lib.ListN.{length}
 use lib.Seq.{sets}
 use denote.Ref.{now}
+use Rattle.contracts.specs.One.{OneResult}
+use Rattle.tags.specs.declared.Item.{Item}
+use Rattle.document.specs.Levels.{openedOf}
+use Rattle.document.specs.Place.{placement}
 use Rattle.document.specs.Judge.{scanned}
+use Rattle.document.specs.declared.Placement.{Placement}
 use Rattle.document.specs.declared.judge.Judged.the-variants.{Sound}
 use Rattle.notes.specs.Notes.{Stood, textOf}
 use Rattle.notes.specs.Alike.{Alike}
 use Rattle.trees.specs.Written.{cutOf, countOf, testsOf}
 use Rattle.passes.specs.Passed.{judgedBy, Told, PassedBy}
+use Rattle.passes.specs.declared.Next.{Next}
 use Rattle.passes.specs.declared.Outcome.{Outcome}
 use Rattle.passes.specs.declared.Outcome.the-variants.{Fine, Fault}
+use Rattle.passes.proofs.next_item.Reads as next-item
 use Rattle.passes.proofs.pass.Reads as pass
+
+-- ---- an item
+
+next-same : {i j : Item} {p q : Placement} → i ≡ j → p ≡ q → _≡_ {A = Next} (record { item = i; placed = p }) (record { item = j; placed = q })
+next-same e h = rw (e, h)
+
+-- where the item decides whether it may stand there
+next-one : (place : Item → Placement) {i : Item} {x y : Next} → x .item ≡ i → x .placed ≡ place (x .item) → y .item ≡ i
+    → y .placed ≡ place (y .item) → x ≡ y
+next-one place p q r s = next-same (p ∙ sym r) (q ∙ ap place (p ∙ sym r) ∙ sym s)
+
+-- `next_item`
+pub next-item-one : OneResult next-item.Asked next-item.Learnt
+next-item-one κs a z z′ e e′ x p q =
+    next-one
+    (λ (i : Item). placement (now (a .1 .0)) (a .1 .1 .1 .1 .1 .0) i
+    (openedOf (now (a .1 .0)) (now (a .1 .1 .0)) (now (a .1 .1 .1 .0)) (a .1 .1 .1 .1 .0))) (p .0) (p .1) (q .0) (q .1)
+
+-- ---- a pass
 
 -- what is handed back, but for the number of notes; and that number
 abbrev pub unnoted : Outcome → Outcome
