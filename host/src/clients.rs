@@ -84,10 +84,12 @@ impl Run<'_> {
             let mut object = report::numbers(0, length, cut.selected, Some(cut.name_tests), "written");
             object.number("length", length);
             object.number("selected", cut.selected);
+            object.number("tests", cut.name_tests);
             return self.line(client, object, Object::line);
         }
         if !self.clients.quiet {
-            each::idle(list, &each::each(&list.bytes, &self.document.bytes, &cut.bytes)).iter().for_each(|line| say(line));
+            let each = progress::during("counting", || each::each(&list.bytes, &self.document.bytes, &cut.bytes));
+            each::idle(list, &each).iter().for_each(|line| say(line));
         }
         Ok(())
     }

@@ -26,7 +26,7 @@ pub fn run(table: &Table) -> Result<u8, Trouble> {
         Ok(text) => text,
         Err(refusal) => return refused(table, refusal, &list, &document),
     };
-    match progress::during("writing rows", || choughbell::rows_of(&list.bytes, &document.bytes)) {
+    match progress::during("making the table", || choughbell::rows_of(&list.bytes, &document.bytes)) {
         Ok(rows) => written(table, &rows, &list, &document).map(|()| 0),
         Err(refusal) => refused(table, refusal, &list, &document),
     }
@@ -43,9 +43,12 @@ fn written(table: &Table, rows: &Rows, list: &Read, document: &Read) -> Result<(
         return numbers(table, &object.line());
     }
     if !table.quiet {
-        // Taken by the call before, so never refused.
-        let cut = choughbell::cut_of(&list.bytes, &document.bytes).map_or(Vec::new(), |cut| cut.bytes);
-        each::idle(list, &each::each(&list.bytes, &document.bytes, &cut)).iter().for_each(|line| say(line));
+        let each = progress::during("counting", || {
+            // Taken by the call before, so never refused.
+            let cut = choughbell::cut_of(&list.bytes, &document.bytes).map_or(Vec::new(), |cut| cut.bytes);
+            each::each(&list.bytes, &document.bytes, &cut)
+        });
+        each::idle(list, &each).iter().for_each(|line| say(line));
     }
     Ok(())
 }

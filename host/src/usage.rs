@@ -223,22 +223,20 @@ impl Given {
     }
 }
 
-const BOTH: &str = "the list and the document can't both come from the standard input";
-/// What an empty list does to a cut.
-const ALONE: &str = "; by -l /dev/null the root alone is kept";
-
-/// The paths and the document of a command that cuts one. `empty` says in a message what an empty list does.
-fn cutting(command: &str, given: &Given, empty: &str) -> Result<(Paths, Source), String> {
-    let paths = given.paths(&format!("{command} wants a list: -l LIST, or -e PATH{empty}"))?;
+/// The paths and the document of a command that takes one of each. `none` says what an empty list does.
+fn one_of_each(command: &str, given: &Given, none: &str) -> Result<(Paths, Source), String> {
+    let paths = given.paths(&format!("{command} wants a list: -l LIST, or -e PATH{none}"))?;
     let document = given.only(command, "document")?;
     if paths.list == Some(Source::Standard) && document == Source::Standard {
-        return Err(BOTH.to_string());
+        return Err("the list and the document can't both come from the standard input".to_string());
     }
     Ok((paths, document))
 }
 
+const ROOT: &str = "; by -l /dev/null the root alone is kept";
+
 fn show(command: &str, given: Given) -> Result<Request, String> {
-    let (paths, document) = cutting(command, &given, ALONE)?;
+    let (paths, document) = one_of_each(command, &given, ROOT)?;
     Ok(Request::Show(Showing { paths, document, output: given.output(), quiet: given.has("--quiet") }))
 }
 
@@ -246,7 +244,7 @@ fn cut(command: &str, given: Given) -> Result<Request, String> {
     if given.again().next().is_some() {
         return clients(command, given);
     }
-    let (paths, document) = cutting(command, &given, ALONE)?;
+    let (paths, document) = one_of_each(command, &given, ROOT)?;
     let (count, each) = (given.has("--count"), given.has("--each"));
     if (count || each) && given.has("--output") {
         return Err(format!("{} writes no cut, so it takes no --output", if count { "--count" } else { "--each" }));
@@ -257,7 +255,7 @@ fn cut(command: &str, given: Given) -> Result<Request, String> {
 }
 
 fn rows(command: &str, given: Given) -> Result<Request, String> {
-    let (paths, document) = cutting(command, &given, "")?;
+    let (paths, document) = one_of_each(command, &given, "")?;
     let (output, quiet, json) = (given.output(), given.has("--quiet"), given.has("--json"));
     Ok(Request::Rows(Table { paths, document, output, quiet, json }))
 }

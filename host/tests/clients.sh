@@ -82,7 +82,7 @@ try 'clients: an output that is a folder' 73 cut -l v.lst -o folder -l p.lst -o 
 holds 'clients: beside an output that is a folder' two '<g><p><v/></p></g>'
 
 # JSON: a line for each client, with its output.
-kept='"number":0,"second":21,"third":1,"name_tests":3,"meaning":"written","length":21,"selected":1'
+kept='"number":0,"second":21,"third":1,"name_tests":3,"meaning":"written","length":21,"selected":1,"tests":3'
 refused='"number":2,"second":1,"third":0,"name_tests":0,"meaning":"malformed line"'
 place='"file":"bad.lst","line":1,"column":1,"there":"v","hint":"a line begins with / or //"'
 lines "{$kept,\"output\":\"one\"}" "{$refused,\"output\":\"two\",$place}"
