@@ -99,15 +99,15 @@ x86:
 
 x86-library: x86 library
 	@mkdir -p $(MADE)/x86
-	$(X86_RUSTC) --edition 2021 -O --crate-type rlib --crate-name choughbell -L target/staticlib \
+	$(X86_RUSTC) --edition 2021 -O --crate-type rlib --crate-name choughbell -L $(NATIVE)/x86 \
 	    -o $(MADE)/x86/libchoughbell.rlib host/src/lib.rs
 
 # The command's own tests, by this library.
 X86_ENV = RUSTC=/usr/bin/rustc RUSTFLAGS='-C target-feature=+crt-static -C relocation-model=static' \
-    CARGO_TARGET_X86_64_UNKNOWN_LINUX_GNU_LINKER=x86_64-linux-gnu-gcc CHOUGHBELL_LIBRARY='$(CURDIR)/target/staticlib'
+    CARGO_TARGET_X86_64_UNKNOWN_LINUX_GNU_LINKER=x86_64-linux-gnu-gcc CHOUGHBELL_LIBRARY='$(CURDIR)/$(NATIVE)/x86'
 X86_CARGO_WORDS = $(CARGO_WORDS) --target-dir target/cargo-x86 --target x86_64-unknown-linux-gnu
 x86-host-tests: x86-library
 	@echo 'by the x86-64 library, under the emulator:'
 	$(X86_ENV) /usr/bin/cargo build -q $(X86_CARGO_WORDS)
-	RUN='$(RUN)' CC='$(X86_CC)' LIBRARY=target/staticlib/libexported.a \
+	RUN='$(RUN)' CC='$(X86_CC)' LIBRARY=$(NATIVE)/x86/libexported.a \
 	    host/tests/run.sh target/cargo-x86/x86_64-unknown-linux-gnu/release/choughbell

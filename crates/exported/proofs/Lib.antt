@@ -1,5 +1,5 @@
 -- Laws:
--- the number for each case, and one answer. Then mending, four clients, and rows.
+-- the number for each case, and one answer. Then mending.
 pub mod Numbering
 pub mod Plainly
 pub mod OneAnswer
@@ -7,5 +7,3 @@ pub mod Batching
 pub mod PackingNumbers
 pub mod CoverNumbers
 pub mod Mended
-pub mod FourClients
-pub mod RowNumbers

@@ -17,8 +17,6 @@ pub mod post; // a batch
 pub mod packing; // the packed list
 pub mod covering; // the check of two lists
 pub mod mending; // a document that stops half way
-pub mod clients; // four clients in one call
-pub mod table; // rows for a spreadsheet
 
 // The number, the second and the third.
 #[repr(C)]
@@ -29,7 +27,7 @@ pub struct Numbers {
 }
 
 // A number with a second one, and no third.
-fn refusal(number: u64, second: usize) -> Numbers
+pub fn refusal(number: u64, second: usize) -> Numbers
     ensures { λ r. ⌜ r ≡ refusalOf number second ⌝ }
 {
     Numbers {

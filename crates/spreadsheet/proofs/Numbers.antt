@@ -5,9 +5,9 @@ use borrow.Author.Needs.{needs}
 use denote.Ref.{now}
 use Rattle.contracts.specs.One.{OneOutcome}
 use Rattle.sheet.specs.declared.Answer.{Answer}
-use Rattle.exported.specs.Rows.{rowsNumbers}
+use Rattle.spreadsheet.specs.Numbers.{rowsNumbers}
 use Rattle.exported.specs.declared.Numbers.{Numbers}
-use Rattle.exported.proofs.table.choughbell_rows.Reads as rows
+use Rattle.spreadsheet.proofs.choughbell_rows.Reads as rows
 
 pub rows-case : {a b : Answer} {r : Numbers} → a ≡ b → r ≡ rowsNumbers b → r ≡ rowsNumbers a
 rows-case h q = q ∙ sym (ap rowsNumbers h)

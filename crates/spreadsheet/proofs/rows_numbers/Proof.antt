@@ -1,8 +1,8 @@
 -- `rows_numbers` meets its contract: each case of the answer gives its numbers.
--- proofs/RowNumbers.antt has the law.
-use Rattle.exported.proofs.RowNumbers.{rowing}
-use Rattle.exported.proofs.table.rows_numbers.Statement.{statement}
-use Rattle.exported.proofs.table.rows_numbers.Tie as tie
+-- proofs/Numbers.antt has the law.
+use Rattle.spreadsheet.proofs.Numbers.{rowing}
+use Rattle.spreadsheet.proofs.rows_numbers.Statement.{statement}
+use Rattle.spreadsheet.proofs.rows_numbers.Tie as tie
 
 enum-known-a : tie.Need-enum-known-a
 enum-known-a c = search rowing

@@ -1,9 +1,9 @@
 -- `choughbell_four` meets its contract: the results are the numbers of the library's four answers, and each buffer is as the library
 -- leaves it. There is no loop.
-use Rattle.exported.proofs.FourClients.{results-same}
+use Rattle.clients.proofs.Results.{results-same}
 use borrow.Author.Needs.{needs}
-use Rattle.exported.proofs.clients.choughbell_four.Statement.{statement}
-use Rattle.exported.proofs.clients.choughbell_four.Tie as tie
+use Rattle.clients.proofs.choughbell_four.Statement.{statement}
+use Rattle.clients.proofs.choughbell_four.Tie as tie
 
 four-requires : tie.Need-four-requires
 four-requires c κs = search needs

@@ -8,11 +8,11 @@ use Prim.Native.Nat.{ℕ}
 use denote.Ref.{now}
 use Rattle.contracts.specs.One.{OneOutcome}
 use Rattle.cutter.specs.declared.Answer.{Answer}
 use Rattle.exported.specs.Numbers.{numbersOf}
-use Rattle.exported.specs.Clients.{resultsOf}
+use Rattle.clients.specs.Results.{resultsOf}
 use Rattle.exported.specs.declared.FourNumbers.{FourNumbers}
-use Rattle.exported.proofs.clients.choughbell_four.Reads as four
-use Rattle.exported.proofs.clients.choughbell_four_with.Reads as four-with
+use Rattle.clients.proofs.choughbell_four.Reads as four
+use Rattle.clients.proofs.choughbell_four_with.Reads as four-with
 
 -- the numbers of a client, before those of others
 abbrev pub laid : FourNumbers → List ℕ → List ℕ

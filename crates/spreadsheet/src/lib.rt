@@ -2,9 +2,9 @@
 ghost use mathlib.Core.Path.{_≡_};
 ghost use lib.ListN.{length};
 ghost use Rattle.sheet.specs.Answer.{answerOf, bytesAfter};
-ghost use Rattle.exported.specs.Rows.{rowsNumbers};
-use crate::Numbers;
-use crate::refusal;
+ghost use Rattle.spreadsheet.specs.Numbers.{rowsNumbers};
+use exported::Numbers;
+use exported::refusal;
 use sheet::Answer;
 use sheet::rows;
 

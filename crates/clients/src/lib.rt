@@ -3,8 +3,8 @@
 ghost use mathlib.Core.Path.{_≡_};
 ghost use lib.ListN.{length};
 ghost use Rattle.cutter.specs.Answer.{answerOf, bytesAfter};
-ghost use Rattle.exported.specs.Clients.{resultsOf};
-use crate::numbers_of;
+ghost use Rattle.clients.specs.Results.{resultsOf};
+use exported::numbers_of;
 use four::Answers;
 
 // The numbers of four answers.

@@ -2,9 +2,9 @@
 -- There is no loop.
 use mathlib.Core.Path.{ap, _∙_}
 use borrow.Author.Needs.{needs}
-use Rattle.exported.specs.Rows.{rowsNumbers}
-use Rattle.exported.proofs.table.choughbell_rows.Statement.{statement}
-use Rattle.exported.proofs.table.choughbell_rows.Tie as tie
+use Rattle.spreadsheet.specs.Numbers.{rowsNumbers}
+use Rattle.spreadsheet.proofs.choughbell_rows.Statement.{statement}
+use Rattle.spreadsheet.proofs.choughbell_rows.Tie as tie
 
 rows-requires : tie.Need-rows-requires
 rows-requires c κs = search needs

@@ -1,9 +1,9 @@
 -- `results_of` meets its contract: the numbers of each answer, one behind the other.
 -- There is no loop.
-use Rattle.exported.proofs.FourClients.{laid-same}
+use Rattle.clients.proofs.Results.{laid-same}
 use borrow.Author.Needs.{needs}
-use Rattle.exported.proofs.clients.results_of.Statement.{statement}
-use Rattle.exported.proofs.clients.results_of.Tie as tie
+use Rattle.clients.proofs.results_of.Statement.{statement}
+use Rattle.clients.proofs.results_of.Tie as tie
 
 numbers-of-requires : tie.Need-numbers-of-requires
 numbers-of-requires c κs = search needs

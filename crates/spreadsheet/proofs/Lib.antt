@@ -1,0 +1,2 @@
+-- The number for each case of an answer. And that a call has one result.
+pub mod Numbers
