@@ -1,5 +1,5 @@
--- What is written of an element. The crate output has these laws for steps that also make notes; a log without room, in which the first
--- note is left out, says nothing, so they are cited with it. In order: such a log; one law for each way out; the ways as the code has them.
+-- What is written of an element, as the code has it: one law for each way out. Those of the start tags that waited are in the crate output
+-- for text that is also noted; a log without room, in which the first note is left out, says nothing, so they are cited with it.
 use mathlib.Core.Path.{_≡_, refl, sym, ap, _∙_}
 use mathlib.Core.Bool.{Bool, true, false, cond, true≢false, _||_}
 use mathlib.Core.List.{List, [], _∷_}
@@ -18,18 +18,18 @@ use Rattle.notes.proofs.Replaying.{part-size}
 use Rattle.trees.specs.Cut.{one}
 use Rattle.trees.specs.Grown.{part}
 use Rattle.trees.specs.Engine.{Engine, chain, onStart, onFinish, onAside}
-use Rattle.output.specs.Levels.{nameAt, span, Placed, Inked, Moved as MovedNoted}
+use Rattle.output.specs.Levels.{nameAt, span, Placed, Inked}
 use Rattle.output.proofs.Inking.{part-long}
 use Rattle.output.proofs.Chains.{Chaining, chain-start, chain-level, chain-fits, chain-inside, chain-room, chain-step}
 use Rattle.output.proofs.Chains.{chain-whole, chain-far, name-part}
-use Rattle.output.proofs.Steps.{aside-kept, aside-dropped, end-level, end-kept, end-waits}
-use Rattle.output.proofs.Steps.{start-kept, start-marked, start-selected, start-root, start-waits}
 use Rattle.writer.proofs.Laying.{wrote-more}
 use Rattle.descent.specs.Lines.{verdictBy}
 use Rattle.descent.specs.Ink.{Stands, Moved, Ready, Reached, isMarked}
 use Rattle.descent.specs.declared.select.Verdict.{Verdict as Said}
 use Rattle.descent.specs.declared.select.Verdict.the-variants as said
 use Rattle.descent.specs.declared.ink.Run.{Run}
+use Rattle.descent.proofs.Steps.{aside-kept, aside-dropped, end-level, end-kept, end-waits}
+use Rattle.descent.proofs.Steps.{start-kept, start-marked, start-selected, start-root, start-waits}
 
 -- ---- a log without room
 
@@ -39,39 +39,6 @@ noted-nothing =
 
 pub inked : {d o s o′ : List ℕ} {len r : ℕ} → Wrote o len s r o′ → Inked d o [] len 1 s r 1 o′ []
 inked w = record { wrote = w; noted = noted-nothing }
-
-kept-same : (a b : Bool) → _≡_ {A = ℕ} (cond a 1 0) (cond b 1 0) → a ≡ b
-kept-same true true e = refl
-kept-same true false e = absurd (omega arith)
-kept-same false true e = absurd (omega arith)
-kept-same false false e = refl
-
-module _ {d starts lens o o′ : List ℕ} {level reached : ℕ} {kept : Bool} {len count : ℕ} {f : Engine → Engine}
-    {level′ reached′ : ℕ} {kept′ : Bool} {len′ count′ : ℕ} where
-  -- a step in the words of the crate output is one here
-  plainly : MovedNoted d starts lens level reached (cond kept 1 0) len count 1 o [] f 1 level′ reached′ (cond kept′ 1 0) len′ count′ 1 o′ []
-      → Moved d starts lens level reached kept len count o f level′ reached′ kept′ len′ count′ o′
-  plainly m = record { moves = go; order = m .order; far = omega (arith, m .far); few = omega (arith, m .few); same = m .same }
-    where
-      go : (o₀ : List ℕ) (e : Engine) → Stands d starts lens o₀ level reached kept len count o e
-          → Stands d starts lens o₀ level′ reached′ kept′ len′ count′ o′ (f e)
-      go o₀ e t =
-          let r = m .moves o₀ e
-          (record {
-            kept-is = ap (λ (b : Bool). cond b 1 0) (t .kept-is);
-            pend-is = t .pend-is;
-            done-is = t .done-is;
-            num-is = t .num-is;
-            text = t .text;
-            notes = record { text = λ h. absurd (omega arith); inside = λ h. absurd (omega arith) };
-          }) in
-          record {
-            kept-is = kept-same _ _ (r .kept-is);
-            pend-is = r .pend-is;
-            done-is = r .done-is;
-            num-is = r .num-is;
-            text = r .text;
-          }
 
 -- ---- `raw`
 
@@ -119,11 +86,11 @@ pub ruleset chained = (
 module _ {d starts lens o : List ℕ} {level reached : ℕ} {kept : Bool} {len count : ℕ} where
   pub aside-stays : {o′ raw : List ℕ} {r : ℕ} → kept ≡ true → reached ≤ level → Wrote o len raw r o′ → length raw ≤ 16777216
       → Moved d starts lens level reached kept len count o (onAside raw) level reached kept r count o′
-  aside-stays e h w b = rw e (plainly (aside-kept h (λ z. omega arith) (inked w) b))
+  aside-stays e h w b = rw e (aside-kept h refl w b)
 
   pub aside-goes : {raw : List ℕ} → kept ≡ false → reached ≤ level
       → Moved d starts lens level reached kept len count o (onAside raw) level reached kept len count o
-  aside-goes {raw} e h = rw e (plainly (aside-dropped h refl raw))
+  aside-goes {raw} e h = rw e (aside-dropped h refl raw)
 
 module _ {d : List ℕ} {run : Run} (ready : Ready d run) where
   pub ink-near : run .len < 288230376151711744
@@ -172,29 +139,28 @@ module _ {d starts lens : List ℕ} (level : ℕ) (p : Placed d starts lens (lev
         → Finished d starts lens level reached kept len count o raw reached r o′
     finish-kept {raw} {o′} {r} e h w b =
         let z : level + 1 - 1 ≡ level = omega arith in
-        let m : MovedNoted d starts lens (level + 1) reached 1 len count 1 o [] (onFinish raw) 1 (level + 1 - 1) reached
-        (cond (ltb (reached + 1) (level + 1)) 1 0) r count 1 o′ [] = end-kept (λ q. omega arith) (h e) refl (inked w) b in
-        rw e (plainly (rw z at m))
+        let m : Moved d starts lens (level + 1) reached true len count o (onFinish raw) (level + 1 - 1) reached
+        (ltb (reached + 1) (level + 1)) r count o′ = end-kept refl (h e) refl w b in
+        rw e (rw z at m)
 
     pub finish-level : {raw o′ : List ℕ} {r : ℕ} → kept ≡ false → reached ≤ level + 1 → level < reached → length d ≤ 16777216
         → Wrote o len (endTag (lent d starts lens level)) r o′
         → Finished d starts lens level reached kept len count o raw level r o′
     finish-level {raw} {o′} {r} e h l small w =
         let z : level + 1 - 1 ≡ level = omega arith in
-        let w′ : Inked d o [] len 1 (endTag (nameAt d starts lens (level + 1 - 1))) r 1 o′ [] =
-        rw (z, ← lent-is d starts lens level) (inked w) in
+        let w′ : Wrote o len (endTag (nameAt d starts lens (level + 1 - 1))) r o′ = rw (z, ← lent-is d starts lens level) w in
         let b : length (nameAt d starts lens (level + 1 - 1)) ≤ 16777216 = rw z (own-small small) in
-        let m : MovedNoted d starts lens (level + 1) reached 0 len count 1 o [] (onFinish raw) 1 (level + 1 - 1) (level + 1 - 1) 0 r count 1
-        o′ [] = end-level h (omega arith) (λ y. omega arith) w′ b in
-        rw e (plainly (rw z at m))
+        let m : Moved d starts lens (level + 1) reached false len count o (onFinish raw) (level + 1 - 1) (level + 1 - 1) false r count o′ =
+        end-level h (omega arith) (λ y. omega arith) w′ b in
+        rw e (rw z at m)
 
     pub finish-waits : {raw : List ℕ} → kept ≡ false → reached ≤ level
         → Finished d starts lens level reached kept len count o raw reached len o
     finish-waits {raw} e h =
         let z : level + 1 - 1 ≡ level = omega arith in
-        let m : MovedNoted d starts lens (level + 1) reached 0 len count 1 o [] (onFinish raw) 1 (level + 1 - 1) reached 0 len count 1 o
-        [] = end-waits refl (omega arith) in
-        rw e (plainly (rw z at m))
+        let m : Moved d starts lens (level + 1) reached false len count o (onFinish raw) (level + 1 - 1) reached false len count o =
+        end-waits refl (omega arith) in
+        rw e (rw z at m)
 
 pub stays-out : {kept : Bool} {a b : ℕ} → kept ≡ false → kept ≡ true → a ≡ b
 stays-out e q = absurd (true≢false (sym q ∙ e))
@@ -245,27 +211,27 @@ Started d starts lens level reached kept len count o v head raw reached′ r cou
 module _ {d starts lens o : List ℕ} {level reached : ℕ} {kept : Bool} {len count : ℕ} (h : reached ≤ level) (v : Said) where
   pub tag-kept : {head raw o′ : List ℕ} {r n : ℕ} → kept ≡ true → Wrote o len raw r o′ → length raw ≤ 16777216
       → (n ≡ one (verdictBy v)) × (n ≤ 1) → Started d starts lens level reached kept len count o v head raw reached r (count + n) o′
-  tag-kept e w b en = rw e (plainly (start-kept h (λ z. omega arith) (inked w) b (en .0) (en .1)))
+  tag-kept e w b en = rw e (start-kept h refl w b (en .0) (en .1))
 
   pub tag-marked : {head raw o₁ o′ : List ℕ} {a r : ℕ} → kept ≡ false → v ≡ said.Marked
       → Wrote o len (chain (span (nameAt d starts lens) reached (level - reached))) a o₁ → a ≤ len + 1073741952
       → Wrote o₁ a raw r o′ → length raw ≤ 16777216 → Started d starts lens level reached kept len count o v head raw level r (count + 1) o′
-  tag-marked e q u f w b = rw (e, q) (plainly (start-marked h refl refl (inked u) f (inked w) b))
+  tag-marked e q u f w b = rw (e, q) (start-marked h refl refl u f w b)
 
   pub tag-selected : {head raw o₁ o₂ o′ : List ℕ} {a b r : ℕ} → kept ≡ false → v ≡ said.Selected
       → Wrote o len (chain (span (nameAt d starts lens) reached (level - reached))) a o₁ → a ≤ len + 1073741952
       → Wrote o₁ a head b o₂ → Wrote o₂ b (62 ∷ []) r o′ → length head ≤ 16777216
       → Started d starts lens level reached kept len count o v head raw (level + 1) r (count + 1) o′
-  tag-selected e q u f w x b = rw (e, q) (plainly (start-selected h refl refl (inked u) f (inked (wrote-more w x)) b))
+  tag-selected e q u f w x b = rw (e, q) (start-selected h refl refl u f (wrote-more w x) b)
 
   pub tag-waits : {head raw : List ℕ} → kept ≡ false → v ≡ said.Unselected → (level ≡ 0 → ⊥)
       → Started d starts lens level reached kept len count o v head raw reached len count o
-  tag-waits e q z = rw (e, q) (plainly (start-waits h refl refl z))
+  tag-waits e q z = rw (e, q) (start-waits h refl refl z)
 
   pub tag-root : {head raw o′ : List ℕ} {r : ℕ} → kept ≡ false → v ≡ said.Unselected → level ≡ 0 → Placed d starts lens (level + 1)
       → length d ≤ 16777216 → Wrote o len (chain (span (nameAt d starts lens) 0 (1 - 0))) r o′
       → Started d starts lens level reached kept len count o v head raw 1 r count o′
-  tag-root e q z p small w = rw (e, q) (plainly (start-root h refl refl z (inked (rw (sym z) at w)) (own-small level p small)))
+  tag-root e q z p small w = rw (e, q) (start-root h refl refl z (rw (sym z) at w) (own-small level p small))
 
 -- the level opened in the output
 module _ {kept : Bool} (v : Said) (level before : ℕ) where

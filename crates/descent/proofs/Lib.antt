@@ -1,6 +1,7 @@
 -- The laws of the plain engine; last worked examples.
 pub mod Places
 pub mod Lines
+pub mod Steps
 pub mod Inking
 pub mod Going
 pub mod Elements

@@ -48,7 +48,7 @@ kept-one kept at {k = k} {k′} p q (inl z) (inr z′) = z ∙ sym (kept-none k�
 kept-one kept at {k = k} {k′} p q (inr z) (inl z′) = kept-none k (sym (ap within z′) ∙ sym q ∙ p) ∙ sym z′
 
 module _ {d starts lens o₀ : List ℕ} {level at : ℕ} {e : Engine} where
-  same-engine : (r r′ : Run) {o g o′ g′ : List ℕ} → r .kept ≡ r′ .kept
+  pub same-engine : (r r′ : Run) {o g o′ g′ : List ℕ} → r .kept ≡ r′ .kept
       → Stands d starts lens o₀ level (r .reached .0) (r .kept) at (r .len) (r .count) (r .noted) o g e
       → Stands d starts lens o₀ level (r′ .reached .0) (r′ .kept) at (r′ .len) (r′ .count) (r′ .noted) o′ g′ e → Same d r o g r′ o′ g′
   same-engine r r′ k s t =

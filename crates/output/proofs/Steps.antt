@@ -23,7 +23,7 @@ use Rattle.output.proofs.Spans.{span-more, span-less, span-none, span-w
 
 -- ---- what is laid, and what is due
 
-laid-more : {o₀ o o′ w s : List ℕ} {len r : ℕ} → Laid o₀ len o w → Wrote o len s r o′ → Laid o₀ r o′ (w ++ s)
+pub laid-more : {o₀ o o′ w s : List ℕ} {len r : ℕ} → Laid o₀ len o w → Wrote o len s r o′ → Laid o₀ r o′ (w ++ s)
 laid-more {o₀} {w = w} {s} t u =
     let q : 0 + length w ≡ length w = omega arith in
     record {

@@ -1,7 +1,7 @@
 -- The pass over the items. The invariant: the code's state stands for an engine from which the rest of the pass comes to what it comes to
 -- from the start; the scan of the document does too. Then a law for each way on and each way out.
 use mathlib.Core.Path.{_≡_, refl, sym, ap, ap₂, _∙_}
-use mathlib.Core.Bool.{Bool, true, false, cond}
+use mathlib.Core.Bool.{Bool, true, false, cond, not, true≢false}
 use mathlib.Core.List.{List, [], _∷_, _++_}
 use mathlib.Core.Logic.{_⊎_, inl, inr, ⊎-elim}
 use Prim.Native.Nat.{ℕ, zero, suc, _+_, _-_, _*_, _≤_, _<_}
@@ -14,7 +14,7 @@ use mir.Syntax.{w64}
 use mir.Val.{Fits}
 use lib.Dec.{eqb}
 use lib.ListN.{length, take, drop, getD, set, length-set, replicate, length-replicate}
-use lib.Seq.{sets, getD-set-same, getD-set-other}
+use lib.Seq.{sets, set-getD, getD-set-same, getD-set-other}
 use Rattle.paths.specs.Path.{Path}
 use Rattle.paths.specs.Judge.{listAnswer, listPaths}
 use Rattle.paths.specs.declared.ListAnswer.the-variants.{Sound as SoundList}
@@ -25,8 +25,8 @@ use Rattle.tags.specs.Kept.{nameFrom}
 use Rattle.tags.specs.declared.Item.{Item}
 use Rattle.tags.specs.declared.Item.the-variants.{Declaration, Instruction, Comment, Section, Reference, Text, Start, Finish}
 use Rattle.tags.specs.declared.Item.the-variants.{Doctype, Malformed, TooLarge, Nothing}
-use Rattle.document.specs.Place.{placement, endOf}
-use Rattle.document.specs.Levels.{openedOf, Names, deeper, openAfter, lenOf}
+use Rattle.document.specs.Place.{Opened, placement, closed, afterItem, endOf}
+use Rattle.document.specs.Levels.{namesOf, openedOf, Names, deeper, openAfter, lenOf}
 use Rattle.document.specs.Judge.{startOf, scanned}
 use Rattle.document.specs.declared.Open.{Open}
 use Rattle.document.specs.declared.Placement.{Placement}
@@ -35,7 +35,7 @@ use Rattle.document.specs.declared.Why.{Why}
 use Rattle.document.specs.declared.judge.Judged.the-variants.{Sound}
 use Rattle.document.proofs.After.{start-room}
 use Rattle.document.proofs.Placing.{not-among}
-use Rattle.document.proofs.Judging.{Judging, judge-start, judge-fault, judge-over, fine-ahead, scan-inside, scan-less, scan-on}
+use Rattle.document.proofs.Judging.{Judging, judge-start, judge-fault, judge-over, judge-on, fine-ahead, scan-inside, scan-less, scan-on}
 use Rattle.attributes.specs.Attribute.{Attribute}
 use Rattle.attributes.specs.Held.{attributesIn, attributesOf}
 use Rattle.attributes.proofs.Placed.{attributes-behind}
@@ -48,8 +48,9 @@ use Rattle.matcher.specs.declared.Verdict.the-variants.{Unselected}
 use Rattle.matcher.specs.declared.fit.Fit.{Fit}
 use Rattle.matcher.specs.declared.state.MatchState.{MatchState}
 use Rattle.matcher.proofs.Meaning.{verdict-told, unselected-told, untested-told}
-use Rattle.recall.specs.Known.{knownOf, unknown, Recalls, nothing, something}
+use Rattle.recall.specs.Known.{isOf, knownOf, unknown, Recalls, nothing, something}
 use Rattle.recall.specs.declared.Known.{Known}
+use Rattle.recall.proofs.Knowing.{recalled}
 use Rattle.xml.specs.Forest.{Name, Tag}
 use Rattle.trees.specs.Cut.{on}
 use Rattle.trees.specs.Grown.{Token, start, finish, aside, part, tagOf, tokensOf}
@@ -103,6 +104,35 @@ recalls-set {counts} {tb} memo v slot {e} r i l = decided (eqb i slot) refl
         let z : i ≡ slot = eqb-true i slot q in
         rw (z, getD-set-same memo slot e blank (omega (arith, inside, z))) r
     decided false q = rw (getD-set-other memo slot i e blank (eqb-false i slot q)) (v i inside)
+
+-- what is known of an element of the row k below the state m is kept at a place: it was there, or is made anew and stored there
+abbrev pub Remembered : Bool → List ℕ → ℕ → MatchState → List Known → ℕ → List Known → Type 0
+Remembered counts tb k m memo slot memo′ =
+    (memo′ ≡ set memo slot (getD memo′ slot blank)) × (getD memo′ slot blank ≡ knownOf counts tb k m)
+    × (getD memo′ slot blank .tests ≤ 512) × (length memo′ ≡ length memo)
+
+pub kept-there : {slot long : ℕ} → slot < 64 → long ≡ 64 → slot < long
+kept-there l e = omega (arith, l, e)
+
+not-not : (b : Bool) → not b ≡ false → b ≡ true
+not-not true e = refl
+not-not false e = absurd (true≢false e)
+
+pub known-there : {counts : Bool} {tb : List ℕ} (memo : List Known)
+    → ((i : ℕ) → i < length memo → Recalls counts tb (getD memo i blank))
+    → (slot : ℕ) → slot < length memo → {k : ℕ} → k ≤ 512 → (m : MatchState)
+    → {b : Bool} → b ≡ isOf (getD memo slot blank) k m → not b ≡ false → {memo′ : List Known} → memo′ ≡ memo
+    → Remembered counts tb k m memo slot memo′
+known-there memo v slot l few m {b} s y e =
+    let w = recalled (v slot l) few m s (not-not b y) in
+    rw e (sym (set-getD memo slot blank), w .0, w .1, refl)
+
+pub known-stored : (counts : Bool) (tb : List ℕ) (k : ℕ) (m : MatchState) (memo : List Known) (slot : ℕ) → slot < length memo → {y : Known}
+    → (y ≡ knownOf counts tb k m) × (y .tests ≤ 512) → {memo′ : List Known} → memo′ ≡ set memo slot y
+    → Remembered counts tb k m memo slot memo′
+known-stored counts tb k m memo slot l {y} w e =
+    let g : getD (set memo slot y) slot blank ≡ y = getD-set-same memo slot y blank l in
+    rw e (rw g refl, g ∙ w .0, rw g (w .1), length-set memo slot y)
 
 -- one number is stored, or none is
 abbrev pub Written : List ℕ → List ℕ → Type 0
@@ -243,7 +273,8 @@ module _ {counts : Bool} {list tb d o₀ g₀ : List ℕ} {states : List MatchSt
           × Stood d g (run .noted) (cutOf list d)
       go (engine k p′ d′ w c) t z =
           let f : false ≡ k = cc in
-          let a : t .said ≡ cutOf list d = sym (out-laid d (t .said) (run .kept) at (t .out-is) (kept-none (run .kept) (f ∙ t .kept-is))) ∙ cc in
+          let a : t .said ≡ cutOf list d =
+          sym (out-laid d (t .said) (run .kept) at (t .out-is) (kept-none (run .kept) (f ∙ t .kept-is))) ∙ cc in
           let b : c ≡ countOf list d = cc in
           (sym (t .text .long) ∙ ap length a, sym (t .num-is) ∙ b, counted, t .text .laid ∙ ap (sets o₀ 0) a, rw a at (t .notes))
 
@@ -310,8 +341,45 @@ placed-more {d} {starts} {lens} {opened} s a n h l =
         let le : i ≤ opened .level .0 = omega arith in
         ⊎-elim (λ (q : i ≡ opened .level .0). rw q here) (λ (q : i < opened .level .0). k .inside i q) (eq-or-lt-of-le le)
 
+-- the level after an item that is no start tag and no empty tag, and what is open then
+pub level-other : (i : Item) (o : Open) → OneOf untagged (kindOf item.the-type i) → levelAfter i (o .level .0) ≡ openAfter i o .level .0
+level-other (Declaration e) o k = refl
+level-other (Instruction e) o k = refl
+level-other (Comment e) o k = refl
+level-other (Section e) o k = refl
+level-other (Reference n e) o k = refl
+level-other (Text e) o k = refl
+level-other (Start n h e m t) o k = absurd (not-among untagged 6 refl k)
+level-other (Finish n e) o k = refl
+level-other Doctype o k = refl
+level-other Malformed o k = refl
+level-other TooLarge o k = refl
+level-other Nothing o k = refl
+
+closed-less : (d starts lens : List ℕ) (l : ℕ) → namesOf d starts lens (l - 1) ≡ closed (namesOf d starts lens l)
+closed-less d starts lens zero = refl
+closed-less d starts lens (suc l) =
+    let z : suc l - 1 ≡ l = omega arith in
+    ap (namesOf d starts lens) z
+
+pub opened-past : (d starts lens : List ℕ) (at : ℕ) (o : Open) (i : Item) → OneOf untagged (kindOf item.the-type i)
+    → openedOf d starts lens (openAfter i o) ≡ afterItem d at i (openedOf d starts lens o)
+opened-past d starts lens at o (Declaration e) k = refl
+opened-past d starts lens at o (Instruction e) k = refl
+opened-past d starts lens at o (Comment e) k = refl
+opened-past d starts lens at o (Section e) k = refl
+opened-past d starts lens at o (Reference n e) k = refl
+opened-past d starts lens at o (Text e) k = refl
+opened-past d starts lens at o (Start n h e m t) k = absurd (not-among untagged 6 refl k)
+opened-past d starts lens at o (Finish n e) k =
+    ap (λ (ns : List (List ℕ)). record { names = ns; rooted = o .rooted }) (closed-less d starts lens (o .level .0))
+opened-past d starts lens at o Doctype k = refl
+opened-past d starts lens at o Malformed k = refl
+opened-past d starts lens at o TooLarge k = refl
+opened-past d starts lens at o Nothing k = refl
+
 -- what the state stands for does not see a name kept at the level reached
-stands-kept : {d starts lens o₀ o g : List ℕ} {level reached kept at len count m : ℕ} {x : Engine} → reached ≤ level
+pub stands-kept : {d starts lens o₀ o g : List ℕ} {level reached kept at len count m : ℕ} {x : Engine} → reached ≤ level
     → Stands d starts lens o₀ level reached kept at len count m o g x → (a n : ℕ)
     → Stands d (set starts level a) (set lens level n) o₀ level reached kept at len count m o g x
 stands-kept {d} {starts} {lens} {level = level} {reached} h t a n =
@@ -354,71 +422,71 @@ module _ {counts : Bool} {list tb d o₀ g₀ : List ℕ} {states : List MatchSt
   pub pass-less : {n : ℕ} → n ≡ endOf at i → length d - n < length d - at
   pass-less g = scan-less (v .judging) e q h g
 
-  -- ---- an item that is no start tag and no empty tag; a name was kept
+  -- ---- an item that is no start tag and no empty tag; no name is kept
 
-  module _ {starts′ lens′ : List ℕ} (es : starts′ ≡ set starts (opened .level .0) (at + 1))
-      (el : lens′ ≡ set lens (opened .level .0) (lenOf i)) where
-    pub pass-placed : Placed d starts′ lens′ (opened .level .0)
-    pass-placed = rw (es, el) (placed-kept (v .judging .names) (at + 1) (lenOf i))
+  pub pass-placed : Placed d starts lens (opened .level .0)
+  pass-placed =
+      let s = v .judging .names in
+      record { deep = s .deep; starts-long = s .starts-long; lens-long = s .lens-long; inside = s .inside }
 
-    pub pass-other : OneOf untagged (kindOf item.the-type i) → {run′ : Run} {o′ g′ : List ℕ}
-        → Moves d starts′ lens′ (opened .level .0) at run o g (onOther d at i) 1 (levelAfter i (opened .level .0)) (endOf at i) run′ o′ g′
-        → {opened′ : Open} → opened′ ≡ openAfter i opened → {n : ℕ} → n ≡ endOf at i
-        → Passing counts list tb d o₀ g₀ states memo slots starts′ lens′ opened′ run′ n false tests o′ g′
-    pass-other k {run′} {o′} {g′} m {opened′} eo {n} en =
-        record {
-          judging = scan-on (v .judging) e q h es el eo en;
-          x = onOther d at i (v .x);
-          rest = rw en (rest-other (v .rest) e (openedOf d starts lens opened) (sym q ∙ h) k (ahead .0) (ahead .1));
-          stands =
-              rw en (rw level at (m .moves o₀ (v .x) (rw (es, el) (stands-kept (v .order) (v .stands) (at + 1) (lenOf i)))));
-          held = rw (es, el) (held-kept (v .held) (at + 1) (lenOf i) (opened′ .level .0) less);
-          opens = rw (es, el) (opens-kept (v .opens) (at + 1) (lenOf i) (opened′ .level .0) less);
-          order = rw level at (m .order);
-          far = omega (arith, m .far, v .far, ahead .0);
-          few = omega (arith, m .few, v .few, ahead .0);
-          many = omega (arith, v .many, ahead .0);
-          long = v .long;
-          recalls = v .recalls;
-          memo-long = v .memo-long;
-          slots-long = v .slots-long;
-          room = m .same ∙ v .room;
-          log-room = m .room ∙ v .log-room;
-        }
-      where
-        after : (j : Item) → OneOf untagged (kindOf item.the-type j) → levelAfter j (opened .level .0) ≡ openAfter j opened .level .0
-        after (Declaration e) k = refl
-        after (Instruction e) k = refl
-        after (Comment e) k = refl
-        after (Section e) k = refl
-        after (Reference n e) k = refl
-        after (Text e) k = refl
-        after (Start n h e m t) k = absurd (not-among untagged 6 refl k)
-        after (Finish n e) k = refl
-        after Doctype k = refl
-        after Malformed k = refl
-        after TooLarge k = refl
-        after Nothing k = refl
+  pub pass-other : OneOf untagged (kindOf item.the-type i) → {run′ : Run} {o′ g′ : List ℕ}
+      → Moves d starts lens (opened .level .0) at run o g (onOther d at i) 1 (levelAfter i (opened .level .0)) (endOf at i) run′ o′ g′
+      → {opened′ : Open} → opened′ ≡ openAfter i opened → {n : ℕ} → n ≡ endOf at i
+      → Passing counts list tb d o₀ g₀ states memo slots starts lens opened′ run′ n false tests o′ g′
+  pass-other k {run′} {o′} {g′} m {opened′} eo {n} en =
+      record {
+        judging = judge-on (v .judging) e q h inner (rw eo names) (rw eo (opened-past d starts lens at opened i k)) en;
+        x = onOther d at i (v .x);
+        rest = rw en (rest-other (v .rest) e (openedOf d starts lens opened) (sym q ∙ h) k (ahead .0) (ahead .1));
+        stands = rw en (rw level at (m .moves o₀ (v .x) (v .stands)));
+        held = record { state = λ j y l. v .held .state j (omega (arith, less)) l };
+        opens =
+            record {
+              named = λ j y. v .opens .named j (omega (arith, less));
+              inside = λ j y. v .opens .inside j (omega (arith, less));
+            };
+        order = rw level at (m .order);
+        far = omega (arith, m .far, v .far, ahead .0);
+        few = omega (arith, m .few, v .few, ahead .0);
+        many = omega (arith, v .many, ahead .0);
+        long = v .long;
+        recalls = v .recalls;
+        memo-long = v .memo-long;
+        slots-long = v .slots-long;
+        room = m .same ∙ v .room;
+        log-room = m .room ∙ v .log-room;
+      }
+    where
+      level : levelAfter i (opened .level .0) ≡ opened′ .level .0
+      level = level-other i opened k ∙ ap (λ (y : Open). y .level .0) (sym eo)
 
-        level : levelAfter i (opened .level .0) ≡ opened′ .level .0
-        level = after i k ∙ ap (λ (y : Open). y .level .0) (sym eo)
+      no-more : (j : Item) (l : ℕ) → levelAfter j l ≤ l
+      no-more (Declaration e) l = omega arith
+      no-more (Instruction e) l = omega arith
+      no-more (Comment e) l = omega arith
+      no-more (Section e) l = omega arith
+      no-more (Reference n e) l = omega arith
+      no-more (Text e) l = omega arith
+      no-more (Start n h e m t) l = omega arith
+      no-more (Finish n e) l = omega arith
+      no-more Doctype l = omega arith
+      no-more Malformed l = omega arith
+      no-more TooLarge l = omega arith
+      no-more Nothing l = omega arith
 
-        no-more : (j : Item) (l : ℕ) → levelAfter j l ≤ l
-        no-more (Declaration e) l = omega arith
-        no-more (Instruction e) l = omega arith
-        no-more (Comment e) l = omega arith
-        no-more (Section e) l = omega arith
-        no-more (Reference n e) l = omega arith
-        no-more (Text e) l = omega arith
-        no-more (Start n h e m t) l = omega arith
-        no-more (Finish n e) l = omega arith
-        no-more Doctype l = omega arith
-        no-more Malformed l = omega arith
-        no-more TooLarge l = omega arith
-        no-more Nothing l = omega arith
+      less : opened′ .level .0 ≤ opened .level .0
+      less = rw level at (no-more i (opened .level .0))
 
-        less : opened′ .level .0 ≤ opened .level .0
-        less = rw level at (no-more i (opened .level .0))
+      names : Names d starts lens (openAfter i opened)
+      names =
+          let s = v .judging .names in
+          let l : openAfter i opened .level .0 ≤ opened .level .0 = rw (level-other i opened k) at (no-more i (opened .level .0)) in
+          record {
+            deep = omega (arith, s .deep, l);
+            starts-long = s .starts-long;
+            lens-long = s .lens-long;
+            inside = λ j y. s .inside j (omega (arith, l));
+          }
 
   -- ---- a start tag or empty tag
 
@@ -454,16 +522,13 @@ module _ {counts : Bool} {list tb d o₀ g₀ : List ℕ} {states : List MatchSt
     tag-less = pass-less (sym (ap (endOf at) s))
 
     module _ {starts′ lens′ : List ℕ} (es : starts′ ≡ set starts (opened .level .0) (at + 1))
-        (el : lens′ ≡ set lens (opened .level .0) (lenOf i)) where
-      lens-is : lens′ ≡ set lens (opened .level .0) n
-      lens-is = el ∙ ap (λ (j : Item). set lens (opened .level .0) (lenOf j)) s
-
+        (el : lens′ ≡ set lens (opened .level .0) n) where
       pub tag-placed : Placed d starts′ lens′ (opened .level .0 + 1)
-      tag-placed = rw (es, lens-is) (placed-more (v .judging .names) (at + 1) n tag-level tag-name)
+      tag-placed = rw (es, el) (placed-more (v .judging .names) (at + 1) n tag-level tag-name)
 
-      name-is : nameAt d starts′ lens′ (opened .level .0) ≡ nameFrom d (at + 1) n
+      pub name-is : nameAt d starts′ lens′ (opened .level .0) ≡ nameFrom d (at + 1) n
       name-is =
-          rw (es, lens-is)
+          rw (es, el)
           (name-here d starts lens (opened .level .0) (at + 1) n
           (omega (arith, tag-level, v .judging .names .starts-long))
           (omega (arith, tag-level, v .judging .names .lens-long)))
@@ -557,7 +622,7 @@ module _ {counts : Bool} {list tb d o₀ g₀ : List ℕ} {states : List MatchSt
             (held-same (v .held) (at + 1) n ls ll (v .long) state-is et)
             (held-deeper (v .held) (at + 1) n ls ll (v .long) state-is et)
 
-        tests-are : {k : ℕ} → k ≡ cond counts (testsBy parent fit) 0
+        pub tests-are : {k : ℕ} → k ≡ cond counts (testsBy parent fit) 0
             → k ≡ countedTests counts (listPaths list) (nameFrom d (at + 1) n ∷ openOf (v .x))
         unfolding nameTests
         tests-are ek =
@@ -588,14 +653,16 @@ module _ {counts : Bool} {list tb d o₀ g₀ : List ℕ} {states : List MatchSt
             → Passing counts list tb d o₀ g₀ states′ memo′ slots′ starts′ lens′ opened′ run′ f false (tests + k) o′ g′
         pass-tag {w} ew et slot em er el′ {k} ek {run′} {o′} {g′} mv {opened′} eo =
             record {
-              judging = scan-on (v .judging) e q h es el (eo ∙ sym (ap (λ (j : Item). openAfter j opened) s)) (sym (ap (endOf at) s));
+              judging =
+                  scan-on (v .judging) e q h es (el ∙ ap (λ (j : Item). set lens (opened .level .0) (lenOf j)) (sym s))
+                  (eo ∙ sym (ap (λ (j : Item). openAfter j opened) s)) (sym (ap (endOf at) s));
               x = onTag w (nameFrom d (at + 1) n) (part d at b) (part d at f) m (v .x);
               rest = rw (ew, tests-are (ek .0)) (rest-tag (v .rest) (sym s ∙ e) tag-from (places .1) (places .2));
               stands =
                   rw (name-is, level) at
-                  (mv .moves o₀ (v .x) (rw (es, lens-is) (stands-kept (v .order) (v .stands) (at + 1) n)));
-              held = rw (es, lens-is, ← level) (held-next et m);
-              opens = rw (es, lens-is, ← level) (opens-next m);
+                  (mv .moves o₀ (v .x) (rw (es, el) (stands-kept (v .order) (v .stands) (at + 1) n)));
+              held = rw (es, el, ← level) (held-next et m);
+              opens = rw (es, el, ← level) (opens-next m);
               order = rw level at (mv .order);
               far = omega (arith, mv .far, v .far, places .0, places .1);
               few = omega (arith, mv .few, v .few, places .0, places .1);

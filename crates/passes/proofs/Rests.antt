@@ -56,10 +56,10 @@ abbrev pub untagged : List ℕ
 untagged = 0 ∷ 1 ∷ 2 ∷ 3 ∷ 4 ∷ 5 ∷ 7 ∷ 8 ∷ 9 ∷ 10 ∷ 11 ∷ []
 
 -- what the engine makes of an item is what it makes of the item's tokens; the sum follows
-abbrev Makes : Judge → List ℕ → ℕ → Item → Engine → Engine → Type 0
+abbrev pub Makes : Judge → List ℕ → ℕ → Item → Engine → Engine → Type 0
 Makes v d at i x y = (ts : List Token) → run v (itemTokens d at i ts) x ≡ run v ts y
 
-abbrev Sums : (List Name → ℕ) → List ℕ → ℕ → Item → Engine → ℕ → Engine → ℕ → Type 0
+abbrev pub Sums : (List Name → ℕ) → List ℕ → ℕ → Item → Engine → ℕ → Engine → ℕ → Type 0
 Sums f d at i x t y u = (ts : List Token) → t + tallied f (itemTokens d at i ts) (openOf x) ≡ u + tallied f ts (openOf y)
 
 module _ {v : Judge} {f : List Name → ℕ} {d : List ℕ} {at : ℕ} {first : Bool} {x : Engine} {t : ℕ}
@@ -102,17 +102,17 @@ module _ {v : Judge} {f : List Name → ℕ} {d : List ℕ} {at : ℕ} {first : 
 -- ---- a tag
 
 module _ (v : Judge) (d : List ℕ) (at n h e : ℕ) (t : Bool) (x : Engine) (l : at ≤ h) (k : h ≤ e) where
-  abbrev name : List ℕ
+  abbrev pub name : List ℕ
   name = nameFrom d (at + 1) n
 
-  abbrev made : Bool → Engine
+  abbrev pub made : Bool → Engine
   made m = onTag (on v (tagOf d at n h e) (openOf x)) name (part d at h) (part d at e) m x
 
   join : onStart (on v (tagOf d at n h e) (openOf x)) name (part d at h) (part d at h ++ part d h e) x
       ≡ onStart (on v (tagOf d at n h e) (openOf x)) name (part d at h) (part d at e) x
   join = ap (λ (raw : List ℕ). onStart (on v (tagOf d at n h e) (openOf x)) name (part d at h) raw x) (part-join d at h e l k)
 
-  tag-makes : (m : Bool) → Makes v d at (Start n h e m t) x (made m)
+  pub tag-makes : (m : Bool) → Makes v d at (Start n h e m t) x (made m)
   tag-makes true ts = ap (λ (y : Engine). run v ts (onFinish [] y)) join
   tag-makes false ts = ap (run v ts) join
 
@@ -123,7 +123,7 @@ module _ (v : Judge) (d : List ℕ) (at n h e : ℕ) (t : Bool) (x : Engine) (l 
   open-tag true = open-finish [] (made false) ∙ ap outer opens
   open-tag false = opens
 
-  tag-sums : (f : List Name → ℕ) (s : ℕ) (m : Bool) → Sums f d at (Start n h e m t) x s (made m) (s + f (name ∷ openOf x))
+  pub tag-sums : (f : List Name → ℕ) (s : ℕ) (m : Bool) → Sums f d at (Start n h e m t) x s (made m) (s + f (name ∷ openOf x))
   tag-sums f s m ts =
       let a = summed m ts in
       let b = ap (tallied f ts) (open-tag m) in
@@ -144,38 +144,43 @@ rest-tag {v} {f} {d} {at} {x = x} {s} r {n} {h} {e} {m} {t} q l k g =
 
 -- ---- any other item
 
-pub rest-other : {v : Judge} {f : List Name → ℕ} {d : List ℕ} {at : ℕ} {first : Bool} {x : Engine} {t : ℕ} → Rest v f d at first x t
-    → {i : Item} → i ≡ itemAt first d at → (s : Opened) → placement d at i s ≡ Fine → OneOf untagged (kindOf item.the-type i)
-    → at < endOf at i → endOf at i ≤ length d → Rest v f d (endOf at i) false (onOther d at i x) t
-rest-other {v} {f} {d} {at} {x = x} {t} r {i} q s z k l g = rest-on r q (makes i z k) (sums i z k) l g
-  where
-    makes : (i : Item) → placement d at i s ≡ Fine → OneOf untagged (kindOf item.the-type i) → Makes v d at i x (onOther d at i x)
-    makes (Declaration e) z k ts = refl
-    makes (Instruction e) z k ts = refl
-    makes (Comment e) z k ts = refl
-    makes (Section e) z k ts = refl
-    makes (Reference n e) z k ts = refl
-    makes (Text e) z k ts = refl
-    makes (Start n h e m t) z k ts = absurd (not-among untagged 6 refl k)
-    makes (Finish n e) z k ts = refl
-    makes Doctype z k ts = cc
-    makes Malformed z k ts = cc
-    makes TooLarge z k ts = cc
-    makes Nothing z k ts = over-fine s z
+module _ (d : List ℕ) (at : ℕ) (s : Opened) (x : Engine) where
+  pub other-makes : (v : Judge) (i : Item) → placement d at i s ≡ Fine → OneOf untagged (kindOf item.the-type i)
+      → Makes v d at i x (onOther d at i x)
+  other-makes v (Declaration e) z k ts = refl
+  other-makes v (Instruction e) z k ts = refl
+  other-makes v (Comment e) z k ts = refl
+  other-makes v (Section e) z k ts = refl
+  other-makes v (Reference n e) z k ts = refl
+  other-makes v (Text e) z k ts = refl
+  other-makes v (Start n h e m t) z k ts = absurd (not-among untagged 6 refl k)
+  other-makes v (Finish n e) z k ts = refl
+  other-makes v Doctype z k ts = cc
+  other-makes v Malformed z k ts = cc
+  other-makes v TooLarge z k ts = cc
+  other-makes v Nothing z k ts = over-fine s z
 
+  module _ (f : List Name → ℕ) (t : ℕ) where
     stay : (y : Engine) {up : List Name} (ts : List Token) → openOf y ≡ up → t + tallied f ts up ≡ t + tallied f ts (openOf y)
     stay y ts e = ap (λ (ns : List Name). t + tallied f ts ns) (sym e)
 
-    sums : (i : Item) → placement d at i s ≡ Fine → OneOf untagged (kindOf item.the-type i) → Sums f d at i x t (onOther d at i x) t
-    sums (Declaration e) z k ts = stay (onAside (part d at e) x) ts (open-aside (part d at e) x)
-    sums (Instruction e) z k ts = stay (onAside (part d at e) x) ts (open-aside (part d at e) x)
-    sums (Comment e) z k ts = stay (onAside (part d at e) x) ts (open-aside (part d at e) x)
-    sums (Section e) z k ts = stay (onAside (part d at e) x) ts (open-aside (part d at e) x)
-    sums (Reference n e) z k ts = stay (onAside (part d at e) x) ts (open-aside (part d at e) x)
-    sums (Text e) z k ts = stay (onAside (part d at e) x) ts (open-aside (part d at e) x)
-    sums (Start n h e m t) z k ts = absurd (not-among untagged 6 refl k)
-    sums (Finish n e) z k ts = stay (onFinish (part d at e) x) ts (open-finish (part d at e) x)
-    sums Doctype z k ts = cc
-    sums Malformed z k ts = cc
-    sums TooLarge z k ts = cc
-    sums Nothing z k ts = over-fine s z
+    pub other-sums : (i : Item) → placement d at i s ≡ Fine → OneOf untagged (kindOf item.the-type i)
+        → Sums f d at i x t (onOther d at i x) t
+    other-sums (Declaration e) z k ts = stay (onAside (part d at e) x) ts (open-aside (part d at e) x)
+    other-sums (Instruction e) z k ts = stay (onAside (part d at e) x) ts (open-aside (part d at e) x)
+    other-sums (Comment e) z k ts = stay (onAside (part d at e) x) ts (open-aside (part d at e) x)
+    other-sums (Section e) z k ts = stay (onAside (part d at e) x) ts (open-aside (part d at e) x)
+    other-sums (Reference n e) z k ts = stay (onAside (part d at e) x) ts (open-aside (part d at e) x)
+    other-sums (Text e) z k ts = stay (onAside (part d at e) x) ts (open-aside (part d at e) x)
+    other-sums (Start n h e m t) z k ts = absurd (not-among untagged 6 refl k)
+    other-sums (Finish n e) z k ts = stay (onFinish (part d at e) x) ts (open-finish (part d at e) x)
+    other-sums Doctype z k ts = cc
+    other-sums Malformed z k ts = cc
+    other-sums TooLarge z k ts = cc
+    other-sums Nothing z k ts = over-fine s z
+
+pub rest-other : {v : Judge} {f : List Name → ℕ} {d : List ℕ} {at : ℕ} {first : Bool} {x : Engine} {t : ℕ} → Rest v f d at first x t
+    → {i : Item} → i ≡ itemAt first d at → (s : Opened) → placement d at i s ≡ Fine → OneOf untagged (kindOf item.the-type i)
+    → at < endOf at i → endOf at i ≤ length d → Rest v f d (endOf at i) false (onOther d at i x) t
+rest-other {v} {f} {d} {at} {x = x} {t} r {i} q s z k l g =
+    rest-on r q (other-makes d at s x v i z k) (other-sums d at s x f t i z k) l g

@@ -278,7 +278,6 @@ pub fn pass(
                 return Outcome::Fine(run.len, run.count, tests, run.noted);
             }
             Placement::Fine => {
-                keep(&mut starts, &mut lens, opened, at, next);
                 let level = opened.level.0;
                 if let Item::Start {
                     name,
@@ -287,13 +286,16 @@ pub fn pass(
                     empty,
                     twice: _,
                 } = next {
+                    keep(&mut starts, &mut lens, opened, at, next);
                     let parent = states[level];
                     let a = at + 1;
                     let row = row_of(list, t, &doc[a..a + name]);
                     let slot = slot_of(row, slots[level]);
                     let before = memo[slot];
-                    let known = before.renewed(counts, t, row, parent);
-                    memo[slot] = known;
+                    if !before.is_of(row, parent) {
+                        memo[slot] = Known::made(counts, t, row, parent);
+                    }
+                    let known = memo[slot];
                     let below = known.below;
                     let plain = known.verdict;
                     let tried = known.tests;

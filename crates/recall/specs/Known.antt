@@ -1,14 +1,20 @@
 -- What is known of an element by the row of its name and the state of its parent; and what a record that was kept may be: of no row, or
 -- what is known of its own row and state.
 use mathlib.Core.Path.{_≡_}
-use mathlib.Core.Bool.{Bool, cond}
+use mathlib.Core.Bool.{Bool, cond, _&&_}
 use mathlib.Core.List.{List}
 use Prim.Native.Nat.{ℕ, _≤_, _<_}
+use lib.Dec.{eqb}
+use Rattle.xml.specs.Productions.{same}
 use Rattle.matcher.specs.Fit.{fitAt}
 use Rattle.matcher.specs.State.{freshState, deeperOf, verdictBy, testsBy}
 use Rattle.matcher.specs.declared.Verdict.the-variants.{Unselected}
 use Rattle.matcher.specs.declared.state.MatchState.{MatchState}
 use Rattle.recall.specs.declared.Known.{Known}
+
+-- whether a record is of a row and a state
+abbrev pub isOf : Known → ℕ → MatchState → Bool
+isOf e k m = eqb (e .row) k && same (m .bits) (e .parent .bits)
 
 -- the name tests tried, where they are counted
 abbrev pub testsIn : Bool → List ℕ → ℕ → MatchState → ℕ

@@ -8,7 +8,7 @@
 // What is made anew is what is known again, so only the time depends on what is kept. The definitions are in specs/Known.antt.
 ghost use mathlib.Core.Path.{_≡_};
 ghost use Prim.Native.Nat.{_+_, _*_, _%_, _≤_, _<_};
-ghost use Rattle.recall.specs.Known.{testsIn, knownOf, unknown, Recalls};
+ghost use Rattle.recall.specs.Known.{isOf, testsIn, knownOf, unknown, Recalls};
 use compiled::Compiled;
 use compiled::layout;
 use matcher::Verdict;
@@ -53,17 +53,22 @@ impl Known {
         }
     }
 
-    // What is known of an element of this row below this state: what was known before if it is of the same, and else it is made anew.
-    pub fn renewed(self, counts: bool, t: &Compiled, row: usize, parent: MatchState) -> Known
-        requires { ⌜ Recalls counts (now t) self × (row ≤ 512) ⌝ }
-        ensures { λ r. ⌜ (r ≡ knownOf counts (now (t .entry)) row parent) × (r .tests ≤ 512) ⌝ }
+    // Whether it is of this row and this state.
+    pub fn is_of(self, row: usize, parent: MatchState) -> bool
+        ensures { λ r. ⌜ r ≡ isOf self row parent ⌝ }
     {
         if self.row == row {
             let before = self.parent;
-            if parent.same(before) {
-                return self;
-            }
+            return parent.same(before);
         }
+        false
+    }
+
+    // What is known of an element of this row below this state, made anew.
+    pub fn made(counts: bool, t: &Compiled, row: usize, parent: MatchState) -> Known
+        requires { ⌜ row ≤ 512 ⌝ }
+        ensures { λ r. ⌜ (r ≡ knownOf counts (now (t .entry)) row parent) × (r .tests ≤ 512) ⌝ }
+    {
         let fit = fit_by(t, row);
         let below = parent.deeper(fit);
         let verdict = parent.verdict_on(fit);
@@ -75,6 +80,17 @@ impl Known {
             verdict,
             tests,
         }
+    }
+
+    // What is known of them: what was known before if it is of the same, and else it is made anew.
+    pub fn renewed(self, counts: bool, t: &Compiled, row: usize, parent: MatchState) -> Known
+        requires { ⌜ Recalls counts (now t) self × (row ≤ 512) ⌝ }
+        ensures { λ r. ⌜ (r ≡ knownOf counts (now (t .entry)) row parent) × (r .tests ≤ 512) ⌝ }
+    {
+        if self.is_of(row, parent) {
+            return self;
+        }
+        Known::made(counts, t, row, parent)
     }
 }
 

@@ -11,35 +11,36 @@ use Rattle.tags.specs.declared.Item.the-variants.{Declaration, Instruction, Com
 use Rattle.tags.specs.declared.Item.the-variants.{Doctype, Malformed, TooLarge, Nothing}
 use Rattle.items.specs.Inside.{Inside}
 use Rattle.document.specs.Place.{Opened, placement, endOf}
-use Rattle.document.specs.Levels.{openAfter, lenOf}
+use Rattle.document.specs.Levels.{openAfter}
 use Rattle.document.specs.declared.Open.{Open}
 use Rattle.document.specs.declared.Placement.the-variants.{Fine}
 use Rattle.document.proofs.Judging.{fine-ahead}
+use Rattle.document.proofs.Placing.{not-among}
 use Rattle.output.specs.Act.{onOther, levelAfter}
 use Rattle.passes.proofs.Rests.{untagged}
 use Rattle.tape.specs.Tape.{imageOf}
+use Rattle.seats.specs.Made.{keptAt}
 
 -- the item j, which comes back, and i, which was put there
 pub record Like (d : List ℕ) (at : ℕ) (i j : Item) : Type 0 where
-  pub len : lenOf j ≡ lenOf i
   pub opens : (o : Open) → openAfter j o ≡ openAfter i o
   pub ends : endOf at j ≡ endOf at i
   pub level : (l : ℕ) → levelAfter j l ≡ levelAfter i l
   pub makes : onOther d at j ≡ onOther d at i
 
 pub image-like : (d : List ℕ) (at : ℕ) (i : Item) → Like d at i (imageOf at i)
-image-like d at (Declaration e) = record { len = refl; opens = λ o. refl; ends = refl; level = λ l. refl; makes = refl }
-image-like d at (Instruction e) = record { len = refl; opens = λ o. refl; ends = refl; level = λ l. refl; makes = refl }
-image-like d at (Comment e) = record { len = refl; opens = λ o. refl; ends = refl; level = λ l. refl; makes = refl }
-image-like d at (Section e) = record { len = refl; opens = λ o. refl; ends = refl; level = λ l. refl; makes = refl }
-image-like d at (Reference n e) = record { len = refl; opens = λ o. refl; ends = refl; level = λ l. refl; makes = refl }
-image-like d at (Text e) = record { len = refl; opens = λ o. refl; ends = refl; level = λ l. refl; makes = refl }
-image-like d at (Start n h e m t) = record { len = refl; opens = λ o. refl; ends = refl; level = λ l. refl; makes = refl }
-image-like d at (Finish n e) = record { len = refl; opens = λ o. refl; ends = refl; level = λ l. refl; makes = refl }
-image-like d at Doctype = record { len = refl; opens = λ o. refl; ends = refl; level = λ l. refl; makes = refl }
-image-like d at Malformed = record { len = refl; opens = λ o. refl; ends = refl; level = λ l. refl; makes = refl }
-image-like d at TooLarge = record { len = refl; opens = λ o. refl; ends = refl; level = λ l. refl; makes = refl }
-image-like d at Nothing = record { len = refl; opens = λ o. refl; ends = refl; level = λ l. refl; makes = refl }
+image-like d at (Declaration e) = record { opens = λ o. refl; ends = refl; level = λ l. refl; makes = refl }
+image-like d at (Instruction e) = record { opens = λ o. refl; ends = refl; level = λ l. refl; makes = refl }
+image-like d at (Comment e) = record { opens = λ o. refl; ends = refl; level = λ l. refl; makes = refl }
+image-like d at (Section e) = record { opens = λ o. refl; ends = refl; level = λ l. refl; makes = refl }
+image-like d at (Reference n e) = record { opens = λ o. refl; ends = refl; level = λ l. refl; makes = refl }
+image-like d at (Text e) = record { opens = λ o. refl; ends = refl; level = λ l. refl; makes = refl }
+image-like d at (Start n h e m t) = record { opens = λ o. refl; ends = refl; level = λ l. refl; makes = refl }
+image-like d at (Finish n e) = record { opens = λ o. refl; ends = refl; level = λ l. refl; makes = refl }
+image-like d at Doctype = record { opens = λ o. refl; ends = refl; level = λ l. refl; makes = refl }
+image-like d at Malformed = record { opens = λ o. refl; ends = refl; level = λ l. refl; makes = refl }
+image-like d at TooLarge = record { opens = λ o. refl; ends = refl; level = λ l. refl; makes = refl }
+image-like d at Nothing = record { opens = λ o. refl; ends = refl; level = λ l. refl; makes = refl }
 
 -- it stands inside the document, where the other may stand there
 pub image-inside : (d : List ℕ) (at : ℕ) (i : Item) (s : Opened) → Inside d at i → placement d at i s ≡ Fine → Inside d at (imageOf at i)
@@ -84,3 +85,18 @@ image-untagged at Doctype k = hit untagged 8 tt
 image-untagged at Malformed k = hit untagged 9 tt
 image-untagged at TooLarge k = hit untagged 10 tt
 image-untagged at Nothing k = hit untagged 11 tt
+
+-- an item that is no start tag and no empty tag has no name that is kept
+pub kept-other : (i : Item) → OneOf untagged (kindOf item.the-type i) → (l y : ℕ) (xs : List ℕ) → xs ≡ keptAt i l y xs
+kept-other (Declaration e) k l y xs = refl
+kept-other (Instruction e) k l y xs = refl
+kept-other (Comment e) k l y xs = refl
+kept-other (Section e) k l y xs = refl
+kept-other (Reference n e) k l y xs = refl
+kept-other (Text e) k l y xs = refl
+kept-other (Start n h e m t) k l y xs = absurd (not-among untagged 6 refl k)
+kept-other (Finish n e) k l y xs = refl
+kept-other Doctype k l y xs = refl
+kept-other Malformed k l y xs = refl
+kept-other TooLarge k l y xs = refl
+kept-other Nothing k l y xs = refl

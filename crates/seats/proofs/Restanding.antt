@@ -1,13 +1,12 @@
 -- The states by level, made again from the names by level: `states_of`. The invariant: those of the first k levels are made.
-use mathlib.Core.Path.{_≡_, refl, sym, ap, ap₂, _∙_}
-use mathlib.Core.List.{List, [], _∷_, _++_}
-use mathlib.Core.Logic.{_⊎_, inl, inr, ⊎-elim}
-use Prim.Native.Nat.{ℕ, zero, suc, _+_, _-_, _≤_, _<_}
+use mathlib.Core.Path.{_≡_, sym, ap, ap₂, _∙_}
+use mathlib.Core.List.{List}
+use mathlib.Core.Logic.{⊎-elim}
+use Prim.Native.Nat.{ℕ, suc, _+_, _≤_, _<_}
 use native.Mathlib.Nat.{zero-add, eq-or-lt-of-le}
 use native.Mathlib.Omega.{arith}
-use lib.ListN.{length, getD, set, length-set, replicate, length-replicate}
+use lib.ListN.{getD, set, length-set, replicate, length-replicate}
 use lib.Seq.{getD-set-same, getD-set-other}
-use Rattle.xml.specs.Forest.{Name}
 use Rattle.tags.specs.Kept.{nameFrom}
 use Rattle.paths.specs.Path.{Path}
 use Rattle.matcher.specs.Fit.{fitFor}
@@ -16,8 +15,7 @@ use Rattle.matcher.specs.declared.fit.Fit.{Fit}
 use Rattle.matcher.specs.declared.state.MatchState.{MatchState}
 use Rattle.matcher.proofs.AllPaths.{state-deeper}
 use Rattle.trees.specs.Grown.{part}
-use Rattle.trees.specs.Written.{rootFirst}
-use Rattle.output.specs.Levels.{nameAt, span}
+use Rattle.output.specs.Levels.{nameAt}
 use Rattle.output.proofs.Chains.{name-part}
 use Rattle.passes.proofs.States.{none, above, held-start}
 use Rattle.seats.specs.Standing.{Standing}

@@ -1,4 +1,5 @@
--- Definitions: the states by level; where a client stands between two tapes; and what its way through one comes to.
+-- Definitions: the states by level; what items make; where a client stands between two tapes; and what its way through one comes to.
 pub mod Standing
+pub mod Made
 pub mod Seated
 pub mod Went

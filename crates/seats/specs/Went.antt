@@ -5,8 +5,13 @@ use mathlib.Core.Bool.{Bool, true, false}
 use mathlib.Core.List.{List}
 use Prim.Native.Nat.{ℕ}
 use lib.ListN.{length}
+use Rattle.paths.specs.Judge.{listPaths}
 use Rattle.matcher.specs.Fit.{Serves}
+use Rattle.trees.specs.Engine.{Engine}
+use Rattle.trees.specs.Written.{verdicts}
+use Rattle.passes.proofs.Passing.{countedTests}
 use Rattle.tape.specs.Taped.{Taped, behind}
+use Rattle.seats.specs.Made.{RunStands, Came, startsAfter, lensAfter}
 use Rattle.seats.specs.Seated.{Seated, Begun, seatSpot}
 use Rattle.seats.specs.declared.seat.Seat.{Seat}
 
@@ -16,11 +21,17 @@ pub record Sits (live counts : Bool) (list tb d t starts lens : List ℕ) (s : S
   pub begun : live ≡ true → Begun counts list d starts lens s o g
   pub taped : live ≡ true → Taped d t (seatSpot d starts lens s) items
 
--- whatever the buffer was at the beginning, the client stands behind those items
+-- Whatever the buffer was at the beginning, the client stands behind those items; and whatever engine its run stood for, it stands for what
+-- the items make of that.
 pub record Went (counts : Bool) (list d starts lens : List ℕ) (s : Seat) (o g : List ℕ) (items : ℕ) (starts′ lens′ : List ℕ) (r : Seat)
     (o′ g′ : List ℕ) : Type 0 where
   pub seated : (o₀ : List ℕ) → Seated counts list d o₀ starts lens s o g → Seated counts list d o₀ starts′ lens′ r o′ g′
   pub spot : seatSpot d starts′ lens′ r ≡ behind d (seatSpot d starts lens s) items
+  pub came : (o₀ : List ℕ) (x : Engine) → RunStands d starts lens o₀ (s .opened .level .0) (s .at) (s .run) o g x
+      → Came (verdicts (listPaths list)) (countedTests counts (listPaths list)) d (seatSpot d starts lens s) x (s .tests) (s .run .kept)
+      items starts′ lens′ o₀ (r .opened .level .0) (r .at) (r .run) (r .tests) o′ g′
+  pub starts-are : starts′ ≡ startsAfter d (seatSpot d starts lens s) starts items
+  pub lens-are : lens′ ≡ lensAfter d (seatSpot d starts lens s) lens items
   pub room : length o′ ≡ length o
   pub log-room : length g′ ≡ length g
 

@@ -101,7 +101,6 @@ fn all_through(
     let mut k: usize = 0;
     while k < items {
         let next = item_on(tape, k);
-        keep(starts, lens, opened, at, next);
         let level = opened.level.0;
         if let Item::Start {
             name,
@@ -110,13 +109,16 @@ fn all_through(
             empty,
             twice: _,
         } = next {
+            keep(starts, lens, opened, at, next);
             let parent = states[level];
             let a = at + 1;
             let row = row_of(list, t, &doc[a..a + name]);
             let slot = slot_of(row, slots[level]);
             let before = memo[slot];
-            let known = before.renewed(counts, t, row, parent);
-            memo[slot] = known;
+            if !before.is_of(row, parent) {
+                memo[slot] = Known::made(counts, t, row, parent);
+            }
+            let known = memo[slot];
             let below = known.below;
             let plain = known.verdict;
             let tried = known.tests;

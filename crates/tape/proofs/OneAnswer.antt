@@ -1,5 +1,5 @@
--- Two results that the contract of `put` or `item_on` allows are equal, and so is every number of the tape: over the contracts that the
--- toolchain makes of the source.
+-- Two results that a public function's contract allows are equal, and so is the tape after `put`: over the contracts that the toolchain
+-- makes of the source.
 use mathlib.Core.Path.{refl, sym, _∙_}
 use denote.Ref.{now}
 use Rattle.contracts.specs.One.{OneResult, OneOutcome}

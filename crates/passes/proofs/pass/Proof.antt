@@ -9,7 +9,8 @@ use borrow.Author.Needs.{needs}
 use lib.ListN.{length}
 use Rattle.matcher.proofs.Serving.{row-few, row-fit}
 use Rattle.passes.proofs.Passing.{Passing, pass-start, pass-fault, pass-over, pass-ready, pass-many, pass-deep, pass-within}
-use Rattle.passes.proofs.Passing.{pass-next, known-recalls, tests-told, below-told, verdict-told-by}
+use Rattle.passes.proofs.Passing.{pass-next, Remembered, kept-there, known-there, known-stored, known-recalls, tests-told}
+use Rattle.passes.proofs.Passing.{below-told, verdict-told-by}
 use Rattle.passes.proofs.Passing.{pass-fits, pass-inside, pass-less, pass-placed, pass-other, tag-level, tag-from, tag-to}
 use Rattle.passes.proofs.Passing.{tag-inside, tag-name, tag-fits, tag-less, tag-placed, tag-behind, tag-head}
 use Rattle.passes.proofs.Passing.{verdict-judged, pass-tag}
@@ -47,8 +48,8 @@ start-of-requires c κs = search needs
 
 loop-holds : tie.Need-loop-holds Inv-loop μ-loop
 loop-holds c =
-    pass-start _ _ _ _ _ _ (c .before .before .none .ensures) (c .before .none2 .ensures) (c .start-of .ensures) (c .before .before
-    .before .before .fresh .ensures) (c .before .before .before .nothing .ensures)
+    pass-start _ _ _ _ _ _ (c .before .before .none .ensures) (c .before .none2 .ensures) (c .start-of .ensures) (c .before
+    .before .before .before .fresh .ensures) (c .before .before .before .nothing .ensures)
 
 next-item-requires : tie.Need-next-item-requires Inv-loop μ-loop
 next-item-requires c κs =
@@ -71,8 +72,8 @@ same-length-2 c = search needs
 
 returns : tie.Need-returns Inv-loop μ-loop
 returns c =
-    pass-fault (c .before .before .before .before .before .before .loop .inv) (c .before .before .before .next-item .ensures .0) (c
-    .before .before .before .next-item .ensures .1) _ (c .before .placed .given .1)
+    pass-fault (c .before .before .before .before .before .before .loop .inv) (c .before .before
+    .before .next-item .ensures .0) (c .before .before .before .next-item .ensures .1) _ (c .before .placed .given .1)
 
 enum-told : tie.Need-enum-told Inv-loop μ-loop
 enum-told c = search needs
@@ -85,27 +86,27 @@ same-length-4 c = search needs
 
 returns-2 : tie.Need-returns-2 Inv-loop μ-loop
 returns-2 c =
-    pass-over (c .before .before .before .before .before .loop .inv) (c .before .before .next-item .ensures .0) (c .before .before
-    .next-item .ensures .1) (c .enum-told .given .1)
+    pass-over (c .before .before .before .before .before .loop .inv) (c .before .before .next-item .ensures .0) (c .before
+    .before .next-item .ensures .1) (c .enum-told .given .1)
 
 enum-told-2 : tie.Need-enum-told-2 Inv-loop μ-loop
 enum-told-2 c = search needs
 
+enum-known-next : tie.Need-enum-known-next Inv-loop μ-loop
+enum-known-next c = search needs
+
 keep-requires : tie.Need-keep-requires Inv-loop μ-loop
 keep-requires c κs =
-    let v = c .before .before .before .before .before .before .before .loop .inv in
-    let e = c .before .before .before .before .next-item .ensures .0 in
-    let q = c .before .before .before .before .next-item .ensures .1 in
-    let h = c .before .before .enum-told2 .given .1 in
+    let v = c .before .before .before .before .before .before .before .before .before .before .loop .inv in
+    let e = c .before .before .before .before .before .before .before .next-item .ensures .0 in
+    let q = c .before .before .before .before .before .before .before .next-item .ensures .1 in
+    let h = c .before .before .before .before .before .enum-told2 .given .1 in
     let names = v .judging .names in (
       names .starts-long,
       names .lens-long,
-      pass-next v e q h (c .before .before .before .before .before .before .before .before .before .before .before .before .before
-          .before .before .before .before .before .pre .1),
+      pass-next v e q h (c .before .before .before .before .before .before .before .before .before .before .before .before
+          .before .before .before .before .before .before .before .before .before .pre .1),
     )
-
-enum-known-next : tie.Need-enum-known-next Inv-loop μ-loop
-enum-known-next c = search needs
 
 mul-parent : tie.Need-mul-parent Inv-loop μ-loop
 mul-parent c =
@@ -113,7 +114,7 @@ mul-parent c =
     let e = c .before .before .before .before .before .before .before .before .next-item .ensures .0 in
     let q = c .before .before .before .before .before .before .before .before .next-item .ensures .1 in
     let h = c .before .before .before .before .before .before .enum-told2 .given .1 in
-    let s = c .before .next .given .1 in
+    let s = c .before .before .before .before .next .given .1 in
     let below = tag-level v e q h s in
     search (needs, below)
 
@@ -123,7 +124,7 @@ array-copy-out-parent c =
     let e = c .before .before .before .before .before .before .before .before .next-item .ensures .0 in
     let q = c .before .before .before .before .before .before .before .before .next-item .ensures .1 in
     let h = c .before .before .before .before .before .before .enum-told2 .given .1 in
-    let s = c .before .next .given .1 in
+    let s = c .before .before .before .before .next .given .1 in
     tag-level v e q h s
 
 add-a : tie.Need-add-a Inv-loop μ-loop
@@ -141,7 +142,7 @@ add-row-of c =
     let e = c .before .before .before .before .before .before .before .before .before .next-item .ensures .0 in
     let q = c .before .before .before .before .before .before .before .before .before .next-item .ensures .1 in
     let h = c .before .before .before .before .before .before .before .enum-told2 .given .1 in
-    let s = c .before .before .next .given .1 in
+    let s = c .before .before .before .before .before .next .given .1 in
     tag-fits v e q h s (c .before .before .before .before .before .before .before .before .before .before .before .before .before
     .before .before .before .before .before .before .before .before .before .before .pre .1)
 
@@ -157,33 +158,34 @@ part-row-of-end c =
     let e = c .before .before .before .before .before .before .before .before .before .next-item .ensures .0 in
     let q = c .before .before .before .before .before .before .before .before .before .next-item .ensures .1 in
     let h = c .before .before .before .before .before .before .before .enum-told2 .given .1 in
-    let s = c .before .before .next .given .1 in
+    let s = c .before .before .before .before .before .next .given .1 in
     let inside = tag-name v e q h s in
     search (needs, inside)
 
 row-of-requires : tie.Need-row-of-requires Inv-loop μ-loop
-row-of-requires c κs = c .before .before .before .before .before .before .before .before .before .before .before .before .before
-    .before .before .before .before .before .before .before .before .before .before .before .pre .2
+row-of-requires c κs =
+    c .before .before .before .before .before .before .before .before .before .before .before .before .before .before .before
+    .before .before .before .before .before .before .before .before .before .pre .2
 
 mul-slot-of : tie.Need-mul-slot-of Inv-loop μ-loop
 mul-slot-of c =
-    let v = c .before .before .before .before .before .before .before .before .before .before .before .before .before .before .loop
-    .inv in
+    let v = c .before .before .before .before .before .before .before .before .before .before .before .before .before
+    .before .loop .inv in
     let e = c .before .before .before .before .before .before .before .before .before .before .before .next-item .ensures .0 in
     let q = c .before .before .before .before .before .before .before .before .before .before .before .next-item .ensures .1 in
     let h = c .before .before .before .before .before .before .before .before .before .enum-told2 .given .1 in
-    let s = c .before .before .before .before .next .given .1 in
+    let s = c .before .before .before .before .before .before .before .next .given .1 in
     let below = tag-level v e q h s in
     search (needs, below)
 
 array-read-slot-of : tie.Need-array-read-slot-of Inv-loop μ-loop
 array-read-slot-of c =
-    let v = c .before .before .before .before .before .before .before .before .before .before .before .before .before .before .loop
-    .inv in
+    let v = c .before .before .before .before .before .before .before .before .before .before .before .before .before
+    .before .loop .inv in
     let e = c .before .before .before .before .before .before .before .before .before .before .before .next-item .ensures .0 in
     let q = c .before .before .before .before .before .before .before .before .before .before .before .next-item .ensures .1 in
     let h = c .before .before .before .before .before .before .before .before .before .enum-told2 .given .1 in
-    let s = c .before .before .before .before .next .given .1 in
+    let s = c .before .before .before .before .before .before .before .next .given .1 in
     let below = tag-level v e q h s in
     let long = v .slots-long in
     omega (arith, below, long)
@@ -203,81 +205,156 @@ array-copy-out-before c =
     .before .loop .inv .memo-long in
     omega (arith, l, long)
 
-renewed-requires : tie.Need-renewed-requires Inv-loop μ-loop
-renewed-requires c κs = (
-  c .before .before .before .before .before .before .before .before .before .before .before .before .before .before .before .before
-      .loop .inv .recalls _ (let l = c .before .slot-of .ensures .1 in let long = c .before .before .before .before .before .before
-      .before .before .before .before .before .before .before .before .before .before .loop .inv .memo-long in omega (arith, l, long)),
-  row-few (c .before .before .before .before .before .before .before .before .before .before .before .before .before .before .before
-      .before .before .before .before .before .before .before .before .before .before .before .before .pre .2) _ (c .before .before
-      .row-of .ensures),
-)
+is-of-requires : tie.Need-is-of-requires Inv-loop μ-loop
+is-of-requires c κs = search needs
+
+made-requires : tie.Need-made-requires Inv-loop μ-loop
+made-requires c κs =
+    row-few (c .before .before .before .before .before .before .before .before .before .before .before .before .before .before
+    .before .before .before .before .before .before .before .before .before .before .before .before .before .before
+    .before .pre .2) _ (c .before .before .before .before .row-of .ensures)
 
 mul-memo : tie.Need-mul-memo Inv-loop μ-loop
 mul-memo c =
-    let l = c .before .before .slot-of .ensures .1 in
+    let l = c .before .before .before .before .slot-of .ensures .1 in
     search (needs, l)
 
 array-set-from-memo : tie.Need-array-set-from-memo Inv-loop μ-loop
 array-set-from-memo c =
-    let l = c .before .before .slot-of .ensures .1 in
+    let l = c .before .before .before .before .slot-of .ensures .1 in
     let long = c .before .before .before .before .before .before .before .before .before .before .before .before .before .before
-    .before .before .before .loop .inv .memo-long in
+    .before .before .before .before .before .loop .inv .memo-long in
     omega (arith, l, long)
 
+mul-known : tie.Need-mul-known Inv-loop μ-loop
+mul-known c =
+    let l = c .before .before .before .slot-of .ensures .1 in
+    search (needs, l)
+
+array-copy-out-known : tie.Need-array-copy-out-known Inv-loop μ-loop
+array-copy-out-known c =
+    let v = c .before .before .before .before .before .before .before .before .before .before .before .before .before .before
+    .before .before .before .before .loop .inv in
+    let l = c .before .before .before .slot-of .ensures .1 in
+    let long = v .memo-long in
+    let there = kept-there l long in
+    let few = row-few (c .before .before .before .before .before .before .before .before .before .before .before .before .before
+    .before .before .before .before .before .before .before .before .before .before .before .before .before .before .before
+    .before .pre .2) _ (c .before .before .before .before .row-of .ensures) in
+    let known : Remembered _ _ _ _ (c .before .before .before .before .before .before .before .before .before .before .before
+    .before .before .before .before .before .before .before .loop .memo) _ (c .if1 .memo) =
+    ⊎-elim
+    (λ z. known-stored _ _ _ _ (c .before .before .before .before .before .before .before .before .before .before .before .before
+    .before .before .before .before .before .before .loop .memo) _ there (z .1 .ensures) (z .2))
+    (λ z. known-there (c .before .before .before .before .before .before .before .before .before .before .before .before .before
+    .before .before .before .before .before .loop .memo) (v .recalls) _ there few _ (c .before .is-of .ensures) (z .0 .left) (z .1))
+    (c .if1 .came) in
+    let same = known .3 in
+    omega (arith, l, long, same)
+
 cast-tests : tie.Need-cast-tests Inv-loop μ-loop
-cast-tests c = search needs
+cast-tests c =
+    let v = c .before .before .before .before .before .before .before .before .before .before .before .before .before .before
+    .before .before .before .before .before .before .loop .inv in
+    let l = c .before .before .before .before .before .slot-of .ensures .1 in
+    let long = v .memo-long in
+    let there = kept-there l long in
+    let few = row-few (c .before .before .before .before .before .before .before .before .before .before .before .before .before
+    .before .before .before .before .before .before .before .before .before .before .before .before .before .before .before
+    .before .before .before .pre .2) _ (c .before .before .before .before .before .before .row-of .ensures) in
+    let known : Remembered _ _ _ _ (c .before .before .before .before .before .before .before .before .before .before .before
+    .before .before .before .before .before .before .before .before .before .loop .memo) _ (c .before .before .if1 .memo) =
+    ⊎-elim
+    (λ z. known-stored _ _ _ _ (c .before .before .before .before .before .before .before .before .before .before .before .before
+    .before .before .before .before .before .before .before .before .loop .memo) _ there (z .1 .ensures) (z .2))
+    (λ z. known-there (c .before .before .before .before .before .before .before .before .before .before .before .before .before
+    .before .before .before .before .before .before .before .loop .memo) (v .recalls) _ there few _ (c .before .before
+    .before .is-of .ensures) (z .0 .left) (z .1))
+    (c .before .before .if1 .came) in
+    let bound = known .2 in
+    search (needs, bound)
 
 add-tests : tie.Need-add-tests Inv-loop μ-loop
 add-tests c =
-    let v = c .before .before .before .before .before .before .before .before .before .before .before .before .before .before .before
-    .before .before .before .loop .inv in
-    let e = c .before .before .before .before .before .before .before .before .before .before .before .before .before .before .before
-    .next-item .ensures .0 in
-    let q = c .before .before .before .before .before .before .before .before .before .before .before .before .before .before .before
-    .next-item .ensures .1 in
-    let h = c .before .before .before .before .before .before .before .before .before .before .before .before .before .enum-told2
-    .given .1 in
-    pass-many v (c .before .before .before .before .before .before .before .before .before .before .before .before .before .before
-    .before .before .before .before .before .before .before .before .before .before .before .before .before .before .before .pre .1)
-    (pass-within v e q h) (c .before .renewed .ensures .1)
+    let v = c .before .before .before .before .before .before .before .before .before .before .before .before .before .before
+    .before .before .before .before .before .before .loop .inv in
+    let e = c .before .before .before .before .before .before .before .before .before .before .before .before .before .before
+    .before .before .before .next-item .ensures .0 in
+    let q = c .before .before .before .before .before .before .before .before .before .before .before .before .before .before
+    .before .before .before .next-item .ensures .1 in
+    let h = c .before .before .before .before .before .before .before .before .before .before .before .before .before .before
+    .before .enum-told2 .given .1 in
+    let l = c .before .before .before .before .before .slot-of .ensures .1 in
+    let long = v .memo-long in
+    let there = kept-there l long in
+    let few = row-few (c .before .before .before .before .before .before .before .before .before .before .before .before .before
+    .before .before .before .before .before .before .before .before .before .before .before .before .before .before .before
+    .before .before .before .pre .2) _ (c .before .before .before .before .before .before .row-of .ensures) in
+    let known : Remembered _ _ _ _ (c .before .before .before .before .before .before .before .before .before .before .before
+    .before .before .before .before .before .before .before .before .before .loop .memo) _ (c .before .before .if1 .memo) =
+    ⊎-elim
+    (λ z. known-stored _ _ _ _ (c .before .before .before .before .before .before .before .before .before .before .before .before
+    .before .before .before .before .before .before .before .before .loop .memo) _ there (z .1 .ensures) (z .2))
+    (λ z. known-there (c .before .before .before .before .before .before .before .before .before .before .before .before .before
+    .before .before .before .before .before .before .before .loop .memo) (v .recalls) _ there few _ (c .before .before
+    .before .is-of .ensures) (z .0 .left) (z .1))
+    (c .before .before .if1 .came) in
+    pass-many v (c .before .before .before .before .before .before .before .before .before .before .before .before .before
+    .before .before .before .before .before .before .before .before .before .before .before .before .before .before .before
+    .before .before .before .pre .1) (pass-within v e q h) (known .2)
 
 judged-requires : tie.Need-judged-requires Inv-loop μ-loop
 judged-requires c κs =
-    let v = c .before .before .before .before .before .before .before .before .before .before .before .before .before .before .before
-    .before .before .before .loop .inv in
-    let e = c .before .before .before .before .before .before .before .before .before .before .before .before .before .before .before
-    .next-item .ensures .0 in
-    let q = c .before .before .before .before .before .before .before .before .before .before .before .before .before .before .before
-    .next-item .ensures .1 in
-    let h = c .before .before .before .before .before .before .before .before .before .before .before .before .before .enum-told2
-    .given .1 in
-    let s = c .before .before .before .before .before .before .before .before .next .given .1 in (
-      c .before .before .before .before .before .before .before .before .before .before .before .before .before .before .before .before
-          .before .before .before .before .before .before .before .before .before .before .before .before .before .pre .0,
-      c .before .before .before .before .before .before .before .before .before .before .before .before .before .before .before .before
-          .before .before .before .before .before .before .before .before .before .before .before .before .before .pre .2,
-      c .before .before .before .before .before .before .before .before .before .before .before .before .before .before .before .before
-          .before .before .before .before .before .before .before .before .any .ensures,
+    let v = c .before .before .before .before .before .before .before .before .before .before .before .before .before .before
+    .before .before .before .before .before .before .loop .inv in
+    let e = c .before .before .before .before .before .before .before .before .before .before .before .before .before .before
+    .before .before .before .next-item .ensures .0 in
+    let q = c .before .before .before .before .before .before .before .before .before .before .before .before .before .before
+    .before .before .before .next-item .ensures .1 in
+    let h = c .before .before .before .before .before .before .before .before .before .before .before .before .before .before
+    .before .enum-told2 .given .1 in
+    let s = c .before .before .before .before .before .before .before .before .before .before .before .before .before .next .given .1 in
+    let l = c .before .before .before .before .before .slot-of .ensures .1 in
+    let long = v .memo-long in
+    let there = kept-there l long in
+    let few = row-few (c .before .before .before .before .before .before .before .before .before .before .before .before .before
+    .before .before .before .before .before .before .before .before .before .before .before .before .before .before .before
+    .before .before .before .pre .2) _ (c .before .before .before .before .before .before .row-of .ensures) in
+    let known : Remembered _ _ _ _ (c .before .before .before .before .before .before .before .before .before .before .before
+    .before .before .before .before .before .before .before .before .before .loop .memo) _ (c .before .before .if1 .memo) =
+    ⊎-elim
+    (λ z. known-stored _ _ _ _ (c .before .before .before .before .before .before .before .before .before .before .before .before
+    .before .before .before .before .before .before .before .before .loop .memo) _ there (z .1 .ensures) (z .2))
+    (λ z. known-there (c .before .before .before .before .before .before .before .before .before .before .before .before .before
+    .before .before .before .before .before .before .before .loop .memo) (v .recalls) _ there few _ (c .before .before
+    .before .is-of .ensures) (z .0 .left) (z .1))
+    (c .before .before .if1 .came) in (
+      c .before .before .before .before .before .before .before .before .before .before .before .before .before .before .before
+          .before .before .before .before .before .before .before .before .before .before .before .before .before .before .before
+          .before .pre .0,
+      c .before .before .before .before .before .before .before .before .before .before .before .before .before .before .before
+          .before .before .before .before .before .before .before .before .before .before .before .before .before .before .before
+          .before .pre .2,
+      c .before .before .before .before .before .before .before .before .before .before .before .before .before .before .before
+          .before .before .before .before .before .before .before .before .before .before .before .any .ensures,
       tag-behind v e q h s,
       tag-head v e q h s,
-      row-few (c .before .before .before .before .before .before .before .before .before .before .before .before .before .before
-          .before .before .before .before .before .before .before .before .before .before .before .before .before .before .before .pre
-          .2) _ (c .before .before .before .before .row-of .ensures),
-      verdict-told-by _ _ _ _ (c .before .renewed .ensures),
+      few,
+      verdict-told-by _ _ _ _ (known .1, known .2),
     )
 
-add-if1 : tie.Need-add-if1 Inv-loop μ-loop
-add-if1 c =
-    let v = c .before .before .before .before .before .before .before .before .before .before .before .before .before .before .before
-    .before .before .before .before .loop .inv in
-    let e = c .before .before .before .before .before .before .before .before .before .before .before .before .before .before .before
-    .before .next-item .ensures .0 in
-    let q = c .before .before .before .before .before .before .before .before .before .before .before .before .before .before .before
-    .before .next-item .ensures .1 in
+add-if2 : tie.Need-add-if2 Inv-loop μ-loop
+add-if2 c =
+    let v = c .before .before .before .before .before .before .before .before .before .before .before .before .before .before
+    .before .before .before .before .before .before .before .loop .inv in
+    let e = c .before .before .before .before .before .before .before .before .before .before .before .before .before .before
+    .before .before .before .before .next-item .ensures .0 in
+    let q = c .before .before .before .before .before .before .before .before .before .before .before .before .before .before
+    .before .before .before .before .next-item .ensures .1 in
     let h = c .before .before .before .before .before .before .before .before .before .before .before .before .before .before
-    .enum-told2 .given .1 in
-    let s = c .before .before .before .before .before .before .before .before .before .next .given .1 in
+    .before .before .enum-told2 .given .1 in
+    let s = c .before .before .before .before .before .before .before .before .before .before .before .before .before
+    .before .next .given .1 in
     let below = tag-level v e q h s in
     search (needs, below)
 
@@ -299,29 +376,30 @@ mul-slots c = search needs
 array-write-slots : tie.Need-array-write-slots Inv-loop μ-loop
 array-write-slots c =
     let long = c .before .before .before .before .before .before .before .before .before .before .before .before .before .before
-    .before .before .before .before .before .before .loop .inv .slots-long in
-    let l = c .if1 .taken in
+    .before .before .before .before .before .before .before .before .loop .inv .slots-long in
+    let l = c .if2 .taken in
     omega (arith, l, long)
 
 tag-step-requires : tie.Need-tag-step-requires Inv-loop μ-loop
 tag-step-requires c κs =
-    let v = c .before .before .before .before .before .before .before .before .before .before .before .before .before .before .before
-    .before .before .before .before .before .before .before .before .before .loop .inv in
-    let e = c .before .before .before .before .before .before .before .before .before .before .before .before .before .before .before
-    .before .before .before .before .before .before .next-item .ensures .0 in
-    let q = c .before .before .before .before .before .before .before .before .before .before .before .before .before .before .before
-    .before .before .before .before .before .before .next-item .ensures .1 in
-    let h = c .before .before .before .before .before .before .before .before .before .before .before .before .before .before .before
-    .before .before .before .before .enum-told2 .given .1 in
-    let s = c .before .before .before .before .before .before .before .before .before .before .before .before .before .before .next
-    .given .1 in
-    let k = c .before .before .before .before .before .before .before .before .before .before .before .before .before .before .before
+    let v = c .before .before .before .before .before .before .before .before .before .before .before .before .before .before
+    .before .before .before .before .before .before .before .before .before .before .before .before .loop .inv in
+    let e = c .before .before .before .before .before .before .before .before .before .before .before .before .before .before
+    .before .before .before .before .before .before .before .before .before .next-item .ensures .0 in
+    let q = c .before .before .before .before .before .before .before .before .before .before .before .before .before .before
+    .before .before .before .before .before .before .before .before .before .next-item .ensures .1 in
+    let h = c .before .before .before .before .before .before .before .before .before .before .before .before .before .before
+    .before .before .before .before .before .before .before .enum-told2 .given .1 in
+    let s = c .before .before .before .before .before .before .before .before .before .before .before .before .before .before
+    .before .before .before .before .before .next .given .1 in
+    let k = c .before .before .before .before .before .before .before .before .before .before .before .before .before .before
     .before .keep .ensures in (
-      pass-ready v (c .before .before .before .before .before .before .before .before .before .before .before .before .before .before
+      pass-ready v (c .before .before .before .before .before .before .before .before .before .before .before .before .before
           .before .before .before .before .before .before .before .before .before .before .before .before .before .before .before
-          .before .before .before .before .before .before .pre .1) (c .before .before .before .before .before .before .before .before
+          .before .before .before .before .before .before .before .before .before .pre .1) (c .before .before .before .before
           .before .before .before .before .before .before .before .before .before .before .before .before .before .before .before
-          .before .before .before .before .before .before .before .before .before .before .before .before .pre .3) (pass-within v e q h),
+          .before .before .before .before .before .before .before .before .before .before .before .before .before .before .before
+          .before .before .before .pre .3) (pass-within v e q h),
       v .stands .behind,
       v .order,
       tag-from v e q h s,
@@ -333,109 +411,133 @@ tag-step-requires c κs =
 after-requires : tie.Need-after-requires Inv-loop μ-loop
 after-requires c κs =
     pass-deep (c .before .before .before .before .before .before .before .before .before .before .before .before .before .before
-    .before .before .before .before .before .before .before .before .before .before .before .before .before .before .before .loop .inv)
-    (c .before .before .before .before .before .before .before .before .before .before .before .before .before .before .before .before
-    .before .before .before .before .before .before .before .before .before .before .before .before .before .before .before .before
-    .before .before .before .before .before .before .before .before .pre .1)
+    .before .before .before .before .before .before .before .before .before .before .before .before .before .before .before
+    .before .before .loop .inv) (c .before .before .before .before .before .before .before .before .before .before .before
+    .before .before .before .before .before .before .before .before .before .before .before .before .before .before .before
+    .before .before .before .before .before .before .before .before .before .before .before .before .before .before .before
+    .before .pre .1)
 
 loop-less : tie.Need-loop-less Inv-loop μ-loop
 loop-less c =
-    let v = c .before .before .before .before .before .before .before .before .before .before .before .before .before .before .before
-    .before .before .before .before .before .before .before .before .before .before .before .before .before .before .before .loop .inv in
-    let e = c .before .before .before .before .before .before .before .before .before .before .before .before .before .before .before
-    .before .before .before .before .before .before .before .before .before .before .before .before .next-item .ensures .0 in
-    let q = c .before .before .before .before .before .before .before .before .before .before .before .before .before .before .before
-    .before .before .before .before .before .before .before .before .before .before .before .before .next-item .ensures .1 in
-    let h = c .before .before .before .before .before .before .before .before .before .before .before .before .before .before .before
-    .before .before .before .before .before .before .before .before .before .before .enum-told2 .given .1 in
-    let s = c .before .before .before .before .before .before .before .before .before .before .before .before .before .before .before
-    .before .before .before .before .before .next .given .1 in
+    let v = c .before .before .before .before .before .before .before .before .before .before .before .before .before .before
+    .before .before .before .before .before .before .before .before .before .before .before .before .before .before .before
+    .before .before .before .loop .inv in
+    let e = c .before .before .before .before .before .before .before .before .before .before .before .before .before .before
+    .before .before .before .before .before .before .before .before .before .before .before .before .before .before
+    .before .next-item .ensures .0 in
+    let q = c .before .before .before .before .before .before .before .before .before .before .before .before .before .before
+    .before .before .before .before .before .before .before .before .before .before .before .before .before .before
+    .before .next-item .ensures .1 in
+    let h = c .before .before .before .before .before .before .before .before .before .before .before .before .before .before
+    .before .before .before .before .before .before .before .before .before .before .before .before .before .enum-told2 .given .1 in
+    let s = c .before .before .before .before .before .before .before .before .before .before .before .before .before .before
+    .before .before .before .before .before .before .before .before .before .before .before .next .given .1 in
     tag-less v e q h s
 
 loop-again : tie.Need-loop-again Inv-loop μ-loop
 loop-again c =
-    let v = c .before .before .before .before .before .before .before .before .before .before .before .before .before .before .before
-    .before .before .before .before .before .before .before .before .before .before .before .before .before .before .before .loop .inv in
-    let e = c .before .before .before .before .before .before .before .before .before .before .before .before .before .before .before
-    .before .before .before .before .before .before .before .before .before .before .before .before .next-item .ensures .0 in
-    let q = c .before .before .before .before .before .before .before .before .before .before .before .before .before .before .before
-    .before .before .before .before .before .before .before .before .before .before .before .before .next-item .ensures .1 in
-    let h = c .before .before .before .before .before .before .before .before .before .before .before .before .before .before .before
-    .before .before .before .before .before .before .before .before .before .before .enum-told2 .given .1 in
-    let s = c .before .before .before .before .before .before .before .before .before .before .before .before .before .before .before
-    .before .before .before .before .before .next .given .1 in
-    let k = c .before .before .before .before .before .before .before .before .before .before .before .before .before .before .before
+    let v = c .before .before .before .before .before .before .before .before .before .before .before .before .before .before
+    .before .before .before .before .before .before .before .before .before .before .before .before .before .before .before
+    .before .before .before .loop .inv in
+    let e = c .before .before .before .before .before .before .before .before .before .before .before .before .before .before
+    .before .before .before .before .before .before .before .before .before .before .before .before .before .before
+    .before .next-item .ensures .0 in
+    let q = c .before .before .before .before .before .before .before .before .before .before .before .before .before .before
+    .before .before .before .before .before .before .before .before .before .before .before .before .before .before
+    .before .next-item .ensures .1 in
+    let h = c .before .before .before .before .before .before .before .before .before .before .before .before .before .before
+    .before .before .before .before .before .before .before .before .before .before .before .before .before .enum-told2 .given .1 in
+    let s = c .before .before .before .before .before .before .before .before .before .before .before .before .before .before
+    .before .before .before .before .before .before .before .before .before .before .before .next .given .1 in
+    let k = c .before .before .before .before .before .before .before .before .before .before .before .before .before .before
     .before .before .before .before .before .before .before .keep .ensures in
-    let serves = c .before .before .before .before .before .before .before .before .before .before .before .before .before .before
-    .before .before .before .before .before .before .before .before .before .before .before .before .before .before .before .before
-    .before .before .before .before .before .before .before .before .before .before .before .pre .2 in
-    let f = row-fit serves _ (c .before .before .before .before .before .before .before .before .before .before .before .before .before
-    .before .before .before .row-of .ensures) in
-    let known = c .before .before .before .before .before .before .before .before .before .before .before .before .before .renewed
-    .ensures in
+    let serves = c .before .before .before .before .before .before .before .before .before .before .before .before .before
+    .before .before .before .before .before .before .before .before .before .before .before .before .before .before .before
+    .before .before .before .before .before .before .before .before .before .before .before .before .before .before
+    .before .pre .2 in
+    let f = row-fit serves _ (c .before .before .before .before .before .before .before .before .before .before .before .before
+    .before .before .before .before .before .before .row-of .ensures) in
+    let l = c .before .before .before .before .before .before .before .before .before .before .before .before .before .before
+    .before .before .before .slot-of .ensures .1 in
+    let long = v .memo-long in
+    let there = kept-there l long in
+    let few = row-few (c .before .before .before .before .before .before .before .before .before .before .before .before .before
+    .before .before .before .before .before .before .before .before .before .before .before .before .before .before .before
+    .before .before .before .before .before .before .before .before .before .before .before .before .before .before
+    .before .pre .2) _ (c .before .before .before .before .before .before .before .before .before .before .before .before
+    .before .before .before .before .before .before .row-of .ensures) in
+    let known : Remembered _ _ _ _ (c .before .before .before .before .before .before .before .before .before .before .before
+    .before .before .before .before .before .before .before .before .before .before .before .before .before .before .before
+    .before .before .before .before .before .before .loop .memo) _ (c .before .before .before .before .before .before .before
+    .before .before .before .before .before .before .before .if1 .memo) =
+    ⊎-elim
+    (λ z. known-stored _ _ _ _ (c .before .before .before .before .before .before .before .before .before .before .before .before
+    .before .before .before .before .before .before .before .before .before .before .before .before .before .before .before
+    .before .before .before .before .before .loop .memo) _ there (z .1 .ensures) (z .2))
+    (λ z. known-there (c .before .before .before .before .before .before .before .before .before .before .before .before .before
+    .before .before .before .before .before .before .before .before .before .before .before .before .before .before .before
+    .before .before .before .before .loop .memo) (v .recalls) _ there few _ (c .before .before .before .before .before
+    .before .before .before .before .before .before .before .before .before .before .is-of .ensures) (z .0 .left) (z .1))
+    (c .before .before .before .before .before .before .before .before .before .before .before .before .before .before .if1 .came) in
     pass-tag v e q h s (k .0) (k .1) (serves .sound) refl f
-    (verdict-judged v e q h s (k .0) (k .1) (serves .sound) refl f (c .before .before .before .before .before .before .before .before
-    .before .before .before .judged .ensures))
-    (⊎-elim (λ z. stored _ (z .0 .taken) (below-told _ _ _ _ known) (z .1)) (λ z. inr (z .0 .left, z .1)) (c .before .before .before
-    .before .before .before .before .before .before .before .if1 .came))
-    _ refl (known-recalls _ _ _ _ known)
+    (verdict-judged v e q h s (k .0) (k .1) (serves .sound) refl f (c .before .before .before .before .before .before .before
+    .before .before .before .before .judged .ensures))
+    (⊎-elim (λ z. stored _ (z .0 .taken) (below-told _ _ _ _ (known .1, known .2)) (z .1)) (λ z. inr (z .0 .left, z .1)) (c
+    .before .before .before .before .before .before .before .before .before .before .if2 .came))
+    _ (known .0) (known-recalls _ _ _ _ (known .1, known .2))
     (⊎-elim (λ z. inl (_, _, z .2)) (λ z. inr (z .2)) (c .before .before .before .before .before .before .before .before .before
-    .before .if1 .came))
-    (tests-told _ _ _ _ known) (c .before .before .before .before .before .tag-step .ensures) (c .after .ensures)
+    .before .if2 .came))
+    (tests-told _ _ _ _ (known .1, known .2)) (c .before .before .before .before .before .tag-step .ensures) (c .after .ensures)
 
 other-step-requires : tie.Need-other-step-requires Inv-loop μ-loop
 other-step-requires c κs =
-    let v = c .before .before .before .before .before .before .before .before .before .before .before .before .before .loop .inv in
-    let e = c .before .before .before .before .before .before .before .before .before .before .next-item .ensures .0 in
-    let q = c .before .before .before .before .before .before .before .before .before .before .next-item .ensures .1 in
-    let h = c .before .before .before .before .before .before .before .before .enum-told2 .given .1 in
-    let k = c .before .before .before .before .before .keep .ensures in (
-      pass-ready v (c .before .before .before .before .before .before .before .before .before .before .before .before .before .before
-          .before .before .before .before .before .before .before .before .before .before .pre .1) (c .before .before .before .before
+    let v = c .before .before .before .before .before .before .before .before .before .before .loop .inv in
+    let e = c .before .before .before .before .before .before .before .next-item .ensures .0 in
+    let q = c .before .before .before .before .before .before .before .next-item .ensures .1 in
+    let h = c .before .before .before .before .before .enum-told2 .given .1 in (
+      pass-ready v (c .before .before .before .before .before .before .before .before .before .before .before .before .before
+          .before .before .before .before .before .before .before .before .pre .1) (c .before .before .before .before .before
           .before .before .before .before .before .before .before .before .before .before .before .before .before .before .before
-          .before .before .before .before .before .pre .3) (pass-within v e q h),
+          .before .pre .3) (pass-within v e q h),
       v .stands .behind,
       v .order,
       pass-inside v e q h,
       v .judging .within,
-      pass-placed v e q h (k .0) (k .1),
+      pass-placed v e q h,
     )
 
 after-requires-2 : tie.Need-after-requires-2 Inv-loop μ-loop
 after-requires-2 c κs =
     pass-deep (c .before .before .before .before .before .before .before .before .before .before .before .before .before .before
-    .before .before .before .before .loop .inv) (c .before .before .before .before .before .before .before .before .before .before
-    .before .before .before .before .before .before .before .before .before .before .before .before .before .before .before .before
-    .before .before .before .pre .1)
+    .before .loop .inv) (c .before .before .before .before .before .before .before .before .before .before .before .before
+    .before .before .before .before .before .before .before .before .before .before .before .before .before .before .pre .1)
 
 end-of-requires : tie.Need-end-of-requires Inv-loop μ-loop
 end-of-requires c κs = search needs
 
 loop-less-2 : tie.Need-loop-less-2 Inv-loop μ-loop
 loop-less-2 c =
-    let v = c .before .before .before .before .before .before .before .before .before .before .before .before .before .before .before
-    .before .before .before .before .before .loop .inv in
-    let e = c .before .before .before .before .before .before .before .before .before .before .before .before .before .before .before
-    .before .before .next-item .ensures .0 in
-    let q = c .before .before .before .before .before .before .before .before .before .before .before .before .before .before .before
-    .before .before .next-item .ensures .1 in
-    let h = c .before .before .before .before .before .before .before .before .before .before .before .before .before .before .before
-    .enum-told2 .given .1 in
+    let v = c .before .before .before .before .before .before .before .before .before .before .before .before .before .before
+    .before .before .before .loop .inv in
+    let e = c .before .before .before .before .before .before .before .before .before .before .before .before .before
+    .before .next-item .ensures .0 in
+    let q = c .before .before .before .before .before .before .before .before .before .before .before .before .before
+    .before .next-item .ensures .1 in
+    let h = c .before .before .before .before .before .before .before .before .before .before .before .before .enum-told2 .given .1 in
     pass-less v e q h (c .end-of .ensures)
 
 loop-again-2 : tie.Need-loop-again-2 Inv-loop μ-loop
 loop-again-2 c =
-    let v = c .before .before .before .before .before .before .before .before .before .before .before .before .before .before .before
-    .before .before .before .before .before .loop .inv in
-    let e = c .before .before .before .before .before .before .before .before .before .before .before .before .before .before .before
-    .before .before .next-item .ensures .0 in
-    let q = c .before .before .before .before .before .before .before .before .before .before .before .before .before .before .before
-    .before .before .next-item .ensures .1 in
-    let h = c .before .before .before .before .before .before .before .before .before .before .before .before .before .before .before
-    .enum-told2 .given .1 in
-    let k = c .before .before .before .before .before .before .before .before .before .before .before .before .keep .ensures in
-    pass-other v e q h (k .0) (k .1) (c .before .before .before .before .before .before .before .before .before .before .before .match2
-    .keys2) (c .before .before .before .before .before .before .other-step .ensures) (c .before .after2 .ensures) (c .end-of .ensures)
+    let v = c .before .before .before .before .before .before .before .before .before .before .before .before .before .before
+    .before .before .before .loop .inv in
+    let e = c .before .before .before .before .before .before .before .before .before .before .before .before .before
+    .before .next-item .ensures .0 in
+    let q = c .before .before .before .before .before .before .before .before .before .before .before .before .before
+    .before .next-item .ensures .1 in
+    let h = c .before .before .before .before .before .before .before .before .before .before .before .before .enum-told2 .given .1 in
+    pass-other v e q h (c .before .before .before .before .before .before .before .before .before .before
+    .before .match2 .keys2) (c .before .before .before .before .before .before .other-step .ensures) (c
+    .before .after2 .ensures) (c .end-of .ensures)
 
 pub pass-spec : {M : Type 1} → statement M
 pass-spec =
@@ -460,8 +562,8 @@ pass-spec =
     same-length-4
     returns-2
     enum-told-2
-    keep-requires
     enum-known-next
+    keep-requires
     mul-parent
     array-copy-out-parent
     add-a
@@ -475,13 +577,16 @@ pass-spec =
     slot-of-requires
     mul-before
     array-copy-out-before
-    renewed-requires
+    is-of-requires
+    made-requires
     mul-memo
     array-set-from-memo
+    mul-known
+    array-copy-out-known
     cast-tests
     add-tests
     judged-requires
-    add-if1
+    add-if2
     add-states
     mul-states
     array-set-from-states

@@ -1,12 +1,13 @@
--- `all_through` meets its contract. The invariant is `Going`: from wherever the client stood, what it has come to is a pass in itself, and it
--- stands behind k items. Each need is handed its law of proofs/Going.antt.
+-- `all_through` meets its contract. The invariant is `Going`: from wherever the client stood, what it has come to is a pass in itself, and
+-- it stands behind k items. Each need is handed its law of proofs/Going.antt.
 use mathlib.Core.Path.{refl}
 use mathlib.Core.Logic.{⊎-elim, inl, inr}
 use native.Mathlib.Omega.{arith}
 use Prim.Native.Nat.{_-_}
 use borrow.Author.Needs.{needs}
 use Rattle.matcher.proofs.Serving.{row-few, row-fit}
-use Rattle.passes.proofs.Passing.{pass-ready, pass-many, pass-deep, known-recalls, tests-told, below-told, verdict-told-by}
+use Rattle.passes.proofs.Passing.{pass-ready, pass-many, pass-deep, Remembered, kept-there, known-there, known-stored, known-recalls}
+use Rattle.passes.proofs.Passing.{tests-told, below-told, verdict-told-by}
 use Rattle.passes.proofs.States.{stored}
 use Rattle.seats.proofs.Going.{Going, begun-placed, going-start, going, going-over, going-near, going-inside, going-placed}
 use Rattle.seats.proofs.Going.{going-other, going-level, going-from, going-to, going-end, going-name, going-behind, going-head}
@@ -31,8 +32,11 @@ any-requires c κs =
     search needs
 
 states-of-requires : tie.Need-states-of-requires Inv-loop μ-loop
-states-of-requires c κs =
-    (c .before .before .before .before .before .before .before .before .before .pre .4, c .before .before .before .before .before .before .before .before .before .pre .1, begun-placed (c .before .before .before .before .before .before .before .before .before .pre .5))
+states-of-requires c κs = (
+  c .before .before .before .before .before .before .before .before .before .pre .4,
+  c .before .before .before .before .before .before .before .before .before .pre .1,
+  begun-placed (c .before .before .before .before .before .before .before .before .before .pre .5),
+)
 
 nothing-requires : tie.Need-nothing-requires Inv-loop μ-loop
 nothing-requires c κs =
@@ -40,7 +44,9 @@ nothing-requires c κs =
 
 loop-holds : tie.Need-loop-holds Inv-loop μ-loop
 loop-holds c =
-    going-start _ (c .before .before .before .before .before .before .before .before .before .before .before .before .pre .5) (c .before .before .before .before .before .before .before .before .before .before .before .before .pre .6) (c .before .before .states-of .ensures) (c .nothing .ensures)
+    going-start _ (c .before .before .before .before .before .before .before .before .before .before .before .before .pre .5) (c .before
+    .before .before .before .before .before .before .before .before .before .before .before .pre .6) (c .before .before .states-of .ensures)
+    (c .nothing .ensures)
 
 item-on-requires : tie.Need-item-on-requires Inv-loop μ-loop
 item-on-requires c κs =
@@ -48,39 +54,49 @@ item-on-requires c κs =
     let l = c .loop-test .taken in
     omega (arith, few, l)
 
-keep-requires : tie.Need-keep-requires Inv-loop μ-loop
-keep-requires c κs =
-    let w = c .before .before .before .before .loop .inv in
-    let names = going w .judging .names in
-    let near = going-near w (c .before .before .before .loop-test .taken) in
-    let small = c .before .before .before .before .before .before .before .before .before .before .before .before .before .before .before .before .before .pre .1 in
-    (names .starts-long, names .lens-long, omega (arith, near, small))
-
 enum-known-next : tie.Need-enum-known-next Inv-loop μ-loop
 enum-known-next c =
     search needs
 
+keep-requires : tie.Need-keep-requires Inv-loop μ-loop
+keep-requires c κs =
+    let w = c .before .before .before .before .before .before .before .loop .inv in
+    let names = going w .judging .names in
+    let near = going-near w (c .before .before .before .before .before .before .loop-test .taken) in
+    let small = c .before .before .before .before .before .before .before .before .before .before .before .before .before .before .before
+    .before .before .before .before .before .pre .1 in
+    (names .starts-long, names .lens-long, omega (arith, near, small))
+
 mul-parent : tie.Need-mul-parent Inv-loop μ-loop
 mul-parent c =
-    let below = going-level (c .before .before .before .before .before .before .before .before .loop .inv) (c .before .before .before .before .before .before .before .loop-test .taken) (c .before .before .before .before .before .before .item-on .ensures) (c .before .next .given .1) in
+    let below = going-level (c .before .before .before .before .before .before .before .before .loop .inv) (c .before .before .before
+    .before .before .before .before .loop-test .taken) (c .before .before .before .before .before .before .item-on .ensures) (c .before
+    .before .before .before .next .given .1) in
     search (needs, below)
 
 array-copy-out-parent : tie.Need-array-copy-out-parent Inv-loop μ-loop
 array-copy-out-parent c =
-    let below = going-level (c .before .before .before .before .before .before .before .before .loop .inv) (c .before .before .before .before .before .before .before .loop-test .taken) (c .before .before .before .before .before .before .item-on .ensures) (c .before .next .given .1) in
+    let below = going-level (c .before .before .before .before .before .before .before .before .loop .inv) (c .before .before .before
+    .before .before .before .before .loop-test .taken) (c .before .before .before .before .before .before .item-on .ensures) (c .before
+    .before .before .before .next .given .1) in
     let long = going (c .before .before .before .before .before .before .before .before .loop .inv) .long in
     omega (arith, below, long)
 
 add-a : tie.Need-add-a Inv-loop μ-loop
 add-a c =
-    let near = going-near (c .before .before .before .before .before .before .before .before .before .loop .inv) (c .before .before .before .before .before .before .before .before .loop-test .taken) in
-    let small = c .before .before .before .before .before .before .before .before .before .before .before .before .before .before .before .before .before .before .before .before .before .before .pre .1 in
+    let near = going-near (c .before .before .before .before .before .before .before .before .before .loop .inv) (c .before .before .before
+    .before .before .before .before .before .loop-test .taken) in
+    let small = c .before .before .before .before .before .before .before .before .before .before .before .before .before .before .before
+    .before .before .before .before .before .before .before .pre .1 in
     record { fits = omega (arith, near, small) }
 
 add-row-of : tie.Need-add-row-of Inv-loop μ-loop
 add-row-of c =
-    let inside = going-name (c .before .before .before .before .before .before .before .before .before .loop .inv) (c .before .before .before .before .before .before .before .before .loop-test .taken) (c .before .before .before .before .before .before .before .item-on .ensures) (c .before .before .next .given .1) in
-    let small = c .before .before .before .before .before .before .before .before .before .before .before .before .before .before .before .before .before .before .before .before .before .before .pre .1 in
+    let inside = going-name (c .before .before .before .before .before .before .before .before .before .loop .inv) (c .before .before
+    .before .before .before .before .before .before .loop-test .taken) (c .before .before .before .before .before .before .before .item-on
+    .ensures) (c .before .before .before .before .before .next .given .1) in
+    let small = c .before .before .before .before .before .before .before .before .before .before .before .before .before .before .before
+    .before .before .before .before .before .before .before .pre .1 in
     record { fits = omega (arith, inside, small) }
 
 sub-row-of : tie.Need-sub-row-of Inv-loop μ-loop
@@ -93,21 +109,30 @@ part-row-of-start c =
 
 part-row-of-end : tie.Need-part-row-of-end Inv-loop μ-loop
 part-row-of-end c =
-    let inside = going-name (c .before .before .before .before .before .before .before .before .before .loop .inv) (c .before .before .before .before .before .before .before .before .loop-test .taken) (c .before .before .before .before .before .before .before .item-on .ensures) (c .before .before .next .given .1) in
+    let inside = going-name (c .before .before .before .before .before .before .before .before .before .loop .inv) (c .before .before
+    .before .before .before .before .before .before .loop-test .taken) (c .before .before .before .before .before .before .before .item-on
+    .ensures) (c .before .before .before .before .before .next .given .1) in
     search (needs, inside)
 
 row-of-requires : tie.Need-row-of-requires Inv-loop μ-loop
 row-of-requires c κs =
-    c .before .before .before .before .before .before .before .before .before .before .before .before .before .before .before .before .before .before .before .before .before .before .before .pre .4
+    c .before .before .before .before .before .before .before .before .before .before .before .before .before .before .before .before
+    .before .before .before .before .before .before .before .pre .4
 
 mul-slot-of : tie.Need-mul-slot-of Inv-loop μ-loop
 mul-slot-of c =
-    let below = going-level (c .before .before .before .before .before .before .before .before .before .before .before .loop .inv) (c .before .before .before .before .before .before .before .before .before .before .loop-test .taken) (c .before .before .before .before .before .before .before .before .before .item-on .ensures) (c .before .before .before .before .next .given .1) in
+    let below = going-level (c .before .before .before .before .before .before .before .before .before .before .before .loop .inv) (c
+    .before .before .before .before .before .before .before .before .before .before .loop-test .taken) (c .before .before .before .before
+    .before .before .before .before .before .item-on .ensures) (c .before .before .before .before .before .before .before .next .given .1)
+    in
     search (needs, below)
 
 array-read-slot-of : tie.Need-array-read-slot-of Inv-loop μ-loop
 array-read-slot-of c =
-    let below = going-level (c .before .before .before .before .before .before .before .before .before .before .before .loop .inv) (c .before .before .before .before .before .before .before .before .before .before .loop-test .taken) (c .before .before .before .before .before .before .before .before .before .item-on .ensures) (c .before .before .before .before .next .given .1) in
+    let below = going-level (c .before .before .before .before .before .before .before .before .before .before .before .loop .inv) (c
+    .before .before .before .before .before .before .before .before .before .before .loop-test .taken) (c .before .before .before .before
+    .before .before .before .before .before .item-on .ensures) (c .before .before .before .before .before .before .before .next .given .1)
+    in
     let long = going (c .before .before .before .before .before .before .before .before .before .before .before .loop .inv) .slots-long in
     omega (arith, below, long)
 
@@ -123,53 +148,139 @@ mul-before c =
 array-copy-out-before : tie.Need-array-copy-out-before Inv-loop μ-loop
 array-copy-out-before c =
     let l = c .slot-of .ensures .1 in
-    let long = going (c .before .before .before .before .before .before .before .before .before .before .before .before .loop .inv) .memo-long in
+    let long = going (c .before .before .before .before .before .before .before .before .before .before .before .before .loop .inv)
+    .memo-long in
     omega (arith, l, long)
 
-renewed-requires : tie.Need-renewed-requires Inv-loop μ-loop
-renewed-requires c κs =
-    let v = going (c .before .before .before .before .before .before .before .before .before .before .before .before .before .loop .inv) in
-    let l = c .before .slot-of .ensures .1 in
-    let long = v .memo-long in
-    (v .recalls _ (omega (arith, l, long)), row-few (c .before .before .before .before .before .before .before .before .before .before .before .before .before .before .before .before .before .before .before .before .before .before .before .before .before .before .pre .4) _ (c .before .before .row-of .ensures))
+is-of-requires : tie.Need-is-of-requires Inv-loop μ-loop
+is-of-requires c κs =
+    search needs
+
+made-requires : tie.Need-made-requires Inv-loop μ-loop
+made-requires c κs =
+    row-few (c .before .before .before .before .before .before .before .before .before .before .before .before .before .before .before
+    .before .before .before .before .before .before .before .before .before .before .before .before .before .pre .4) _ (c .before .before
+    .before .before .row-of .ensures)
 
 mul-memo : tie.Need-mul-memo Inv-loop μ-loop
 mul-memo c =
-    let l = c .before .before .slot-of .ensures .1 in
+    let l = c .before .before .before .before .slot-of .ensures .1 in
     search (needs, l)
 
 array-set-from-memo : tie.Need-array-set-from-memo Inv-loop μ-loop
 array-set-from-memo c =
-    let l = c .before .before .slot-of .ensures .1 in
-    let long = going (c .before .before .before .before .before .before .before .before .before .before .before .before .before .before .loop .inv) .memo-long in
+    let l = c .before .before .before .before .slot-of .ensures .1 in
+    let long = going (c .before .before .before .before .before .before .before .before .before .before .before .before .before .before
+    .before .before .loop .inv) .memo-long in
     omega (arith, l, long)
+
+mul-known : tie.Need-mul-known Inv-loop μ-loop
+mul-known c =
+    let l = c .before .before .before .slot-of .ensures .1 in
+    search (needs, l)
+
+array-copy-out-known : tie.Need-array-copy-out-known Inv-loop μ-loop
+array-copy-out-known c =
+    let v = going (c .before .before .before .before .before .before .before .before .before .before .before .before .before .before .before
+    .loop .inv) in
+    let l = c .before .before .before .slot-of .ensures .1 in
+    let there = kept-there l (v .memo-long) in
+    let few = row-few (c .before .before .before .before .before .before .before .before .before .before .before .before .before .before
+    .before .before .before .before .before .before .before .before .before .before .before .before .before .before .pre .4) _ (c .before
+    .before .before .before .row-of .ensures) in
+    let known : Remembered _ _ _ _ (c .before .before .before .before .before .before .before .before .before .before .before .before
+    .before .before .before .loop .memo) _ (c .if1 .memo) =
+    ⊎-elim (λ z. known-stored _ _ _ _ (c .before .before .before .before .before .before .before .before .before .before .before .before
+    .before .before .before .loop .memo) _ there (z .1 .ensures) (z .2))
+    (λ z. known-there (c .before .before .before .before .before .before .before .before .before .before .before .before .before .before
+    .before .loop .memo) (v .recalls) _ there few _ (c .before .is-of .ensures) (z .0 .left) (z .1)) (c .if1 .came) in
+    let long = v .memo-long in
+    let same = known .3 in
+    omega (arith, l, long, same)
 
 cast-tests : tie.Need-cast-tests Inv-loop μ-loop
 cast-tests c =
-    search needs
+    let v = going (c .before .before .before .before .before .before .before .before .before .before .before .before .before .before .before
+    .before .before .loop .inv) in
+    let l = c .before .before .before .before .before .slot-of .ensures .1 in
+    let there = kept-there l (v .memo-long) in
+    let few = row-few (c .before .before .before .before .before .before .before .before .before .before .before .before .before .before
+    .before .before .before .before .before .before .before .before .before .before .before .before .before .before .before .before .pre .4)
+    _ (c .before .before .before .before .before .before .row-of .ensures) in
+    let known : Remembered _ _ _ _ (c .before .before .before .before .before .before .before .before .before .before .before .before
+    .before .before .before .before .before .loop .memo) _ (c .before .before .if1 .memo) =
+    ⊎-elim (λ z. known-stored _ _ _ _ (c .before .before .before .before .before .before .before .before .before .before .before .before
+    .before .before .before .before .before .loop .memo) _ there (z .1 .ensures) (z .2))
+    (λ z. known-there (c .before .before .before .before .before .before .before .before .before .before .before .before .before .before
+    .before .before .before .loop .memo) (v .recalls) _ there few _ (c .before .before .before .is-of .ensures) (z .0 .left) (z .1)) (c
+    .before .before .if1 .came) in
+    let bound = known .2 in
+    search (needs, bound)
 
 add-tests : tie.Need-add-tests Inv-loop μ-loop
 add-tests c =
-    pass-many (going (c .before .before .before .before .before .before .before .before .before .before .before .before .before .before .before .loop .inv)) (c .before .before .before .before .before .before .before .before .before .before .before .before .before .before .before .before .before .before .before .before .before .before .before .before .before .before .before .before .pre .1) (going-near (c .before .before .before .before .before .before .before .before .before .before .before .before .before .before .before .loop .inv) (c .before .before .before .before .before .before .before .before .before .before .before .before .before .before .loop-test .taken)) (c .before .renewed .ensures .1)
+    let v = going (c .before .before .before .before .before .before .before .before .before .before .before .before .before .before .before
+    .before .before .loop .inv) in
+    let l = c .before .before .before .before .before .slot-of .ensures .1 in
+    let there = kept-there l (v .memo-long) in
+    let few = row-few (c .before .before .before .before .before .before .before .before .before .before .before .before .before .before
+    .before .before .before .before .before .before .before .before .before .before .before .before .before .before .before .before .pre .4)
+    _ (c .before .before .before .before .before .before .row-of .ensures) in
+    let known : Remembered _ _ _ _ (c .before .before .before .before .before .before .before .before .before .before .before .before
+    .before .before .before .before .before .loop .memo) _ (c .before .before .if1 .memo) =
+    ⊎-elim (λ z. known-stored _ _ _ _ (c .before .before .before .before .before .before .before .before .before .before .before .before
+    .before .before .before .before .before .loop .memo) _ there (z .1 .ensures) (z .2))
+    (λ z. known-there (c .before .before .before .before .before .before .before .before .before .before .before .before .before .before
+    .before .before .before .loop .memo) (v .recalls) _ there few _ (c .before .before .before .is-of .ensures) (z .0 .left) (z .1)) (c
+    .before .before .if1 .came) in
+    pass-many v (c .before .before .before .before .before .before .before .before .before .before .before .before .before .before .before
+    .before .before .before .before .before .before .before .before .before .before .before .before .before .before .before .pre .1)
+    (going-near (c .before .before .before .before .before .before .before .before .before .before .before .before .before .before .before
+    .before .before .loop .inv) (c .before .before .before .before .before .before .before .before .before .before .before .before .before
+    .before .before .before .loop-test .taken)) (known .2)
 
 judged-requires : tie.Need-judged-requires Inv-loop μ-loop
 judged-requires c κs =
-    let w = c .before .before .before .before .before .before .before .before .before .before .before .before .before .before .before .loop .inv in
-    let l = c .before .before .before .before .before .before .before .before .before .before .before .before .before .before .loop-test .taken in
-    let e = c .before .before .before .before .before .before .before .before .before .before .before .before .before .item-on .ensures in
-    let s = c .before .before .before .before .before .before .before .before .next .given .1 in (
-      c .before .before .before .before .before .before .before .before .before .before .before .before .before .before .before .before .before .before .before .before .before .before .before .before .before .before .before .before .pre .0,
-      c .before .before .before .before .before .before .before .before .before .before .before .before .before .before .before .before .before .before .before .before .before .before .before .before .before .before .before .before .pre .4,
-      c .before .before .before .before .before .before .before .before .before .before .before .before .before .before .before .before .before .before .before .before .before .any .ensures,
-      going-behind w l e s,
-      going-head w l e s,
-      row-few (c .before .before .before .before .before .before .before .before .before .before .before .before .before .before .before .before .before .before .before .before .before .before .before .before .before .before .before .before .pre .4) _ (c .before .before .before .before .row-of .ensures),
-      verdict-told-by _ _ _ _ (c .before .renewed .ensures),
+    let v = going (c .before .before .before .before .before .before .before .before .before .before .before .before .before .before .before
+    .before .before .loop .inv) in
+    let l = c .before .before .before .before .before .slot-of .ensures .1 in
+    let there = kept-there l (v .memo-long) in
+    let few = row-few (c .before .before .before .before .before .before .before .before .before .before .before .before .before .before
+    .before .before .before .before .before .before .before .before .before .before .before .before .before .before .before .before .pre .4)
+    _ (c .before .before .before .before .before .before .row-of .ensures) in
+    let known : Remembered _ _ _ _ (c .before .before .before .before .before .before .before .before .before .before .before .before
+    .before .before .before .before .before .loop .memo) _ (c .before .before .if1 .memo) =
+    ⊎-elim (λ z. known-stored _ _ _ _ (c .before .before .before .before .before .before .before .before .before .before .before .before
+    .before .before .before .before .before .loop .memo) _ there (z .1 .ensures) (z .2))
+    (λ z. known-there (c .before .before .before .before .before .before .before .before .before .before .before .before .before .before
+    .before .before .before .loop .memo) (v .recalls) _ there few _ (c .before .before .before .is-of .ensures) (z .0 .left) (z .1)) (c
+    .before .before .if1 .came) in
+    let w = c .before .before .before .before .before .before .before .before .before .before .before .before .before .before .before
+    .before .before .loop .inv in
+    let n = c .before .before .before .before .before .before .before .before .before .before .before .before .before .before .before
+    .before .loop-test .taken in
+    let e = c .before .before .before .before .before .before .before .before .before .before .before .before .before .before .before
+    .item-on .ensures in
+    let s = c .before .before .before .before .before .before .before .before .before .before .before .before .before .next .given .1 in (
+      c .before .before .before .before .before .before .before .before .before .before .before .before .before .before .before .before
+          .before .before .before .before .before .before .before .before .before .before .before .before .before .before .pre .0,
+      c .before .before .before .before .before .before .before .before .before .before .before .before .before .before .before .before
+          .before .before .before .before .before .before .before .before .before .before .before .before .before .before .pre .4,
+      c .before .before .before .before .before .before .before .before .before .before .before .before .before .before .before .before
+          .before .before .before .before .before .before .before .any .ensures,
+      going-behind w n e s,
+      going-head w n e s,
+      few,
+      verdict-told-by _ _ _ _ (known .1, known .2),
     )
 
-add-if1 : tie.Need-add-if1 Inv-loop μ-loop
-add-if1 c =
-    let below = going-level (c .before .before .before .before .before .before .before .before .before .before .before .before .before .before .before .before .loop .inv) (c .before .before .before .before .before .before .before .before .before .before .before .before .before .before .before .loop-test .taken) (c .before .before .before .before .before .before .before .before .before .before .before .before .before .before .item-on .ensures) (c .before .before .before .before .before .before .before .before .before .next .given .1) in
+add-if2 : tie.Need-add-if2 Inv-loop μ-loop
+add-if2 c =
+    let below = going-level (c .before .before .before .before .before .before .before .before .before .before .before .before .before
+    .before .before .before .before .before .loop .inv) (c .before .before .before .before .before .before .before .before .before .before
+    .before .before .before .before .before .before .before .loop-test .taken) (c .before .before .before .before .before .before .before
+    .before .before .before .before .before .before .before .before .before .item-on .ensures) (c .before .before .before .before .before
+    .before .before .before .before .before .before .before .before .before .next .given .1) in
     search (needs, below)
 
 add-states : tie.Need-add-states Inv-loop μ-loop
@@ -194,18 +305,28 @@ mul-slots c =
 
 array-write-slots : tie.Need-array-write-slots Inv-loop μ-loop
 array-write-slots c =
-    let long = going (c .before .before .before .before .before .before .before .before .before .before .before .before .before .before .before .before .before .loop .inv) .slots-long in
-    let l = c .if1 .taken in
+    let long = going (c .before .before .before .before .before .before .before .before .before .before .before .before .before .before
+    .before .before .before .before .before .loop .inv) .slots-long in
+    let l = c .if2 .taken in
     omega (arith, l, long)
 
 tag-step-requires : tie.Need-tag-step-requires Inv-loop μ-loop
 tag-step-requires c κs =
-    let w = c .before .before .before .before .before .before .before .before .before .before .before .before .before .before .before .before .before .before .before .before .before .loop .inv in
-    let l = c .before .before .before .before .before .before .before .before .before .before .before .before .before .before .before .before .before .before .before .before .loop-test .taken in
-    let e = c .before .before .before .before .before .before .before .before .before .before .before .before .before .before .before .before .before .before .before .item-on .ensures in
-    let s = c .before .before .before .before .before .before .before .before .before .before .before .before .before .before .next .given .1 in
-    let k = c .before .before .before .before .before .before .before .before .before .before .before .before .before .before .before .before .keep .ensures in (
-      pass-ready (going w) (c .before .before .before .before .before .before .before .before .before .before .before .before .before .before .before .before .before .before .before .before .before .before .before .before .before .before .before .before .before .before .before .before .before .before .pre .1) (c .before .before .before .before .before .before .before .before .before .before .before .before .before .before .before .before .before .before .before .before .before .before .before .before .before .before .before .before .before .before .before .before .before .before .pre .2) (going-near w l),
+    let w = c .before .before .before .before .before .before .before .before .before .before .before .before .before .before .before
+    .before .before .before .before .before .before .before .before .loop .inv in
+    let l = c .before .before .before .before .before .before .before .before .before .before .before .before .before .before .before
+    .before .before .before .before .before .before .before .loop-test .taken in
+    let e = c .before .before .before .before .before .before .before .before .before .before .before .before .before .before .before
+    .before .before .before .before .before .before .item-on .ensures in
+    let s = c .before .before .before .before .before .before .before .before .before .before .before .before .before .before .before
+    .before .before .before .before .next .given .1 in
+    let k = c .before .before .before .before .before .before .before .before .before .before .before .before .before .before .before .keep
+    .ensures in (
+      pass-ready (going w) (c .before .before .before .before .before .before .before .before .before .before .before .before .before
+          .before .before .before .before .before .before .before .before .before .before .before .before .before .before .before .before
+          .before .before .before .before .before .before .before .pre .1) (c .before .before .before .before .before .before .before
+          .before .before .before .before .before .before .before .before .before .before .before .before .before .before .before .before
+          .before .before .before .before .before .before .before .before .before .before .before .before .before .pre .2) (going-near w l),
       going w .stands .behind,
       going w .order,
       going-from w l e s,
@@ -216,49 +337,92 @@ tag-step-requires c κs =
 
 after-requires : tie.Need-after-requires Inv-loop μ-loop
 after-requires c κs =
-    pass-deep (going (c .before .before .before .before .before .before .before .before .before .before .before .before .before .before .before .before .before .before .before .before .before .before .before .before .before .before .loop .inv)) (c .before .before .before .before .before .before .before .before .before .before .before .before .before .before .before .before .before .before .before .before .before .before .before .before .before .before .before .before .before .before .before .before .before .before .before .before .before .before .before .pre .1)
+    pass-deep (going (c .before .before .before .before .before .before .before .before .before .before .before .before .before .before
+    .before .before .before .before .before .before .before .before .before .before .before .before .before .before .loop .inv)) (c .before
+    .before .before .before .before .before .before .before .before .before .before .before .before .before .before .before .before .before
+    .before .before .before .before .before .before .before .before .before .before .before .before .before .before .before .before .before
+    .before .before .before .before .before .before .pre .1)
 
 add-k : tie.Need-add-k Inv-loop μ-loop
 add-k c =
-    let l = c .before .before .before .before .before .before .before .before .before .before .before .before .before .before .before .before .before .before .before .before .before .before .before .before .before .before .loop-test .taken in
-    let few = c .before .before .before .before .before .before .before .before .before .before .before .before .before .before .before .before .before .before .before .before .before .before .before .before .before .before .before .before .before .before .before .before .before .before .before .before .before .before .before .before .pre .3 in
+    let l = c .before .before .before .before .before .before .before .before .before .before .before .before .before .before .before
+    .before .before .before .before .before .before .before .before .before .before .before .before .before .loop-test .taken in
+    let few = c .before .before .before .before .before .before .before .before .before .before .before .before .before .before .before
+    .before .before .before .before .before .before .before .before .before .before .before .before .before .before .before .before .before
+    .before .before .before .before .before .before .before .before .before .before .pre .3 in
     record { fits = omega (arith, l, few) }
 
 loop-less : tie.Need-loop-less Inv-loop μ-loop
 loop-less c =
-    let l = c .before .before .before .before .before .before .before .before .before .before .before .before .before .before .before .before .before .before .before .before .before .before .before .before .before .before .loop-test .taken in
+    let l = c .before .before .before .before .before .before .before .before .before .before .before .before .before .before .before
+    .before .before .before .before .before .before .before .before .before .before .before .before .before .loop-test .taken in
     omega (arith, l)
 
 loop-again : tie.Need-loop-again Inv-loop μ-loop
 loop-again c =
-    let serves = c .before .before .before .before .before .before .before .before .before .before .before .before .before .before .before .before .before .before .before .before .before .before .before .before .before .before .before .before .before .before .before .before .before .before .before .before .before .before .before .before .pre .4 in
-    let k = c .before .before .before .before .before .before .before .before .before .before .before .before .before .before .before .before .before .before .before .before .before .before .keep .ensures in
-    let known = c .before .before .before .before .before .before .before .before .before .before .before .before .before .renewed .ensures in
-    let kept = c .before .before .before .before .before .before .before .before .before .before .if1 .came in
-    going-tag (c .before .before .before .before .before .before .before .before .before .before .before .before .before .before .before .before .before .before .before .before .before .before .before .before .before .before .before .loop .inv) (c .before .before .before .before .before .before .before .before .before .before .before .before .before .before .before .before .before .before .before .before .before .before .before .before .before .before .loop-test .taken) (c .before .before .before .before .before .before .before .before .before .before .before .before .before .before .before .before .before .before .before .before .before .before .before .before .before .item-on .ensures) (c .before .before .before .before .before .before .before .before .before .before .before .before .before .before .before .before .before .before .before .before .next .given .1) (k .0) (k .1) (serves .sound) refl
-    (row-fit serves _ (c .before .before .before .before .before .before .before .before .before .before .before .before .before .before .before .before .row-of .ensures)) (c .before .before .before .before .before .before .before .before .before .before .before .judged .ensures)
-    (⊎-elim (λ z. stored _ (z .0 .taken) (below-told _ _ _ _ known) (z .1)) (λ z. inr (z .0 .left, z .1)) kept)
-    _ refl (known-recalls _ _ _ _ known)
+    let v = going (c .before .before .before .before .before .before .before .before .before .before .before .before .before .before .before
+    .before .before .before .before .before .before .before .before .before .before .before .before .before .before .loop .inv) in
+    let l = c .before .before .before .before .before .before .before .before .before .before .before .before .before .before .before
+    .before .before .slot-of .ensures .1 in
+    let there = kept-there l (v .memo-long) in
+    let few = row-few (c .before .before .before .before .before .before .before .before .before .before .before .before .before .before
+    .before .before .before .before .before .before .before .before .before .before .before .before .before .before .before .before .before
+    .before .before .before .before .before .before .before .before .before .before .before .pre .4) _ (c .before .before .before .before
+    .before .before .before .before .before .before .before .before .before .before .before .before .before .before .row-of .ensures) in
+    let known : Remembered _ _ _ _ (c .before .before .before .before .before .before .before .before .before .before .before .before
+    .before .before .before .before .before .before .before .before .before .before .before .before .before .before .before .before .before
+    .loop .memo) _ (c .before .before .before .before .before .before .before .before .before .before .before .before .before .before .if1
+    .memo) =
+    ⊎-elim (λ z. known-stored _ _ _ _ (c .before .before .before .before .before .before .before .before .before .before .before .before
+    .before .before .before .before .before .before .before .before .before .before .before .before .before .before .before .before .before
+    .loop .memo) _ there (z .1 .ensures) (z .2))
+    (λ z. known-there (c .before .before .before .before .before .before .before .before .before .before .before .before .before .before
+    .before .before .before .before .before .before .before .before .before .before .before .before .before .before .before .loop .memo) (v
+    .recalls) _ there few _ (c .before .before .before .before .before .before .before .before .before .before .before .before .before
+    .before .before .is-of .ensures) (z .0 .left) (z .1)) (c .before .before .before .before .before .before .before .before .before .before
+    .before .before .before .before .if1 .came) in
+    let serves = c .before .before .before .before .before .before .before .before .before .before .before .before .before .before .before
+    .before .before .before .before .before .before .before .before .before .before .before .before .before .before .before .before .before
+    .before .before .before .before .before .before .before .before .before .before .pre .4 in
+    let k = c .before .before .before .before .before .before .before .before .before .before .before .before .before .before .before
+    .before .before .before .before .before .before .keep .ensures in
+    let kept = c .before .before .before .before .before .before .before .before .before .before .if2 .came in
+    going-tag (c .before .before .before .before .before .before .before .before .before .before .before .before .before .before .before
+    .before .before .before .before .before .before .before .before .before .before .before .before .before .before .loop .inv) (c .before
+    .before .before .before .before .before .before .before .before .before .before .before .before .before .before .before .before .before
+    .before .before .before .before .before .before .before .before .before .before .loop-test .taken) (c .before .before .before .before
+    .before .before .before .before .before .before .before .before .before .before .before .before .before .before .before .before .before
+    .before .before .before .before .before .before .item-on .ensures) (c .before .before .before .before .before .before .before .before
+    .before .before .before .before .before .before .before .before .before .before .before .before .before .before .before .before .before
+    .next .given .1) (k .0) (k .1) (serves .sound) refl
+    (row-fit serves _ (c .before .before .before .before .before .before .before .before .before .before .before .before .before .before
+    .before .before .before .before .row-of .ensures)) (c .before .before .before .before .before .before .before .before .before .before
+    .before .judged .ensures)
+    (⊎-elim (λ z. stored _ (z .0 .taken) (below-told _ _ _ _ (known .1, known .2)) (z .1)) (λ z. inr (z .0 .left, z .1)) kept)
+    _ (known .0) (known-recalls _ _ _ _ (known .1, known .2))
     (⊎-elim (λ z. inl (_, _, z .2)) (λ z. inr (z .2)) kept)
-    (tests-told _ _ _ _ known) (c .before .before .before .before .before .tag-step .ensures) (c .after .ensures)
+    (tests-told _ _ _ _ (known .1, known .2)) (c .before .before .before .before .before .tag-step .ensures) (c .after .ensures)
 
 other-step-requires : tie.Need-other-step-requires Inv-loop μ-loop
 other-step-requires c κs =
-    let w = c .before .before .before .before .before .before .before .before .before .before .loop .inv in
-    let l = c .before .before .before .before .before .before .before .before .before .loop-test .taken in
-    let e = c .before .before .before .before .before .before .before .before .item-on .ensures in
-    let k = c .before .before .before .before .before .keep .ensures in (
-      pass-ready (going w) (c .before .before .before .before .before .before .before .before .before .before .before .before .before .before .before .before .before .before .before .before .before .before .before .pre .1) (c .before .before .before .before .before .before .before .before .before .before .before .before .before .before .before .before .before .before .before .before .before .before .before .pre .2) (going-near w l),
+    let w = c .before .before .before .before .before .before .before .loop .inv in
+    let l = c .before .before .before .before .before .before .loop-test .taken in
+    let e = c .before .before .before .before .before .item-on .ensures in (
+      pass-ready (going w) (c .before .before .before .before .before .before .before .before .before .before .before .before .before
+          .before .before .before .before .before .before .before .pre .1) (c .before .before .before .before .before .before .before
+          .before .before .before .before .before .before .before .before .before .before .before .before .before .pre .2) (going-near w l),
       going w .stands .behind,
       going w .order,
       going-inside w l e,
       going w .judging .within,
-      going-placed w l e (k .0) (k .1),
+      going-placed w l,
     )
 
 after-requires-2 : tie.Need-after-requires-2 Inv-loop μ-loop
 after-requires-2 c κs =
-    pass-deep (going (c .before .before .before .before .before .before .before .before .before .before .before .before .before .before .before .loop .inv)) (c .before .before .before .before .before .before .before .before .before .before .before .before .before .before .before .before .before .before .before .before .before .before .before .before .before .before .before .before .pre .1)
+    pass-deep (going (c .before .before .before .before .before .before .before .before .before .before .before .before .loop .inv)) (c
+    .before .before .before .before .before .before .before .before .before .before .before .before .before .before .before .before .before
+    .before .before .before .before .before .before .before .before .pre .1)
 
 end-of-requires : tie.Need-end-of-requires Inv-loop μ-loop
 end-of-requires c κs =
@@ -266,20 +430,24 @@ end-of-requires c κs =
 
 add-k-2 : tie.Need-add-k-2 Inv-loop μ-loop
 add-k-2 c =
-    let l = c .before .before .before .before .before .before .before .before .before .before .before .before .before .before .before .before .loop-test .taken in
-    let few = c .before .before .before .before .before .before .before .before .before .before .before .before .before .before .before .before .before .before .before .before .before .before .before .before .before .before .before .before .before .before .pre .3 in
+    let l = c .before .before .before .before .before .before .before .before .before .before .before .before .before .loop-test .taken in
+    let few = c .before .before .before .before .before .before .before .before .before .before .before .before .before .before .before
+    .before .before .before .before .before .before .before .before .before .before .before .before .pre .3 in
     record { fits = omega (arith, l, few) }
 
 loop-less-2 : tie.Need-loop-less-2 Inv-loop μ-loop
 loop-less-2 c =
-    let l = c .before .before .before .before .before .before .before .before .before .before .before .before .before .before .before .before .loop-test .taken in
+    let l = c .before .before .before .before .before .before .before .before .before .before .before .before .before .loop-test .taken in
     omega (arith, l)
 
 loop-again-2 : tie.Need-loop-again-2 Inv-loop μ-loop
 loop-again-2 c =
-    let k = c .before .before .before .before .before .before .before .before .before .before .before .before .keep .ensures in
-    going-other (c .before .before .before .before .before .before .before .before .before .before .before .before .before .before .before .before .before .loop .inv) (c .before .before .before .before .before .before .before .before .before .before .before .before .before .before .before .before .loop-test .taken) (c .before .before .before .before .before .before .before .before .before .before .before .before .before .before .before .item-on .ensures) (k .0) (k .1) (c .before .before .before .before .before .before .before .before .before .before .before .match .keys2) (c .before .before .before .before .before .before .other-step .ensures)
-    (c .before .after2 .ensures) (c .end-of .ensures)
+    going-other (c .before .before .before .before .before .before .before .before .before .before .before .before .before .before .loop
+    .inv) (c .before .before .before .before .before .before .before .before .before .before .before .before .before .loop-test .taken) (c
+    .before .before .before .before .before .before .before .before .before .before .before .before .item-on .ensures) (c .before .before
+    .before .before .before .before .before .before .before .before .before .match .keys2) (c .before .before .before .before .before
+    .before .other-step .ensures) (c .before .after2 .ensures)
+    (c .end-of .ensures)
 
 same-length : tie.Need-same-length Inv-loop μ-loop
 same-length c =
@@ -306,8 +474,8 @@ all-through-spec =
     nothing-requires
     loop-holds
     item-on-requires
-    keep-requires
     enum-known-next
+    keep-requires
     mul-parent
     array-copy-out-parent
     add-a
@@ -321,13 +489,16 @@ all-through-spec =
     slot-of-requires
     mul-before
     array-copy-out-before
-    renewed-requires
+    is-of-requires
+    made-requires
     mul-memo
     array-set-from-memo
+    mul-known
+    array-copy-out-known
     cast-tests
     add-tests
     judged-requires
-    add-if1
+    add-if2
     add-states
     mul-states
     array-set-from-states

@@ -8,8 +8,19 @@ use Rattle.seats.proofs.seat.through.Tie as tie
 
 all-through-requires : tie.Need-all-through-requires
 all-through-requires c κs =
-    let live = c .before .before .before .before .if1 .taken in
-    (c .before .before .before .before .before .before .before .before .before .pre .0, c .before .before .before .before .before .before .before .before .before .pre .1, c .before .before .before .before .before .before .before .before .before .pre .2, c .before .before .before .before .before .before .before .before .before .pre .3, c .before .before .before .before .before .before .before .before .before .pre .4 .serves live, c .before .before .before .before .before .before .before .before .before .pre .4 .begun live, c .before .before .before .before .before .before .before .before .before .pre .4 .taped live)
+    let live = c .before .before .before .before .if1 .taken in (
+      c .before .before .before .before .before .before .before .before .before .pre .0,
+      c .before .before .before .before .before .before
+          .before .before .before .pre .1,
+      c .before .before .before .before .before .before .before .before .before .pre .2,
+      c .before .before
+          .before .before .before .before .before .before .before .pre .3,
+      c .before .before .before .before .before .before .before .before
+          .before .pre .4 .serves live,
+      c .before .before .before .before .before .before .before .before .before .pre .4 .begun live,
+      c .before
+          .before .before .before .before .before .before .before .before .pre .4 .taped live,
+    )
 
 same-length : tie.Need-same-length
 same-length c =
@@ -21,7 +32,11 @@ same-length-2 c =
 
 returns : tie.Need-returns
 returns c =
-    record { went = λ e. c .before .before .before .before .all-through .ensures; stays = λ e. absurd (false≢true (sym e ∙ c .before .before .before .before .before .before .before .before .before .if1 .taken)) }
+    record {
+      went = λ e. c .before .before .before .before .all-through .ensures;
+      stays = λ e. absurd (false≢true (sym e ∙ c .before .before
+          .before .before .before .before .before .before .before .if1 .taken));
+    }
 
 returns-2 : tie.Need-returns-2
 returns-2 c =

@@ -1,4 +1,5 @@
--- `states_of` meets its contract. The invariant: the states of the first k levels are made, as the laws of proofs/Restanding.antt have them.
+-- `states_of` meets its contract. The invariant: the states of the first k levels are made, as the laws of proofs/Restanding.antt have
+-- them.
 use mathlib.Core.Path.{refl, _∙_}
 use native.Mathlib.Omega.{arith}
 use Prim.Native.Nat.{_-_}
@@ -50,7 +51,8 @@ element-copy-out-n c =
 
 add-row-of : tie.Need-add-row-of Inv-loop μ-loop
 add-row-of c =
-    let inside = c .before .before .before .before .before .before .before .before .pre .2 .inside _ (c .before .before .before .loop-test .taken) in
+    let inside = c .before .before .before .before .before .before .before .before .pre .2 .inside _ (c .before .before .before .loop-test
+    .taken) in
     let small = c .before .before .before .before .before .before .before .before .pre .1 in
     record { fits = omega (arith, inside, small) }
 
@@ -64,7 +66,8 @@ part-row-of-start c =
 
 part-row-of-end : tie.Need-part-row-of-end Inv-loop μ-loop
 part-row-of-end c =
-    let inside = c .before .before .before .before .before .before .before .before .pre .2 .inside _ (c .before .before .before .loop-test .taken) in
+    let inside = c .before .before .before .before .before .before .before .before .pre .2 .inside _ (c .before .before .before .loop-test
+    .taken) in
     search (needs, inside)
 
 row-of-requires : tie.Need-row-of-requires Inv-loop μ-loop
@@ -109,7 +112,9 @@ loop-less c =
 
 loop-again : tie.Need-loop-again Inv-loop μ-loop
 loop-again c =
-    standing-next (c .before .before .before .before .before .before .before .before .before .loop .inv) (omega arith) refl (c .before .before .fit-by .ensures ∙ row-fit (c .before .before .before .before .before .before .before .before .before .before .before .before .before .pre .0) _ (c .before .before .before .row-of .ensures)) (c .deeper .ensures)
+    standing-next (c .before .before .before .before .before .before .before .before .before .loop .inv) (omega arith) refl (c .before
+    .before .fit-by .ensures ∙ row-fit (c .before .before .before .before .before .before .before .before .before .before .before .before
+    .before .pre .0) _ (c .before .before .before .row-of .ensures)) (c .deeper .ensures)
 
 returns-2 : tie.Need-returns-2 Inv-loop μ-loop
 returns-2 c =
