@@ -1,6 +1,6 @@
 -- Two results that the contract of `cut`, `cut_by`, `cut_with` or `cut_by_with` allows are equal, the answer and every byte of the buffer;
--- and of `fault_of` the answer: over the contracts that the toolchain makes of the source. So are the three numbers of document 01, which are functions of the answer.
--- Of the log nothing is said.
+-- and of `fault_of` the answer: over the contracts that the toolchain makes of the source. So are the three numbers of document 01, which
+-- are functions of the answer. Of the log nothing is said.
 use mathlib.Core.Path.{sym, _∙_}
 use denote.Ref.{now}
 use Rattle.contracts.specs.One.{OneResult, OneOutcome}

@@ -1,9 +1,10 @@
 -- Two results that the contract of `pass_of_four` allows are alike for each client, as two of `pass` are: the outcome but for the number of
--- notes; where the document is sound, every byte of the buffer, and what the notes stand for, unless some were left out. Buffer and log of a
--- client that sits out are equal. Over the contract that the toolchain makes of the source.
+-- notes; where the document is sound, every byte of the buffer, and what the notes stand for, unless some were left out. Buffer and log of
+-- a client that sits out are equal. Over the contract that the toolchain makes of the source.
 use mathlib.Core.Path.{_≡_, sym, _∙_}
 use mathlib.Core.Bool.{Bool, true, false}
 use mathlib.Core.List.{List}
+use Prim.Native.Nat.{ℕ}
 use denote.Ref.{now}
 use Rattle.document.specs.Judge.{scanned}
 use Rattle.document.specs.declared.judge.Judged.the-variants.{Sound}
