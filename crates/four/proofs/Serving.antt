@@ -227,26 +227,27 @@ second-laid list d o o′ g m p e = go m (p .judged ∙ e) (p .told)
     go (Fault w at) q t = absurd (false≢true cc)
 
 module _ {list d t g₀ : List ℕ} {a : ListAnswer} (y : Readable d) (l : Listed list a t g₀) {w : Bool} (e : w ≡ soundness a)
-    {s s′ h g : List ℕ} {m : Outcome} (p : PassedFor w true list d s h m s′ g) {o o′ : List ℕ} {r : Served} (v : ServedOf d o g a m r o′) where
-  serving : Serving (answerOf list d (length o)) (bytesAfter list d o) list d o r o′
-  serving = v .serving list s s′ y (l .said) (λ z. p .passed (e ∙ z))
+    {s s′ h g : List ℕ} {m : Outcome} (p : PassedFor w true list d s h m s′ g) {o o′ : List ℕ} {r : Served} (v : ServedOf d o g a m r o′)
+  where
+    serving : Serving (answerOf list d (length o)) (bytesAfter list d o) list d o r o′
+    serving = v .serving list s s′ y (l .said) (λ z. p .passed (e ∙ z))
 
-  pub client-answer : r .answer ≡ answerOf list d (length o)
-  client-answer = serving .answer
+    pub client-answer : r .answer ≡ answerOf list d (length o)
+    client-answer = serving .answer
 
-  -- nothing is left
-  pub client-done : r .left ≡ false → o′ ≡ bytesAfter list d o
-  client-done z = serving .done z
+    -- nothing is left
+    pub client-done : r .left ≡ false → o′ ≡ bytesAfter list d o
+    client-done z = serving .done z
 
-  -- after the second pass, in which it took part where its cut was left
-  pub client-laid : {n : Outcome} {o″ g‴ g″ : List ℕ} → PassedFor (r .left) false list d o′ g‴ n o″ g″ → o″ ≡ bytesAfter list d o
-  client-laid {n} {o″} {g″ = g″} q = go (r .left) refl
-    where
-      go : (b : Bool) → r .left ≡ b → o″ ≡ bytesAfter list d o
-      go true z =
-          let u = serving .waits z in
-          second-laid list d o′ o″ g″ n (q .passed z) (u .1) ∙ ap (λ (x : List ℕ). sets x 0 (cutOf list d)) (u .0) ∙ u .2
-      go false z = q .stays z .0 ∙ serving .done z
+    -- after the second pass, in which it took part where its cut was left
+    pub client-laid : {n : Outcome} {o″ g‴ g″ : List ℕ} → PassedFor (r .left) false list d o′ g‴ n o″ g″ → o″ ≡ bytesAfter list d o
+    client-laid {n} {o″} {g″ = g″} q = go (r .left) refl
+      where
+        go : (b : Bool) → r .left ≡ b → o″ ≡ bytesAfter list d o
+        go true z =
+            let u = serving .waits z in
+            second-laid list d o′ o″ g″ n (q .passed z) (u .1) ∙ ap (λ (x : List ℕ). sets x 0 (cutOf list d)) (u .0) ∙ u .2
+        go false z = q .stays z .0 ∙ serving .done z
 
 -- none of four is left
 pub none-left : (a b c d : Bool) → not (a || b || c || d) ≡ true → (a ≡ false) × (b ≡ false) × (c ≡ false) × (d ≡ false)

@@ -54,7 +54,7 @@ pub record Same (d : List ℕ) (r : Outcome) (o g : List ℕ) (r′ : Outcome) (
   pub buffer : o ≡ o′
   pub noted : notesOf r ≤ length g → notesOf r′ ≤ length g′ → textOf d g (notesOf r) ≡ textOf d g′ (notesOf r′)
 
-outcome-one : (counts : Bool) (list d o : List ℕ) (r r′ : Outcome) (o₁ g₁ o₂ g₂ : List ℕ) → PassedBy counts list d o r o₁ g₁
+pub outcome-one : (counts : Bool) (list d o : List ℕ) (r r′ : Outcome) (o₁ g₁ o₂ g₂ : List ℕ) → PassedBy counts list d o r o₁ g₁
     → PassedBy counts list d o r′ o₂ g₂
     → unnoted r ≡ unnoted r′
 outcome-one counts list d o r r′ o₁ g₁ o₂ g₂ p q = go r r′ (p .judged ∙ sym (q .judged)) (p .told) (q .told)
@@ -67,7 +67,7 @@ outcome-one counts list d o r r′ o₁ g₁ o₂ g₂ p q = go r r′ (p .judge
     go (Fault w at) (Fault v to) e s t = cc
 
 -- where the document is sound
-sound-one : (counts : Bool) (list d o : List ℕ) (r r′ : Outcome) (o₁ g₁ o₂ g₂ : List ℕ) → PassedBy counts list d o r o₁ g₁
+pub sound-one : (counts : Bool) (list d o : List ℕ) (r r′ : Outcome) (o₁ g₁ o₂ g₂ : List ℕ) → PassedBy counts list d o r o₁ g₁
     → PassedBy counts list d o r′ o₂ g₂
     → scanned d ≡ Sound → Same d r o₁ g₁ r′ o₂ g₂
 sound-one counts list d o r r′ o₁ g₁ o₂ g₂ p q sound =
