@@ -22,7 +22,7 @@ use Rattle.reel.specs.declared.Stop.the-variants.{Full, Over, Fault}
 use Rattle.reel.proofs.items.Reads as items
 
 -- one that stopped is not behind another
-not-less : (d : List ℕ) (s : Spot) (n n′ : ℕ) (x : Stop) (t : List ℕ) → Stopped d s n x → Taped d t s n′ → n′ ≤ 1024 → n < n′ → ⊥
+not-less : (d : List ℕ) (s : Spot) (n n′ : ℕ) (x : Stop) (t : List ℕ) → Stopped d s n x → Taped d t s n′ → n′ ≤ 4096 → n < n′ → ⊥
 not-less d s n n′ Full t p v l h = omega arith
 not-less d s n n′ Over t p v l h = let e : placed.Over ≡ placed.Fine = sym (p .1) ∙ v .fine n h in false≢true cc
 not-less d s n n′ (Fault why) t p v l h = let e : placed.Fault why ≡ placed.Fine = sym (p .1) ∙ v .fine n h in false≢true cc

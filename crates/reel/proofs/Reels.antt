@@ -68,7 +68,7 @@ module _ {d starts lens : List ℕ} {o : Open} (s : Names d starts lens o) (v : 
 -- ---- the beginning
 
 pub reel-start : {d starts lens tape : List ℕ} {opened : Open} {at : ℕ} (first : Bool) → Names d starts lens opened
-    → Opens d starts lens (opened .level .0) → at ≤ length d → length tape ≡ 4096
+    → Opens d starts lens (opened .level .0) → at ≤ length d → length tape ≡ 16384
     → Reeling d (spotOf d starts lens opened at first) starts lens tape opened at first 0
 reel-start first ns os l z =
     record {
@@ -94,10 +94,10 @@ module _ {d : List ℕ} {s : Spot} {starts lens tape : List ℕ} {opened : Open}
   placed-here =
       ap (placedAt d) (sym (v .spot)) ∙ ap (λ (j : Item). placement d at j (openedOf d starts lens opened)) (sym e) ∙ sym q
 
-  pub reel-over : k < 1024 → p ≡ placed.Over → Stopped d s k Over
+  pub reel-over : k < 4096 → p ≡ placed.Over → Stopped d s k Over
   reel-over l h = (l, placed-here ∙ h)
 
-  pub reel-fault : k < 1024 → (why : Why) → p ≡ placed.Fault why → Stopped d s k (Fault why)
+  pub reel-fault : k < 4096 → (why : Why) → p ≡ placed.Fault why → Stopped d s k (Fault why)
   reel-fault l why h = (l, placed-here ∙ h)
 
   module _ (h : p ≡ placed.Fine) where
@@ -116,7 +116,7 @@ module _ {d : List ℕ} {s : Spot} {starts lens tape : List ℕ} {opened : Open}
     image-here : imageOf at i ≡ imageOf (behind d s k .at) (itemOf d (behind d s k))
     image-here = ap (imageOf at) e ∙ ap (λ (x : Spot). imageOf (x .at) (itemOf d x)) (v .spot)
 
-    module _ (l : k < 1024) {starts′ lens′ tape′ : List ℕ} {opened′ : Open} {at′ k′ : ℕ}
+    module _ (l : k < 4096) {starts′ lens′ tape′ : List ℕ} {opened′ : Open} {at′ k′ : ℕ}
         (es : starts′ ≡ set starts (opened .level .0) (at + 1)) (el : lens′ ≡ set lens (opened .level .0) (lenOf i))
         (et : tape′ ≡ putAt tape k at i) (eo : opened′ ≡ openAfter i opened) (ea : at′ ≡ endOf at i) (ek : k′ ≡ k + 1) where
       taped-next : Taped d (putAt tape k at i) s (suc k)

@@ -23,8 +23,8 @@ pub record Reeling (d : List ℕ) (s : Spot) (starts lens tape : List ℕ) (open
   pub spot : spotOf d starts lens opened at first ≡ behind d s k
   pub taped : Taped d tape s k
   pub ahead : s .at + k ≤ at
-  pub few : k ≤ 1024
-  pub long : length tape ≡ 4096
+  pub few : k ≤ 4096
+  pub long : length tape ≡ 16384
 
 -- whether the item at a spot may stand there
 abbrev pub placedAt : List ℕ → Spot → Placement
@@ -32,6 +32,6 @@ placedAt d s = placement d (s .at) (itemOf d s) (s .opened)
 
 -- after n items: there is no more room; or there is, and the next item is none or at fault
 abbrev pub Stopped : List ℕ → Spot → ℕ → Stop → Type 0
-Stopped d s n Full = n ≡ 1024
-Stopped d s n Over = (n < 1024) × (placedAt d (behind d s n) ≡ placed.Over)
-Stopped d s n (Fault why) = (n < 1024) × (placedAt d (behind d s n) ≡ placed.Fault why)
+Stopped d s n Full = n ≡ 4096
+Stopped d s n Over = (n < 4096) × (placedAt d (behind d s n) ≡ placed.Over)
+Stopped d s n (Fault why) = (n < 4096) × (placedAt d (behind d s n) ≡ placed.Fault why)

@@ -48,7 +48,7 @@ pub fn items(
     tape: &mut Tape,
 ) -> Read
     requires { ⌜ (now table ≡ classTable) × (length (now doc) ≤ 16777216) × Names (now doc) (now starts) (now lens) opened
-        × Opens (now doc) (now starts) (now lens) (opened .level .0) × (at ≤ length (now doc)) × (length (now tape) ≡ 4096) ⌝ }
+        × Opens (now doc) (now starts) (now lens) (opened .level .0) × (at ≤ length (now doc)) × (length (now tape) ≡ 16384) ⌝ }
     ensures { λ r.
         ⌜ Reeling (now (doc .entry)) (spotOf (now (doc .entry)) (now (starts .entry)) (now (lens .entry)) opened at first)
         (now (starts .exit)) (now (lens .exit)) (now (tape .exit)) (r .opened) (r .at) (r .first) (r .items) ⌝ }

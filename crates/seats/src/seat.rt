@@ -1,7 +1,7 @@
 // A client's part in a pass: the items of a tape, one after the other. Each element is matched, and what is written of it is laid into the
 // client's buffer, and noted.
 //
-//     tape      items 0 to 1023      items 1024 to 2047      ..          read once, and each client goes through it
+//     tape      items 0 to 4095      items 4096 to 8191      ..          read once, and each client goes through it
 //     seat  ->       through      ->       through      ->   ..          a client's, from one tape to the next
 //
 // The match states by level and what is known of elements (`memo`) are made for each tape anew, so a client keeps none of them: what it
@@ -80,7 +80,7 @@ fn all_through(
     log: &mut [u64],
     seat: Seat,
 ) -> Seat
-    requires { ⌜ (now table ≡ classTable) × (length (now doc) ≤ 16777216) × (length (now log) ≤ 16777216) × (items ≤ 1024)
+    requires { ⌜ (now table ≡ classTable) × (length (now doc) ≤ 16777216) × (length (now log) ≤ 16777216) × (items ≤ 4096)
         × Serves (now list) (now t) × Begun counts (now list) (now doc) (now starts) (now lens) seat (now out) (now log)
         × Taped (now doc) (now tape) (seatSpot (now doc) (now starts) (now lens) seat) items ⌝ }
     ensures { λ r. ⌜ Went counts (now (list .entry)) (now (doc .entry)) (now (starts .entry)) (now (lens .entry)) seat (now (out .entry))
@@ -201,7 +201,7 @@ pub fn through(
     log: &mut [u64],
     seat: Seat,
 ) -> Seat
-    requires { ⌜ (now table ≡ classTable) × (length (now doc) ≤ 16777216) × (length (now log) ≤ 16777216) × (items ≤ 1024)
+    requires { ⌜ (now table ≡ classTable) × (length (now doc) ≤ 16777216) × (length (now log) ≤ 16777216) × (items ≤ 4096)
         × Sits live counts (now list) (now t) (now doc) (now tape) (now starts) (now lens) seat (now out) (now log) items ⌝ }
     ensures { λ r. ⌜ Through live counts (now (list .entry)) (now (doc .entry)) (now (starts .entry)) (now (lens .entry)) seat
         (now (out .entry)) (now (log .entry)) items (now (starts .exit)) (now (lens .exit)) r (now (out .exit)) (now (log .exit)) ⌝ }

@@ -13,8 +13,8 @@ ghost use Rattle.tape.specs.Tape.{tagKind, shape, entryAt, stored, putAt
 use document::place::end_of;
 use tags::Item;
 
-// How many items a tape has room for, and its length.
-pub const ITEMS: usize = 1024;
+// How many items a tape has room for, and its length: 128 KiB.
+pub const ITEMS: usize = 4096;
 
 pub type Tape = [usize; 4 * ITEMS];
 
@@ -30,7 +30,7 @@ fn tag_kind(empty: bool) -> usize
 
 // Four numbers at an entry.
 fn store(tape: &mut Tape, k: usize, kind: usize, end: usize, name: usize, head: usize)
-    requires { ⌜ k < 1024 ⌝ }
+    requires { ⌜ k < 4096 ⌝ }
     ensures { λ r. ⌜ now (tape .exit) ≡ stored (now (tape .entry)) (k * 4) kind end name head ⌝ }
 {
     let i = k * 4;
@@ -42,7 +42,7 @@ fn store(tape: &mut Tape, k: usize, kind: usize, end: usize, name: usize, head: 
 
 // The entry of the item at a place.
 pub fn put(tape: &mut Tape, k: usize, at: usize, item: Item)
-    requires { ⌜ k < 1024 ⌝ }
+    requires { ⌜ k < 4096 ⌝ }
     ensures { λ r. ⌜ now (tape .exit) ≡ putAt (now (tape .entry)) k at item ⌝ }
 {
     if let Item::Start {
@@ -94,7 +94,7 @@ fn shaped(kind: usize, end: usize, name: usize, head: usize) -> Item
 
 // The item at an entry.
 pub fn item_on(tape: &Tape, k: usize) -> Item
-    requires { ⌜ k < 1024 ⌝ }
+    requires { ⌜ k < 4096 ⌝ }
     ensures { λ r. ⌜ r ≡ entryAt (now (tape .entry)) k ⌝ }
 {
     let i = k * 4;

@@ -32,17 +32,17 @@ pub record Reading (d starts lens tape : List ℕ) (opened : Open) (at : ℕ) : 
   pub names : Names d starts lens opened
   pub opens : Opens d starts lens (opened .level .0)
   pub within : at ≤ length d
-  pub long : length tape ≡ 4096
+  pub long : length tape ≡ 16384
 
 pub read-start : (d : List ℕ) {opened : Open} {at : ℕ} → opened ≡ record { level = record { 0 = 0 }; rooted = false } → at ≡ startOf d
-    → Reading d (replicate 64 0) (replicate 64 0) (replicate 4096 0) opened at
+    → Reading d (replicate 64 0) (replicate 64 0) (replicate 16384 0) opened at
 read-start d e q =
     let v = judge-start d e q in
     record {
       names = v .names;
       opens = rw e (opens-none d (replicate 64 0) (replicate 64 0));
       within = v .within;
-      long = length-replicate {A = ℕ} 4096 0;
+      long = length-replicate {A = ℕ} 16384 0;
     }
 
 module _ {d : List ℕ} {s : Spot} {starts lens tape : List ℕ} {opened : Open} {at : ℕ} {first : Bool} {n : ℕ}
@@ -53,7 +53,7 @@ module _ {d : List ℕ} {s : Spot} {starts lens tape : List ℕ} {opened : Open}
   -- a full tape has items
   pub read-less : {x : Stop} → Stopped d s n x → x ≡ stop.Full → length d - at < length d - s .at
   read-less h q =
-      let z : n ≡ 1024 = rw q at h in
+      let z : n ≡ 4096 = rw q at h in
       omega (arith, z, v .ahead, v .within)
 
 -- ---- a client

@@ -16,7 +16,7 @@ Inv-loop table doc starts₀ lens₀ at first tape₀ opened₀ at₀ first₀ k
     first' k
 
 abbrev μ-loop : tie.MeasureT-loop
-μ-loop table doc starts₀ lens₀ at first tape₀ opened₀ at₀ first₀ k₀ starts lens tape opened at' first' k = 1024 - k
+μ-loop table doc starts₀ lens₀ at first tape₀ opened₀ at₀ first₀ k₀ starts lens tape opened at' first' k = 4096 - k
 
 loop-holds : tie.Need-loop-holds Inv-loop μ-loop
 loop-holds c = search reels
