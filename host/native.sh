@@ -1,9 +1,9 @@
 #!/bin/sh
-# native.sh FOLDER: proves the libraries `exported`, `clients` and `spreadsheet` by `rt staticlib`, which makes x86-64 code of each by itself:
-# so what they share is compiled for each as it needs it. The three together are one archive: for x86-64 in FOLDER/x86, for the machine at
-# hand in FOLDER. On x86-64 these are the same. Elsewhere it is the toolchain's code all the same: the toolchain hands its own clang an LLVM
-# module, at -O3; the module is kept, and that clang compiles it at -O3 for this machine. Only what names the machine changes in it. native.c
-# has the platform's convention for what the functions hand back.
+# native.sh FOLDER: proves the libraries `exported`, `clients` and `spreadsheet` by `rt staticlib`, which makes x86-64 code of each by
+# itself: so what they share is compiled for each as it needs it. The three together are one archive: for x86-64 in FOLDER/x86, for the
+# machine at hand in FOLDER. On x86-64 these are the same. Elsewhere it is the toolchain's code all the same: the toolchain hands its own
+# clang an LLVM module, at -O3; the module is kept, and that clang compiles it at -O3 for this machine. Only what names the machine changes
+# in it. native.c has the platform's convention for what the functions hand back.
 set -eu
 folder=$1
 libraries='exported clients spreadsheet'

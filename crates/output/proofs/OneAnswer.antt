@@ -88,7 +88,8 @@ module _ (m : Engine) (o₀ : List ℕ) where
   -- `step::tag_step`
   pub tag-step-one : Alike
       (λ κs a. tag-step.Asked κs a × standing m o₀ (a .0) (a .1 .0 .0) (now (a .1 .1 .0))
-      (now (a .1 .1 .1 .0)) (now (a .1 .1 .1 .1 .0)) (now (a .1 .1 .1 .1 .1 .0)) (now (a .1 .1 .1 .1 .1 .1 .0)) (a .1 .1 .1 .1 .1 .1 .1 .1 .0))
+      (now (a .1 .1 .1 .0)) (now (a .1 .1 .1 .1 .0)) (now (a .1 .1 .1 .1 .1 .0)) (now (a .1 .1 .1 .1 .1 .1 .0))
+      (a .1 .1 .1 .1 .1 .1 .1 .1 .0))
       tag-step.Learnt
       (λ κs a z e z′ e′. Same (now (a .1 .1 .0)) z (now (e .1 .1 .1 .1 .1 .0)) (now (e .1 .1 .1 .1 .1 .1 .0))
       z′ (now (e′ .1 .1 .1 .1 .1 .0)) (now (e′ .1 .1 .1 .1 .1 .1 .0)))

@@ -1,5 +1,5 @@
--- What the code's numbers and arrays stand for: an engine. In order: the names kept by level; the text laid, and the bytes that are due; the
--- engine that they stand for; and a step, which makes of whatever engine they stand for what f makes of it.
+-- What the code's numbers and arrays stand for: an engine. In order: the names kept by level; the text laid, and the bytes that are due;
+-- the engine that they stand for; and a step, which makes of whatever engine they stand for what f makes of it.
 use mathlib.Core.Path.{_≡_}
 use mathlib.Core.Bool.{Bool, true, false}
 use mathlib.Core.List.{List, [], _∷_, _++_}
@@ -61,8 +61,8 @@ entryAt (suc from) at = suc from
 abbrev pub Stays : ℕ → ℕ → Type 0
 Stays kept kept′ = (kept′ ≡ 0) ⊎ (kept′ ≡ kept)
 
--- The code's state stands for an engine: `level` is the input level, `reached` the output level, `at` the place reached; o₀ is the buffer at
--- the beginning, o the buffer now, g the log with m notes. What the engine has written is what is laid, and then what is due.
+-- The code's state stands for an engine: `level` is the input level, `reached` the output level, `at` the place reached; o₀ is the buffer
+-- at the beginning, o the buffer now, g the log with m notes. What the engine has written is what is laid, and then what is due.
 pub record Stands (d starts lens o₀ : List ℕ) (level reached kept at len count m : ℕ) (o g : List ℕ) (e : Engine) : Type 0 where
   pub kept-is : keptOf e ≡ within kept
   pub inner : (kept ≡ 0) ⊎ (reached < level)
@@ -75,8 +75,8 @@ pub record Stands (d starts lens o₀ : List ℕ) (level reached kept at len cou
   pub text : Laid o₀ len o said
   pub notes : Stood d g m said
 
--- Some steps, from the place `at` to at′, do what f does to whatever engine the state stands for. Each writes at most 2^31 bytes, and selects
--- one element at most.
+-- Some steps, from the place `at` to at′, do what f does to whatever engine the state stands for. Each writes at most 2^31 bytes, and
+-- selects one element at most.
 pub record Moved (d starts lens : List ℕ) (level reached kept at len count m : ℕ) (o g : List ℕ) (f : Engine → Engine)
     (steps level′ reached′ kept′ at′ len′ count′ m′ : ℕ) (o′ g′ : List ℕ) : Type 0 where
   pub moves : (o₀ : List ℕ) (e : Engine) → Stands d starts lens o₀ level reached kept at len count m o g e
