@@ -1,7 +1,7 @@
-/* The proved filter, for callers in C: thirteen functions of a static library, choughbell 0.3.0. Link with -lchoughbell, or with
+/* The proved filter, for callers in C: thirteen functions of a static library, choughbell 0.4.0. Link with -lchoughbell, or with
  * target/native/libexported.a as `make library` leaves it. They allocate nothing, keep nothing between calls and call nothing but memset
  * and memcpy, so threads may call them at once. A call takes less than 96 KiB of stack; one with a log that is lent less than 64; mending
- * less than 8; one for four clients less than 384, with logs that are lent less than 256.
+ * less than 8; one for four clients less than 512, with logs that are lent less than 384.
  *
  * A byte slice is passed as a pointer and a length. What the caller owes, and nothing else is asked:
  *   - each pointer leads to as many bytes as its length says, and is not null, also where the length is 0;
@@ -19,7 +19,7 @@
 #include <stddef.h>
 #include <stdint.h>
 
-#define CHOUGHBELL_VERSION "0.3.0"
+#define CHOUGHBELL_VERSION "0.4.0"
 
 /* The numbers, as told below. */
 #define CHOUGHBELL_WRITTEN 0

@@ -10,8 +10,8 @@
 //! document; here the types see to that, since `out` is borrowed for writing and the others for reading.
 //!
 //! Any number of threads may call at once: the library allocates nothing, and keeps nothing between calls. A call takes less than 96 KiB of
-//! stack, with a log that is lent less than 64, by the plain engine less than 192, for four clients less than 384 and with logs that are
-//! lent less than 256, and to mend less than 8. The functions in `_of` allocate their buffer, after they have looked at the length: for
+//! stack, with a log that is lent less than 64, by the plain engine less than 192, for four clients less than 512 and with logs that are
+//! lent less than 384, and to mend less than 8. The functions in `_of` allocate their buffer, after they have looked at the length: for
 //! what is over a limit there is none.
 //!
 //! ```

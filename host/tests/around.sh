@@ -91,7 +91,7 @@ program=$program_before
 
 # The constants of the header, and null with length 0.
 program_before=$program program=$room/c-null
-lines 0.3.0
+lines 0.4.0
 try 'C: constants and null' 0
 program=$program_before
 
@@ -105,7 +105,7 @@ for file in bin/choughbell share/man/man1/choughbell.1 include/choughbell.h lib/
 done
 ran=$((ran + 1))
 pc=stage/opt/chough/lib/pkgconfig/choughbell.pc
-[ "$(sed -n '/^prefix\|^Version/p' $pc | tr '\n' ' ')" = 'prefix=/opt/chough Version: 0.3.0 ' ] || fault 'pkg-config' "$(cat $pc)"
+[ "$(sed -n '/^prefix\|^Version/p' $pc | tr '\n' ' ')" = 'prefix=/opt/chough Version: 0.4.0 ' ] || fault 'pkg-config' "$(cat $pc)"
 if command -v pkg-config > "$notes/found"; then
     got=$(PKG_CONFIG_PATH=$(dirname $pc) pkg-config --cflags --libs choughbell | sed 's/ *$//')
     [ "$got" = '-I/opt/chough/include -L/opt/chough/lib -lchoughbell' ] || fault 'pkg-config' "$got"
@@ -194,7 +194,7 @@ if [ -z "$run" ] && command -v dpkg-deb > "$notes/found" && [ "$(id -u)" = 0 ]; 
     ran=$((ran + 3))
     put deb DEB="$room/deb"
     package=$(echo deb/choughbell_*.deb)
-    [ "$package" = "deb/choughbell_0.3.0_$(dpkg --print-architecture).deb" ] || fault 'make deb' "$package"
+    [ "$package" = "deb/choughbell_0.4.0_$(dpkg --print-architecture).deb" ] || fault 'make deb' "$package"
     [ "$(ls deb)" = "$(basename "$package")" ] || fault 'make deb' "$(ls deb)"
     mkdir -p alone/var/lib/dpkg/info alone/var/lib/dpkg/updates alone/var/lib/dpkg/triggers
     : > alone/var/lib/dpkg/status
@@ -210,7 +210,7 @@ if [ -z "$run" ] && command -v dpkg-deb > "$notes/found" && [ "$(id -u)" = 0 ]; 
         share/fish/vendor_completions.d/choughbell.fish; do
         [ -f "alone/usr/$file" ] || fault 'the package' "no $file"
     done
-    [ "$(alone/usr/bin/choughbell --version)" = 'choughbell 0.3.0' ] || fault 'the package' 'version'
+    [ "$(alone/usr/bin/choughbell --version)" = 'choughbell 0.4.0' ] || fault 'the package' 'version'
     alone -r choughbell
     left=$(find alone -path alone/var -prune -o -type f -print -o -name '*choughbell*' -print)
     [ -z "$left" ] || fault 'dpkg -r' "left $left"

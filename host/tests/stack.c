@@ -14,8 +14,8 @@
 #define SAID_WITH (64 * 1024)
 #define SAID_PLAIN (192 * 1024)
 #define SAID_MEND (8 * 1024)
-#define SAID_FOUR (384 * 1024)
-#define SAID_FOUR_WITH (256 * 1024)
+#define SAID_FOUR (512 * 1024)
+#define SAID_FOUR_WITH (384 * 1024)
 #define PAINTED (1024 * 1024)
 
 static uint8_t stack[PAINTED], list[8193], doc[32768], batch[sizeof doc + 5], out[2 * sizeof batch];

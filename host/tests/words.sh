@@ -101,7 +101,7 @@ start explain > "$notes/printed" 2>&1 || fault 'explain alone' 'status'
 grep -q '^ 7  not well-formed$' "$notes/printed" || fault 'explain alone' 'no meaning'
 
 for words in '--version' 'version' '-V' 'cut -V' 'check none.xml --version' 'explain -qV'; do
-    lines 'choughbell 0.3.0'
+    lines 'choughbell 0.4.0'
     # shellcheck disable=SC2086
     try "$words" 0 $words
 done
