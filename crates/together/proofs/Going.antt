@@ -153,7 +153,8 @@ module _ {d : List ℕ} {here : Spot} {starts lens tape : List ℕ} {opened : Op
       let w : Stopped d here n stop.Over = rw q at p in
       go-over next-going (ap (placedAt d) (l .spot) ∙ w .1) e
 
-  pub next-fault : {x : Stop} → Stopped d here n x → (why : Why) → x ≡ stop.Fault why → PassedFor live counts list d o₀ g₀ (Fault why at) o′ g′
+  pub next-fault : {x : Stop} → Stopped d here n x → (why : Why) → x ≡ stop.Fault why
+      → PassedFor live counts list d o₀ g₀ (Fault why at) o′ g′
   next-fault p why q =
       let w : Stopped d here n (stop.Fault why) = rw q at p in
       go-fault next-going why (ap (placedAt d) (l .spot) ∙ w .1) refl
