@@ -2,13 +2,16 @@
 use mathlib.Core.Path.{_≡_, refl, sym, ap, ap₂, _∙_}
 use mathlib.Core.Bool.{Bool, true, false}
 use mathlib.Core.List.{List}
-use mathlib.Core.Logic.{⊎-elim}
+use mathlib.Core.Logic.{_⊎_, ⊎-elim}
 use Prim.Native.Nat.{ℕ, zero, suc, _+_, _-_, _*_, _≤_, _<_}
 use native.Mathlib.Nat.{eq-or-lt-of-le}
 use native.Mathlib.Numerals.{add-one}
 use native.Mathlib.Omega.{arith}
 use borrow.Author.Needs.{needs}
+use types.Run.{OneOf}
+use denote.Enum.Declared.{tagOf as kindOf}
 use lib.ListN.{length, set}
+use Rattle.tags.proofs.Item as item
 use Rattle.tags.specs.declared.Item.{Item}
 use Rattle.tags.specs.declared.Item.the-variants.{Declaration, Instruction, Comment, Section, Reference, Text, Start, Finish}
 use Rattle.tags.specs.declared.Item.the-variants.{Doctype, Malformed, TooLarge, Nothing}
@@ -23,9 +26,12 @@ use Rattle.document.specs.declared.Placement.the-variants as placed
 use Rattle.document.specs.declared.Why.{Why}
 use Rattle.document.proofs.After.{start-room, opened-after, names-after}
 use Rattle.document.proofs.Judging.{fine-ahead}
+use Rattle.document.proofs.Placing.{not-among}
 use Rattle.quick.proofs.Opened.{start-named}
 use Rattle.passes.specs.Opens.{Opens}
 use Rattle.passes.proofs.Telling.{opens-kept, opens-more}
+use Rattle.passes.proofs.Rests.{untagged}
+use Rattle.passes.proofs.Passing.{opened-past}
 use Rattle.tape.specs.Tape.{entryAt, putAt, imageOf}
 use Rattle.tape.specs.Taped.{Spot, spotOf, itemOf, nextOf, behind, Taped}
 use Rattle.tape.proofs.Entries.{put-here, put-before, put-long}
@@ -64,6 +70,43 @@ module _ {d starts lens : List ℕ} {o : Open} (s : Names d starts lens o) (v : 
     opens-after Malformed h f q = kept 0 (o .level .0) (omega arith)
     opens-after TooLarge h f q = kept 0 (o .level .0) (omega arith)
     opens-after Nothing h f q = kept 0 (o .level .0) (omega arith)
+
+-- an item that is no start tag and no empty tag opens nothing
+level-less : (i : Item) (o : Open) → OneOf untagged (kindOf item.the-type i) → openAfter i o .level .0 ≤ o .level .0
+level-less (Declaration e) o k = omega arith
+level-less (Instruction e) o k = omega arith
+level-less (Comment e) o k = omega arith
+level-less (Section e) o k = omega arith
+level-less (Reference n e) o k = omega arith
+level-less (Text e) o k = omega arith
+level-less (Start n h e m t) o k = absurd (not-among untagged 6 refl k)
+level-less (Finish n e) o k = omega arith
+level-less Doctype o k = omega arith
+level-less Malformed o k = omega arith
+level-less TooLarge o k = omega arith
+level-less Nothing o k = omega arith
+
+module _ {d starts lens : List ℕ} (o : Open) (i : Item) (k : OneOf untagged (kindOf item.the-type i)) where
+  names-less : Names d starts lens o → Names d starts lens (openAfter i o)
+  names-less s =
+      let l = level-less i o k in
+      record {
+        deep = omega (arith, s .deep, l);
+        starts-long = s .starts-long;
+        lens-long = s .lens-long;
+        inside = λ j y. s .inside j (omega (arith, l));
+      }
+
+  opens-less : Opens d starts lens (o .level .0) → Opens d starts lens (openAfter i o .level .0)
+  opens-less v =
+      let l = level-less i o k in
+      record { named = λ j y. v .named j (omega (arith, l)); inside = λ j y. v .inside j (omega (arith, l)) }
+
+-- the names kept by level after the item i: one more, or as they were where i is no start tag and no empty tag
+abbrev pub Named : List ℕ → List ℕ → ℕ → ℕ → Item → List ℕ → List ℕ → Type 0
+Named starts lens level at i starts′ lens′ =
+    ((starts′ ≡ set starts level (at + 1)) × (lens′ ≡ set lens level (lenOf i)))
+    ⊎ (OneOf untagged (kindOf item.the-type i) × (starts′ ≡ starts) × (lens′ ≡ lens))
 
 -- ---- the beginning
 
@@ -117,8 +160,29 @@ module _ {d : List ℕ} {s : Spot} {starts lens tape : List ℕ} {opened : Open}
     image-here = ap (imageOf at) e ∙ ap (λ (x : Spot). imageOf (x .at) (itemOf d x)) (v .spot)
 
     module _ (l : k < 4096) {starts′ lens′ tape′ : List ℕ} {opened′ : Open} {at′ k′ : ℕ}
-        (es : starts′ ≡ set starts (opened .level .0) (at + 1)) (el : lens′ ≡ set lens (opened .level .0) (lenOf i))
+        (en : Named starts lens (opened .level .0) at i starts′ lens′)
         (et : tape′ ≡ putAt tape k at i) (eo : opened′ ≡ openAfter i opened) (ea : at′ ≡ endOf at i) (ek : k′ ≡ k + 1) where
+      names-next : Names d starts′ lens′ (openAfter i opened)
+      names-next =
+          ⊎-elim
+          (λ z. rw (z .0, z .1) (names-after (v .names) at i inner fine))
+          (λ z. rw (z .1, z .2) (names-less opened i (z .0) (v .names)))
+          en
+
+      opens-next : Opens d starts′ lens′ (openAfter i opened .level .0)
+      opens-next =
+          ⊎-elim
+          (λ z. rw (z .0, z .1) (opens-after (v .names) (v .opens) at first i inner fine e))
+          (λ z. rw (z .1, z .2) (opens-less opened i (z .0) (v .opens)))
+          en
+
+      opened-next : openedOf d starts′ lens′ (openAfter i opened) ≡ afterItem d at i (openedOf d starts lens opened)
+      opened-next =
+          ⊎-elim
+          (λ z. rw (z .0, z .1) (opened-after (v .names) at i fine))
+          (λ z. rw (z .1, z .2) (opened-past d starts lens at opened i (z .0)))
+          en
+
       taped-next : Taped d (putAt tape k at i) s (suc k)
       taped-next = record { fine = fines; kept = keeps }
         where
@@ -144,8 +208,8 @@ module _ {d : List ℕ} {s : Spot} {starts lens tape : List ℕ} {opened : Open}
 
       spot-next : spotOf d starts′ lens′ opened′ at′ false ≡ nextOf d (behind d s k)
       spot-next =
-          rw (es, el, eo, ea)
-          (ap (λ (x : Opened). record { at = endOf at i; first = false; opened = x }) (opened-after (v .names) at i fine)
+          rw (eo, ea)
+          (ap (λ (x : Opened). record { at = endOf at i; first = false; opened = x }) opened-next
           ∙ ap (λ (j : Item). record { at = endOf at j; first = false; opened = afterItem d at j (openedOf d starts lens opened) }) e
           ∙ ap (nextOf d) (v .spot))
 
@@ -153,8 +217,8 @@ module _ {d : List ℕ} {s : Spot} {starts lens tape : List ℕ} {opened : Open}
       reel-on =
           rw (ek, add-one k)
           (record {
-            names = rw (es, el, eo) (names-after (v .names) at i inner fine);
-            opens = rw (es, el, eo) (opens-after (v .names) (v .opens) at first i inner fine e);
+            names = rw eo names-next;
+            opens = rw eo opens-next;
             within = omega (arith, further .1);
             spot = spot-next;
             taped = rw et taped-next;
@@ -163,4 +227,4 @@ module _ {d : List ℕ} {s : Spot} {starts lens tape : List ℕ} {opened : Open}
             long = ap length et ∙ put-long tape k at i ∙ v .long;
           })
 
-pub ruleset reels = (reel-start, reel-over, reel-fault, reel-fits, reel-on, needs)
+pub ruleset reels = (reel-start, reel-over, reel-fault, reel-fits, needs)

@@ -15,6 +15,7 @@ use document::place::end_of;
 use document::place::keep;
 use passes::next_item;
 use points::table::Classes;
+use tags::Item;
 use tape::ITEMS;
 use tape::Tape;
 use tape::put;
@@ -84,7 +85,15 @@ pub fn items(
                 };
             }
             Placement::Fine => {
-                keep(starts, lens, opened, at, next);
+                if let Item::Start {
+                    name: _,
+                    head: _,
+                    end: _,
+                    empty: _,
+                    twice: _,
+                } = next {
+                    keep(starts, lens, opened, at, next);
+                }
                 put(tape, k, at, next);
                 opened = opened.after(next);
                 at = end_of(at, next);

@@ -1,12 +1,13 @@
 -- `items` meets its contract. The loop's invariant is `Reeling`: the tape has the items so far, and the spot reached is the one behind
 -- them. The measure is the room left on the tape.
-use mathlib.Core.Path.{_≡_}
+use mathlib.Core.Path.{_≡_, refl, _∙_}
+use mathlib.Core.Logic.{⊎-elim, inl, inr}
 use Prim.Native.Nat.{_-_, _≤_}
 use lib.ListN.{length}
 use Rattle.points.specs.Class.{classTable}
 use Rattle.tape.specs.Taped.{spotOf}
 use Rattle.reel.specs.Reeling.{Reeling}
-use Rattle.reel.proofs.Reels.{reels}
+use Rattle.reel.proofs.Reels.{reel-on, reels}
 use Rattle.reel.proofs.items.Statement.{statement}
 use Rattle.reel.proofs.items.Tie as tie
 
@@ -39,6 +40,9 @@ returns-2 c = search reels
 enum-told-2 : tie.Need-enum-told-2 Inv-loop μ-loop
 enum-told-2 c = search reels
 
+enum-told-3 : tie.Need-enum-told-3 Inv-loop μ-loop
+enum-told-3 c = search reels
+
 keep-requires : tie.Need-keep-requires Inv-loop μ-loop
 keep-requires c κs = search reels
 
@@ -58,7 +62,19 @@ loop-less : tie.Need-loop-less Inv-loop μ-loop
 loop-less c = search reels
 
 loop-again : tie.Need-loop-again Inv-loop μ-loop
-loop-again c = search reels
+loop-again c =
+    let here = c .before .before .before .before .before in
+    let n = c .before .before .before .before .match2 in
+    let v = here .before .before .before .before .before .before .loop .inv in
+    let e = here .before .before .next-item .ensures .0 in
+    let q = here .before .before .next-item .ensures .1 in
+    let h = here .enum-told2 .given .1 in (
+      v .0,
+      v .1,
+      reel-on (v .2) e q h (here .before .before .before .before .before .loop-test .taken)
+          (⊎-elim (λ z. inl (z .5 ∙ z .4 .ensures .0, z .6 ∙ z .4 .ensures .1)) (λ z. inr (z .0 .keys2, z .1, z .2)) (n .came))
+          (c .before .before .put .ensures) (c .before .after .ensures) (c .end-of .ensures) refl,
+    )
 
 returns-3 : tie.Need-returns-3 Inv-loop μ-loop
 returns-3 c = search reels
@@ -76,6 +92,7 @@ items-spec =
     enum-told
     returns-2
     enum-told-2
+    enum-told-3
     keep-requires
     put-requires
     after-requires
