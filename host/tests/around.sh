@@ -84,8 +84,8 @@ inner="<?p é?><![CDATA[é]]><g $value/><g $value>é</g>"
 program_before=$program program=$room/c-stack
 less='less than 98304 bytes of stack'
 lines "answer 0: $less" 'answer 0: less than 65536 bytes of stack' 'answer 0: less than 196608 bytes of stack' "answer 0: $less" \
-    "answer 0: $less" 'answer 0: less than 8192 bytes of stack' "answer 0: $less" 'answer 0: less than 393216 bytes of stack' \
-    'answer 0: less than 262144 bytes of stack'
+    "answer 0: $less" 'answer 0: less than 8192 bytes of stack' "answer 0: $less" 'answer 0: less than 524288 bytes of stack' \
+    'answer 0: less than 393216 bytes of stack'
 try 'C: the stack of a call' 0 most.lst most.xml
 program=$program_before
 
