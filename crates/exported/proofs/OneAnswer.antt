@@ -1,6 +1,6 @@
 -- Two results that one contract allows are equal, over the contracts that the toolchain makes of the source: of `choughbell_characters`,
--- `choughbell_judge` and `numbers_of`, which can't change what they are lent, and of `choughbell_cut` and `choughbell_cut_with` with what
--- they leave in the buffer. Of the log nothing is said. Then the plain engine: one answer, and `plain-alike`, the theorem of Q-9 of
+-- `choughbell_judge`, `refusal` and `numbers_of`, which can't change what they are lent, and of `choughbell_cut` and `choughbell_cut_with`
+-- with what they leave in the buffer. Of the log nothing is said. Then the plain engine: one answer, and `plain-alike`, the theorem of Q-9 of
 -- the two functions that callers have: on the same list, document and buffer their first three numbers are equal, and every byte of the
 -- buffer is. Last a batch. Packed lists, covering and mending have theirs in PackingNumbers, CoverNumbers and Mended.
 use mathlib.Core.Path.{_≡_, sym, ap, _∙_}
@@ -8,6 +8,7 @@ use denote.Ref.{now}
 use Rattle.contracts.specs.One.{OneResult, OneOutcome}
 use Rattle.exported.proofs.choughbell_characters.Reads as characters
 use Rattle.exported.proofs.choughbell_judge.Reads as judge
+use Rattle.exported.proofs.refusal.Reads as refusal
 use Rattle.exported.proofs.numbers_of.Reads as numbers
 use Rattle.exported.proofs.choughbell_cut.Reads as cut
 use Rattle.exported.proofs.choughbell_cut_with.Reads as cut-with
@@ -22,6 +23,9 @@ characters-one κs a z z′ e e′ x p q = p ∙ sym q
 
 pub judge-one : OneResult judge.Asked judge.Learnt
 judge-one κs a z z′ e e′ x p q = p ∙ sym q
+
+pub refusal-one : OneResult refusal.Asked refusal.Learnt
+refusal-one κs a z z′ e e′ x p q = p ∙ sym q
 
 pub numbers-one : OneResult numbers.Asked numbers.Learnt
 numbers-one κs a z z′ e e′ x p q = p ∙ sym q
