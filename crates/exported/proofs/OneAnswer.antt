@@ -1,7 +1,7 @@
 -- Two results that one contract allows are equal, over the contracts that the toolchain makes of the source: of `choughbell_characters`,
 -- `choughbell_judge`, `refusal` and `numbers_of`, which can't change what they are lent, and of `choughbell_cut` and `choughbell_cut_with`
--- with what they leave in the buffer. Of the log nothing is said. Then the plain engine: one answer, and `plain-alike`, the theorem of Q-9 of
--- the two functions that callers have: on the same list, document and buffer their first three numbers are equal, and every byte of the
+-- with what they leave in the buffer. Of the log nothing is said. Then the plain engine: one answer, and `plain-alike`, the theorem of Q-9
+-- of the two functions that callers have: on the same list, document and buffer their first three numbers are equal, and every byte of the
 -- buffer is. Last a batch. Packed lists, covering and mending have theirs in PackingNumbers, CoverNumbers and Mended.
 use mathlib.Core.Path.{_≡_, sym, ap, _∙_}
 use denote.Ref.{now}
