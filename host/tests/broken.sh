@@ -52,7 +52,7 @@ interrupt() {
     done
 }
 for signal in HUP:129 INT:130 TERM:143; do
-    ran=$((ran + 1)) started='env --default-signal=INT'
+    ran=$((ran + 1)) started='env --default-signal=HUP,INT,TERM'
     interrupt ${signal%:*}
     status "ended by ${signal%:*}" "${signal#*:}" "$got"
     holds "ended by ${signal%:*}" kept.xml ''

@@ -107,8 +107,8 @@ for words in '--version' 'version' '-V' 'cut -V' 'check none.xml --version' 'exp
 done
 # The man page and the header have the same.
 ran=$((ran + 2))
-grep -q '^\.TH CHOUGHBELL 1 [0-9-]* "choughbell 0\.3\.0"' "$root/host/man/choughbell.1" || fault 'version' 'of the man page'
-head -n 1 "$root/host/include/choughbell.h" | grep -q 'choughbell 0\.3\.0' || fault 'version' 'of the header'
+grep -q '^\.TH CHOUGHBELL 1 [0-9-]* "choughbell 0\.4\.0"' "$root/host/man/choughbell.1" || fault 'version' 'of the man page'
+head -n 1 "$root/host/include/choughbell.h" | grep -q 'choughbell 0\.4\.0' || fault 'version' 'of the header'
 start --help > help 2>&1 || fault 'help' 'status'
 [ "$(head -n 1 help)" = 'choughbell cuts XML by a list of paths, by a filter that is proved.' ] || fault 'help' "$(head -n 1 help)"
 for words in '--help' 'help' '-h' 'cut --help' 'rows -h' 'check -h' 'batch -h' 'covers --help' 'mend --help' 'explain --help'; do
