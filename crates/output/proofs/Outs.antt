@@ -1,9 +1,9 @@
--- The ways out of the steps, as the code has them: `finish`, `start`, `tag_step`, `other_step`.
+-- The ways out of the steps, as the code has them: `silent`, `finish`, `start`, `tag_step`, `other_step`.
 -- Each hands the law of its way what the code knows of the bytes and of the numbers.
-use mathlib.Core.Path.{_≡_, refl, _∙_}
-use mathlib.Core.Bool.{Bool, true, false}
+use mathlib.Core.Path.{_≡_, refl, sym, _∙_}
+use mathlib.Core.Bool.{Bool, true, false, false≢true}
 use mathlib.Core.List.{List, [], _∷_}
-use mathlib.Core.Logic.{_⊎_, inl, inr}
+use mathlib.Core.Logic.{_⊎_, inl, inr, ⊎-elim}
 use Prim.Native.Nat.{ℕ, zero, suc, _+_, _-_, _≤_, _<_}
 use native.Mathlib.Omega.{arith}
 use borrow.Author.Needs.{needs}
@@ -24,12 +24,12 @@ use Rattle.matcher.specs.declared.Verdict.the-variants.{Unselected}
 use Rattle.trees.specs.Grown.{part}
 use Rattle.trees.specs.Engine.{Engine, onStart, onFinish}
 use Rattle.output.specs.Act.{onTag, onOther, levelAfter}
-use Rattle.output.specs.Levels.{nameAt, Placed, Inked, entryAt, Stays, Moved, Moves, Ready}
+use Rattle.output.specs.Levels.{nameAt, Placed, Inked, entryAt, Stays, Silent, Moved, Moves, Ready}
 use Rattle.output.specs.declared.Run.{Run}
 use Rattle.notes.proofs.Replaying.{part-size}
 use Rattle.output.proofs.Inking.{part-long}
 use Rattle.output.proofs.Chains.{name-part}
-use Rattle.output.proofs.Steps.{aside-step, end-none, end-level, end-inner, end-entry, end-waits}
+use Rattle.output.proofs.Steps.{aside-step, end-none, end-level, end-entry}
 use Rattle.output.proofs.Steps.{start-kept, start-marked, start-selected, start-root, start-waits}
 
 -- ---- bytes of the document that are written
@@ -71,6 +71,31 @@ lent-is : (d starts lens : List ℕ) (i : ℕ) → lent d starts lens i ≡ name
 unfolding nameAt
 lent-is d starts lens i = name-part d (getD starts i 0) (getD lens i 0)
 
+-- ---- `silent`
+
+-- what is told of an end
+abbrev pub Told : ℕ → ℕ → ℕ → Bool → Type 0
+Told reached kept level b = (b ≡ true → Silent reached kept level) × (b ≡ false → Silent reached kept level → ⊥)
+
+module _ {reached kept level : ℕ} where
+  told-silent : Silent reached kept level → Told reached kept level true
+  told-silent s = (λ e. s, λ e x. absurd (false≢true (sym e)))
+
+  told-loud : (Silent reached kept level → ⊥) → Told reached kept level false
+  told-loud n = (λ e. absurd (false≢true e), λ e. n)
+
+  pub silent-open : level ≤ reached → Told reached kept level false
+  silent-open l = told-loud (λ s. omega (arith, s .0))
+
+  pub silent-waits : reached < level → kept ≡ 0 → Told reached kept level true
+  silent-waits h z = told-silent (h, inl z)
+
+  pub silent-last : (kept ≡ 0 → ⊥) → level - reached ≡ 1 → Told reached kept level false
+  silent-last n e = told-loud (λ s. ⊎-elim n (λ h. omega arith) (s .1))
+
+  pub silent-inner : reached < level → (level - reached ≡ 1 → ⊥) → Told reached kept level true
+  silent-inner h n = told-silent (h, inr (omega arith))
+
 -- ---- `finish`
 
 module _ {d starts lens : List ℕ} {level : ℕ} (p : Placed d starts lens level) (small : length d ≤ 16777216)
@@ -88,6 +113,16 @@ module _ {d starts lens : List ℕ} {level : ℕ} (p : Placed d starts lens leve
       let q = lent-is d starts lens (level - 1) in
       end-level h g z (rw q at w) (rw q at (lent-long p small {i = level - 1} (omega arith)))
 
+-- not open in the output, where something is written: the end of a kept entry
+module _ {reached kept level : ℕ} (n : Silent reached kept level → ⊥) (h : reached < level) where
+  pub entry-there : kept ≡ 0 → ⊥
+  entry-there z = n (h, inl z)
+
+  pub entry-last : level ≤ reached + 1
+  entry-last =
+      let out : reached + 1 < level → ⊥ = λ l. n (h, inr l) in
+      omega (arith, out)
+
 pub ruleset finishes = (
   ink-near,
   entry-small,
@@ -96,9 +131,7 @@ pub ruleset finishes = (
   finish-inside,
   end-none,
   finish-level,
-  end-inner,
   end-entry,
-  end-waits,
   stays-same,
   stays-none,
   needs,

@@ -18,7 +18,7 @@ use Rattle.notes.proofs.Making.{noted-more, stood-more, part-join}
 use Rattle.trees.specs.Cut.{one}
 use Rattle.trees.specs.Grown.{part}
 use Rattle.trees.specs.Engine.{Engine, engine, chain, openOf, onStart, onFinish, onAside}
-use Rattle.output.specs.Levels.{nameAt, span, Laid, Inked, within, owed, entryAt, Stays, Stands, Moved}
+use Rattle.output.specs.Levels.{nameAt, span, Laid, Inked, within, owed, entryAt, Silent, Stands, Moved}
 use Rattle.output.proofs.Spans.{span-more, span-less, span-none, span-whole, span-last, span-next, some-left, some-span}
 
 -- ---- what is laid, and what is due
@@ -322,6 +322,16 @@ module _ {d starts lens o g : List ℕ} {level reached kept at len count m : ℕ
             text = t .text;
             notes = t .notes;
           })
+
+  -- nothing is written
+  pub end-silent : {e : ℕ} → at ≤ e → Silent reached kept level
+      → Moved d starts lens level reached kept at len count m o g (onFinish (part d at e)) 1 (level - 1) reached kept e len count m o g
+  end-silent {e} l s = ⊎-elim (λ z. end-waits l z (s .0)) (inner kept refl) (s .1)
+    where
+      inner : (k : ℕ) → kept ≡ k → reached + 1 < level
+          → Moved d starts lens level reached kept at len count m o g (onFinish (part d at e)) 1 (level - 1) reached kept e len count m o g
+      inner zero z h = end-waits l z (s .0)
+      inner (suc from) z h = end-inner l (λ q. omega arith) h
 
 -- ---- a start
 

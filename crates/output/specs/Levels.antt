@@ -61,6 +61,11 @@ entryAt (suc from) at = suc from
 abbrev pub Stays : ℕ → ℕ → Type 0
 Stays kept kept′ = (kept′ ≡ 0) ⊎ (kept′ ≡ kept)
 
+-- nothing is written at the end of the innermost of `level` open elements: it is not open in the output, and it waits or is inside a kept
+-- entry that goes on behind it
+abbrev pub Silent : ℕ → ℕ → ℕ → Type 0
+Silent reached kept level = (reached < level) × ((kept ≡ 0) ⊎ (reached + 1 < level))
+
 -- The code's state stands for an engine: `level` is the input level, `reached` the output level, `at` the place reached; o₀ is the buffer
 -- at the beginning, o the buffer now, g the log with m notes. What the engine has written is what is laid, and then what is due.
 pub record Stands (d starts lens o₀ : List ℕ) (level reached kept at len count m : ℕ) (o g : List ℕ) (e : Engine) : Type 0 where

@@ -1,6 +1,7 @@
 // An item's step: what is written at it, and what the run is after it. The names of the open elements are kept by level, and that of a
 // start tag or empty tag stands there before its step.
 ghost use mathlib.Core.Path.{_≡_};
+ghost use mathlib.Core.Bool.{true, false};
 ghost use Prim.Native.Nat.{_+_, _-_, _≤_};
 ghost use lib.ListN.{length};
 ghost use Rattle.items.specs.Inside.{Inside};
@@ -9,7 +10,7 @@ ghost use Rattle.document.specs.Levels.{deeper};
 ghost use Rattle.trees.specs.Cut.{one};
 ghost use Rattle.trees.specs.Grown.{part};
 ghost use Rattle.trees.specs.Engine.{onStart, onFinish};
-ghost use Rattle.output.specs.Levels.{nameAt, Placed, Ready, Moves, Stays};
+ghost use Rattle.output.specs.Levels.{nameAt, Placed, Ready, Moves, Stays, Silent};
 ghost use Rattle.output.specs.Act.{onTag, onOther, levelAfter};
 use crate::OutputLevel;
 use crate::Run;
@@ -34,8 +35,25 @@ fn one_of(verdict: Verdict) -> usize
     }
 }
 
-// The end of the innermost element, which has an end tag from at to end; an empty tag's has no bytes. Where it ends a kept entry, the entry
-// is written.
+// Whether nothing is written at the end of the innermost of so many open elements: it waits, or is inside a kept entry that goes on.
+fn silent(run: Run, level: usize) -> bool
+    ensures { λ r. ⌜ (r ≡ true → Silent (run .reached .0) (run .kept) level) × (r ≡ false → Silent (run .reached .0) (run .kept) level → ⊥) ⌝ }
+{
+    let reached = run.reached.0;
+    if level <= reached {
+        return false;
+    }
+    if run.kept == 0 {
+        return true;
+    }
+    if level - reached == 1 {
+        return false;
+    }
+    true
+}
+
+// The end of the innermost element, which has an end tag from at to end; an empty tag's has no bytes. It is open in the output, or ends a
+// kept entry, which is written.
 fn finish(
     run: Run,
     level: InputLevel,
@@ -48,7 +66,8 @@ fn finish(
     end: usize,
 ) -> Run
     requires { ⌜ Ready (now doc) (now log) run 144115188075855872 × (run .kept ≤ at + 1) × (run .reached .0 ≤ level .0) × (at ≤ end)
-        × (end ≤ length (now doc)) × Placed (now doc) (now starts) (now lens) (level .0) ⌝ }
+        × (end ≤ length (now doc)) × Placed (now doc) (now starts) (now lens) (level .0)
+        × (Silent (run .reached .0) (run .kept) (level .0) → ⊥) ⌝ }
     ensures { λ r.
         ⌜ Moves (now (doc .entry)) (now (starts .entry)) (now (lens .entry)) (level .0) at run (now (out .entry)) (now (log .entry))
         (onFinish (part (now (doc .entry)) at end)) 1 (level .0 - 1) end r (now (out .exit)) (now (log .exit)) ⌝ }
@@ -70,12 +89,6 @@ fn finish(
             count: run.count,
             noted: r.noted,
         };
-    }
-    if run.kept == 0 {
-        return run;
-    }
-    if reached + 1 < l {
-        return run;
     }
     let from = run.kept - 1;
     let r = raw(doc, out, log, run.len, run.noted, from, end);
@@ -199,6 +212,9 @@ pub fn tag_step(
         end,
     );
     if empty {
+        if silent(inner, reached + 1) {
+            return inner;
+        }
         return finish(
             inner,
             InputLevel(reached + 1),
@@ -234,6 +250,9 @@ pub fn other_step(
         (onOther (now (doc .entry)) at item) 1 (levelAfter item (level .0)) (endOf at item) r (now (out .exit)) (now (log .exit)) ⌝ }
 {
     if let Item::Finish { name: _, end } = item {
+        if silent(run, level.0) {
+            return run;
+        }
         return finish(run, level, doc, starts, lens, out, log, at, end);
     }
     run
