@@ -37,7 +37,8 @@ fn one_of(verdict: Verdict) -> usize
 
 // Whether nothing is written at the end of the innermost of so many open elements: it waits, or is inside a kept entry that goes on.
 fn silent(run: Run, level: usize) -> bool
-    ensures { λ r. ⌜ (r ≡ true → Silent (run .reached .0) (run .kept) level) × (r ≡ false → Silent (run .reached .0) (run .kept) level → ⊥) ⌝ }
+    ensures { λ r. ⌜ (r ≡ true → Silent (run .reached .0) (run .kept) level)
+        × (r ≡ false → Silent (run .reached .0) (run .kept) level → ⊥) ⌝ }
 {
     let reached = run.reached.0;
     if level <= reached {

@@ -32,9 +32,9 @@ use Rattle.passes.specs.Opens.{Opens}
 use Rattle.passes.proofs.Telling.{opens-kept, opens-more}
 use Rattle.passes.proofs.Rests.{untagged}
 use Rattle.passes.proofs.Passing.{opened-past}
-use Rattle.tape.specs.Tape.{entryAt, putAt, imageOf}
-use Rattle.tape.specs.Taped.{Spot, spotOf, itemOf, nextOf, behind, Taped}
-use Rattle.tape.proofs.Entries.{put-here, put-before, put-long}
+use Rattle.tape.specs.Tape.{entryAt, beginAt, tagsOf, putAt, imageOf}
+use Rattle.tape.specs.Taped.{Spot, spotOf, itemOf, nextOf, behind, tagsIn, Taped}
+use Rattle.tape.proofs.Entries.{put-here, put-begins, put-before, put-began, put-long}
 use Rattle.reel.specs.Reeling.{Reeling, placedAt, Stopped}
 use Rattle.reel.specs.declared.Stop.{Stop}
 use Rattle.reel.specs.declared.Stop.the-variants.{Full, Over, Fault}
@@ -108,39 +108,74 @@ Named starts lens level at i starts′ lens′ =
     ((starts′ ≡ set starts level (at + 1)) × (lens′ ≡ set lens level (lenOf i)))
     ⊎ (OneOf untagged (kindOf item.the-type i) × (starts′ ≡ starts) × (lens′ ≡ lens))
 
+-- ---- how many tags are among the items
+
+one-most : (i : Item) → tagsOf i ≤ 1
+one-most (Declaration e) = omega arith
+one-most (Instruction e) = omega arith
+one-most (Comment e) = omega arith
+one-most (Section e) = omega arith
+one-most (Reference n e) = omega arith
+one-most (Text e) = omega arith
+one-most (Start n h e m t) = omega arith
+one-most (Finish n e) = omega arith
+one-most Doctype = omega arith
+one-most Malformed = omega arith
+one-most TooLarge = omega arith
+one-most Nothing = omega arith
+
+-- there are no fewer behind more items
+tags-grow : (d : List ℕ) (s : Spot) (j n : ℕ) → j < n → tagsIn d s (suc j) ≤ tagsIn d s n
+tags-grow d s j zero g = absurd (omega arith)
+tags-grow d s j (suc n) g =
+    let le : j ≤ n = omega arith in
+    ⊎-elim
+    (λ (z : j ≡ n). rw z (omega arith))
+    (λ (z : j < n). omega (arith, tags-grow d s j n z))
+    (eq-or-lt-of-le le)
+
+-- the entry of a tag is before those of the tags behind it
+tag-before : (d : List ℕ) (s : Spot) (j n : ℕ) → j < n → tagsOf (itemOf d (behind d s j)) ≡ 1 → tagsIn d s j < tagsIn d s n
+tag-before d s j n g o = omega (arith, tags-grow d s j n g, o)
+
 -- ---- the beginning
 
 pub reel-start : {d starts lens tape : List ℕ} {opened : Open} {at : ℕ} (first : Bool) → Names d starts lens opened
-    → Opens d starts lens (opened .level .0) → at ≤ length d → length tape ≡ 16384
-    → Reeling d (spotOf d starts lens opened at first) starts lens tape opened at first 0
+    → Opens d starts lens (opened .level .0) → at ≤ length d → length tape ≡ 20480
+    → Reeling d (spotOf d starts lens opened at first) starts lens tape opened at first 0 0
 reel-start first ns os l z =
     record {
       names = ns;
       opens = os;
       within = l;
       spot = refl;
-      taped = record { fine = λ k g. absurd (omega arith); kept = λ k g. absurd (omega arith) };
+      taped =
+          record {
+            fine = λ k g. absurd (omega arith);
+            count = refl;
+            begins = λ k g o. absurd (omega arith);
+            kept = λ k g o. absurd (omega arith);
+          };
+      room = λ k g. absurd (omega arith);
       ahead = omega arith;
+      fewer = omega arith;
       few = omega arith;
       long = z;
     }
 
 -- ---- the next item
 
-module _ {d : List ℕ} {s : Spot} {starts lens tape : List ℕ} {opened : Open} {at : ℕ} {first : Bool} {k : ℕ}
-    (v : Reeling d s starts lens tape opened at first k) {i : Item} (e : i ≡ itemAt first d at)
+module _ {d : List ℕ} {s : Spot} {starts lens tape : List ℕ} {opened : Open} {at : ℕ} {first : Bool} {items tags : ℕ}
+    (v : Reeling d s starts lens tape opened at first items tags) {i : Item} (e : i ≡ itemAt first d at)
     {p : Placement} (q : p ≡ placement d at i (openedOf d starts lens opened)) where
-  abbrev here : Spot
-  here = spotOf d starts lens opened at first
-
-  placed-here : placedAt d (behind d s k) ≡ p
+  placed-here : placedAt d (behind d s items) ≡ p
   placed-here =
       ap (placedAt d) (sym (v .spot)) ∙ ap (λ (j : Item). placement d at j (openedOf d starts lens opened)) (sym e) ∙ sym q
 
-  pub reel-over : k < 4096 → p ≡ placed.Over → Stopped d s k Over
+  pub reel-over : tags < 4096 → p ≡ placed.Over → Stopped d s items tags Over
   reel-over l h = (l, placed-here ∙ h)
 
-  pub reel-fault : k < 4096 → (why : Why) → p ≡ placed.Fault why → Stopped d s k (Fault why)
+  pub reel-fault : tags < 4096 → (why : Why) → p ≡ placed.Fault why → Stopped d s items tags (Fault why)
   reel-fault l why h = (l, placed-here ∙ h)
 
   module _ (h : p ≡ placed.Fine) where
@@ -156,12 +191,24 @@ module _ {d : List ℕ} {s : Spot} {starts lens tape : List ℕ} {opened : Open}
     pub reel-fits : length d ≤ 16777216 → at + 1 ≤ 18446744073709551615
     reel-fits small = omega (arith, further .0, further .1)
 
-    image-here : imageOf at i ≡ imageOf (behind d s k .at) (itemOf d (behind d s k))
-    image-here = ap (imageOf at) e ∙ ap (λ (x : Spot). imageOf (x .at) (itemOf d x)) (v .spot)
+    -- one item more can be counted
+    pub reel-counts : length d ≤ 16777216 → items + 1 ≤ 18446744073709551615
+    reel-counts small = omega (arith, v .ahead, v .within)
 
-    module _ (l : k < 4096) {starts′ lens′ tape′ : List ℕ} {opened′ : Open} {at′ k′ : ℕ}
+    -- less of the document is left behind it
+    pub reel-less : {at′ : ℕ} → at′ ≡ endOf at i → length d - at′ < length d - at
+    reel-less ea = omega (arith, ea, further .0, further .1)
+
+    item-here : i ≡ itemOf d (behind d s items)
+    item-here = e ∙ ap (itemOf d) (v .spot)
+
+    at-here : at ≡ behind d s items .at
+    at-here = ap (λ (x : Spot). x .at) (v .spot)
+
+    module _ (l : tags < 4096) {starts′ lens′ tape′ : List ℕ} {opened′ : Open} {at′ items′ tags′ : ℕ}
         (en : Named starts lens (opened .level .0) at i starts′ lens′)
-        (et : tape′ ≡ putAt tape k at i) (eo : opened′ ≡ openAfter i opened) (ea : at′ ≡ endOf at i) (ek : k′ ≡ k + 1) where
+        (eg : tags′ ≡ tags + tagsOf i) (et : tape′ ≡ putAt tape tags at i)
+        (eo : opened′ ≡ openAfter i opened) (ea : at′ ≡ endOf at i) (ei : items′ ≡ items + 1) where
       names-next : Names d starts′ lens′ (openAfter i opened)
       names-next =
           ⊎-elim
@@ -183,48 +230,86 @@ module _ {d : List ℕ} {s : Spot} {starts lens tape : List ℕ} {opened : Open}
           (λ z. rw (z .1, z .2) (opened-past d starts lens at opened i (z .0)))
           en
 
-      taped-next : Taped d (putAt tape k at i) s (suc k)
-      taped-next = record { fine = fines; kept = keeps }
+      abbrev tape-next : List ℕ
+      tape-next = putAt tape tags at i
+
+      space : tags * 5 + 5 ≤ length tape
+      space = omega (arith, v .long)
+
+      -- the tag among the items before has its entry before
+      before : (j : ℕ) → j < items → tagsOf (itemOf d (behind d s j)) ≡ 1 → tagsIn d s j < tags
+      before j g o = omega (arith, tag-before d s j items g o, v .taped .count)
+
+      begins-here : tagsOf (itemOf d (behind d s items)) ≡ 1 → beginAt tape-next (tagsIn d s items) ≡ behind d s items .at
+      begins-here o =
+          ap (beginAt tape-next) (sym (v .taped .count)) ∙ put-begins tape tags at i space (ap tagsOf item-here ∙ o) ∙ at-here
+
+      kept-here : tagsOf (itemOf d (behind d s items)) ≡ 1
+          → entryAt tape-next (tagsIn d s items) ≡ imageOf (itemOf d (behind d s items))
+      kept-here o =
+          ap (entryAt tape-next) (sym (v .taped .count))
+          ∙ put-here tape tags at i space (ap tagsOf item-here ∙ o)
+          ∙ ap imageOf item-here
+
+      taped-next : Taped d tape-next s (suc items) (tags + tagsOf i)
+      taped-next = record { fine = fines; count = ap₂ _+_ (v .taped .count) (ap tagsOf item-here); begins = began; kept = keeps }
         where
-          fines : (j : ℕ) → j < suc k → placedAt d (behind d s j) ≡ placed.Fine
+          fines : (j : ℕ) → j < suc items → placedAt d (behind d s j) ≡ placed.Fine
           fines j g =
-              let le : j ≤ k = omega arith in
+              let le : j ≤ items = omega arith in
               ⊎-elim
-              (λ (z : j ≡ k). ap (λ (n : ℕ). placedAt d (behind d s n)) z ∙ placed-here ∙ h)
-              (λ (z : j < k). v .taped .fine j z)
+              (λ (z : j ≡ items). ap (λ (n : ℕ). placedAt d (behind d s n)) z ∙ placed-here ∙ h)
+              (λ (z : j < items). v .taped .fine j z)
               (eq-or-lt-of-le le)
 
-          keeps : (j : ℕ) → j < suc k → entryAt (putAt tape k at i) j ≡ imageOf (behind d s j .at) (itemOf d (behind d s j))
-          keeps j g =
-              let le : j ≤ k = omega arith in
+          began : (j : ℕ) → j < suc items → tagsOf (itemOf d (behind d s j)) ≡ 1
+              → beginAt tape-next (tagsIn d s j) ≡ behind d s j .at
+          began j g o =
+              let le : j ≤ items = omega arith in
               ⊎-elim
-              (λ (z : j ≡ k).
-              rw z (put-here tape k at i (omega (arith, v .long)) ∙ image-here))
-              (λ (z : j < k). put-before tape k at i j z ∙ v .taped .kept j z)
+              (λ (z : j ≡ items). rw z (begins-here (rw z at o)))
+              (λ (z : j < items). put-began tape tags at i (tagsIn d s j) (before j z o) ∙ v .taped .begins j z o)
               (eq-or-lt-of-le le)
 
-      abbrev beyond : List ℕ → List ℕ → Open → ℕ → Spot
-      beyond a b o n = spotOf d a b o n false
+          keeps : (j : ℕ) → j < suc items → tagsOf (itemOf d (behind d s j)) ≡ 1
+              → entryAt tape-next (tagsIn d s j) ≡ imageOf (itemOf d (behind d s j))
+          keeps j g o =
+              let le : j ≤ items = omega arith in
+              ⊎-elim
+              (λ (z : j ≡ items). rw z (kept-here (rw z at o)))
+              (λ (z : j < items). put-before tape tags at i (tagsIn d s j) (before j z o) ∙ v .taped .kept j z o)
+              (eq-or-lt-of-le le)
 
-      spot-next : spotOf d starts′ lens′ opened′ at′ false ≡ nextOf d (behind d s k)
+      -- there was room before this item too
+      room-next : (j : ℕ) → j < suc items → tagsIn d s j < 4096
+      room-next j g =
+          let le : j ≤ items = omega arith in
+          ⊎-elim
+          (λ (z : j ≡ items). rw z (omega (arith, v .taped .count)))
+          (λ (z : j < items). v .room j z)
+          (eq-or-lt-of-le le)
+
+      spot-next : spotOf d starts′ lens′ opened′ at′ false ≡ nextOf d (behind d s items)
       spot-next =
           rw (eo, ea)
           (ap (λ (x : Opened). record { at = endOf at i; first = false; opened = x }) opened-next
           ∙ ap (λ (j : Item). record { at = endOf at j; first = false; opened = afterItem d at j (openedOf d starts lens opened) }) e
           ∙ ap (nextOf d) (v .spot))
 
-      pub reel-on : Reeling d s starts′ lens′ tape′ opened′ at′ false k′
+      pub reel-on : Reeling d s starts′ lens′ tape′ opened′ at′ false items′ tags′
       reel-on =
-          rw (ek, add-one k)
+          rw (ei, add-one items, eg)
           (record {
             names = rw eo names-next;
             opens = rw eo opens-next;
             within = omega (arith, further .1);
             spot = spot-next;
             taped = rw et taped-next;
+            room = room-next;
             ahead = omega (arith, v .ahead, further .0);
-            few = omega arith;
-            long = ap length et ∙ put-long tape k at i ∙ v .long;
+            fewer = omega (arith, v .fewer, one-most i);
+            few = omega (arith, one-most i);
+            long = ap length et ∙ put-long tape tags at i ∙ v .long;
           })
 
-pub ruleset reels = (reel-start, reel-over, reel-fault, reel-fits, needs)
+pub ruleset reels = (reel-start, reel-over, reel-fault, reel-fits, reel-counts, reel-less, needs)

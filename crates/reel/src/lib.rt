@@ -1,5 +1,5 @@
-// The reader for a tape: items are read, put in their places and laid on the tape, until it is full, nothing is left, or one is at fault.
-// It knows no list and no client. What it hands back is in specs/Reeling.antt.
+// The reader for a tape: items are read and put in their places, and the tags among them are laid on the tape, until it is full, nothing is
+// left, or one is at fault. It knows no list and no client. What it hands back is in specs/Reeling.antt.
 ghost use mathlib.Core.Path.{_≡_};
 ghost use Prim.Native.Nat.{_≤_};
 ghost use lib.ListN.{length};
@@ -16,7 +16,7 @@ use document::place::keep;
 use passes::next_item;
 use points::table::Classes;
 use tags::Item;
-use tape::ITEMS;
+use tape::TAGS;
 use tape::Tape;
 use tape::put;
 
@@ -27,9 +27,11 @@ pub enum Stop {
     Fault(Why),
 }
 
-// How many items are on the tape, what is open after them, where the next begins and whether it is the first of the document.
+// How many items were read, how many of them are tags, which are on the tape, what is open after them, where the next begins and whether
+// it is the first of the document.
 pub struct Read {
     pub items: usize,
+    pub tags: usize,
     pub opened: Open,
     pub at: usize,
     pub first: bool,
@@ -37,7 +39,7 @@ pub struct Read {
 }
 
 // The items from a place on, where `opened` and the names kept by level say what is open. The names of the elements that are open after
-// them are kept; what stands in the arrays above their level says nothing, and so do the entries behind the items.
+// them are kept; what stands in the arrays above their level says nothing, and so do the entries behind the tags.
 pub fn items(
     table: &Classes,
     doc: &[u8],
@@ -49,26 +51,28 @@ pub fn items(
     tape: &mut Tape,
 ) -> Read
     requires { ⌜ (now table ≡ classTable) × (length (now doc) ≤ 16777216) × Names (now doc) (now starts) (now lens) opened
-        × Opens (now doc) (now starts) (now lens) (opened .level .0) × (at ≤ length (now doc)) × (length (now tape) ≡ 16384) ⌝ }
+        × Opens (now doc) (now starts) (now lens) (opened .level .0) × (at ≤ length (now doc)) × (length (now tape) ≡ 20480) ⌝ }
     ensures { λ r.
         ⌜ Reeling (now (doc .entry)) (spotOf (now (doc .entry)) (now (starts .entry)) (now (lens .entry)) opened at first)
-        (now (starts .exit)) (now (lens .exit)) (now (tape .exit)) (r .opened) (r .at) (r .first) (r .items) ⌝ }
+        (now (starts .exit)) (now (lens .exit)) (now (tape .exit)) (r .opened) (r .at) (r .first) (r .items) (r .tags) ⌝ }
     ensures { λ r.
         ⌜ Stopped (now (doc .entry)) (spotOf (now (doc .entry)) (now (starts .entry)) (now (lens .entry)) opened at first)
-        (r .items) (r .stop) ⌝ }
+        (r .items) (r .tags) (r .stop) ⌝ }
 {
     let mut opened = opened;
     let mut at = at;
     let mut first = first;
-    let mut k: usize = 0;
-    while k < ITEMS {
+    let mut items: usize = 0;
+    let mut tags: usize = 0;
+    while tags < TAGS {
         let seen = next_item(table, doc, starts, lens, opened, at, first);
         let next = seen.item;
         let placed = seen.placed;
         match placed {
             Placement::Fault(why) => {
                 return Read {
-                    items: k,
+                    items,
+                    tags,
                     opened,
                     at,
                     first,
@@ -77,7 +81,8 @@ pub fn items(
             }
             Placement::Over => {
                 return Read {
-                    items: k,
+                    items,
+                    tags,
                     opened,
                     at,
                     first,
@@ -94,16 +99,17 @@ pub fn items(
                 } = next {
                     keep(starts, lens, opened, at, next);
                 }
-                put(tape, k, at, next);
+                tags = put(tape, tags, at, next);
                 opened = opened.after(next);
                 at = end_of(at, next);
                 first = false;
-                k += 1;
+                items += 1;
             }
         }
     }
     Read {
-        items: k,
+        items,
+        tags,
         opened,
         at,
         first,

@@ -1,5 +1,5 @@
--- Laws: of the states by level, made again from the names by level; of the items of a tape, which are alike those of the document; of where
--- a client stands between two tapes; and of its way through one. And that this has one result.
+-- Laws: of the states by level, made again from the names by level; of tags that come back from a tape; of where a client stands between
+-- two tapes; and of its way through one. And that this has one result.
 pub mod Restanding
 pub mod Images
 pub mod Seating

@@ -51,9 +51,9 @@ stayed-one a b c e f =
       run = record { reached = refl; kept = refl; long = refl; count = refl; buffer = refl; noted = λ h k. refl };
     })
 
-module _ {counts : Bool} {list d starts lens : List ℕ} {s : Seat} {o g : List ℕ} {items : ℕ} where
-  went-one : Begun counts list d starts lens s o g → {starts₁ lens₁ : List ℕ} {r₁ : Seat} {o₁ g₁ starts₂ lens₂ : List ℕ} {r₂ : Seat}
-      {o₂ g₂ : List ℕ} → Went counts list d starts lens s o g items starts₁ lens₁ r₁ o₁ g₁
+module _ {counts : Bool} {list d starts lens : List ℕ} {s : Seat} {o g : List ℕ} where
+  went-one : {items : ℕ} → Begun counts list d starts lens s o g → {starts₁ lens₁ : List ℕ} {r₁ : Seat} {o₁ g₁ starts₂ lens₂ : List ℕ}
+      {r₂ : Seat} {o₂ g₂ : List ℕ} → Went counts list d starts lens s o g items starts₁ lens₁ r₁ o₁ g₁
       → Went counts list d starts lens s o g items starts₂ lens₂ r₂ o₂ g₂ → SameSeat d starts₁ lens₁ r₁ o₁ g₁ starts₂ lens₂ r₂ o₂ g₂
   went-one b {starts₁} {lens₁} {r₁} {o₁} {g₁} {starts₂} {lens₂} {r₂} p q =
       let u = p .came (b .0) (b .1 .x) (b .1 .stands) in
@@ -85,12 +85,13 @@ module _ {counts : Bool} {list d starts lens : List ℕ} {s : Seat} {o g : List 
           ∙ ap (λ (x : Spot). length (x .opened .names)) spots
           ∙ names-long d starts₂ lens₂ (r₂ .opened .level .0)
 
-  through-same : (live : Bool) {tb t : List ℕ} → Sits live counts list tb d t starts lens s o g items
+  through-same : (live : Bool) {tb t : List ℕ} {tags to : ℕ} {first : Bool}
+      → Sits live counts list tb d t starts lens s o g tags to first
       → {starts₁ lens₁ : List ℕ} {r₁ : Seat} {o₁ g₁ starts₂ lens₂ : List ℕ} {r₂ : Seat} {o₂ g₂ : List ℕ}
-      → Through live counts list d starts lens s o g items starts₁ lens₁ r₁ o₁ g₁
-      → Through live counts list d starts lens s o g items starts₂ lens₂ r₂ o₂ g₂
+      → Through live counts list d t starts lens s o g tags to first starts₁ lens₁ r₁ o₁ g₁
+      → Through live counts list d t starts lens s o g tags to first starts₂ lens₂ r₂ o₂ g₂
       → SameSeat d starts₁ lens₁ r₁ o₁ g₁ starts₂ lens₂ r₂ o₂ g₂
-  through-same true x p q = went-one (x .begun refl) (p .went refl) (q .went refl)
+  through-same true x p q = went-one (x .begun refl) (p .went refl (x .lies refl)) (q .went refl (x .lies refl))
   through-same false x p q =
       let u = p .stays refl in
       let v = q .stays refl in
@@ -99,8 +100,8 @@ module _ {counts : Bool} {list d starts lens : List ℕ} {s : Seat} {o g : List 
 -- `seat::through`
 pub through-one : Alike through.Asked through.Learnt
     (λ κs a z e z′ e′. SameSeat (now (a .1 .1 .1 .1 .1 .0))
-    (now (e .1 .1 .1 .1 .1 .1 .1 .1 .0)) (now (e .1 .1 .1 .1 .1 .1 .1 .1 .1 .0)) z
-    (now (e .1 .1 .1 .1 .1 .1 .1 .1 .1 .1 .0)) (now (e .1 .1 .1 .1 .1 .1 .1 .1 .1 .1 .1 .0))
-    (now (e′ .1 .1 .1 .1 .1 .1 .1 .1 .0)) (now (e′ .1 .1 .1 .1 .1 .1 .1 .1 .1 .0)) z′
-    (now (e′ .1 .1 .1 .1 .1 .1 .1 .1 .1 .1 .0)) (now (e′ .1 .1 .1 .1 .1 .1 .1 .1 .1 .1 .1 .0)))
+    (now (e .1 .1 .1 .1 .1 .1 .1 .1 .1 .1 .0)) (now (e .1 .1 .1 .1 .1 .1 .1 .1 .1 .1 .1 .0)) z
+    (now (e .1 .1 .1 .1 .1 .1 .1 .1 .1 .1 .1 .1 .0)) (now (e .1 .1 .1 .1 .1 .1 .1 .1 .1 .1 .1 .1 .1 .0))
+    (now (e′ .1 .1 .1 .1 .1 .1 .1 .1 .1 .1 .0)) (now (e′ .1 .1 .1 .1 .1 .1 .1 .1 .1 .1 .1 .0)) z′
+    (now (e′ .1 .1 .1 .1 .1 .1 .1 .1 .1 .1 .1 .1 .0)) (now (e′ .1 .1 .1 .1 .1 .1 .1 .1 .1 .1 .1 .1 .1 .0)))
 through-one κs a z z′ e e′ x p q = through-same (a .1 .1 .1 .0) (x .4) p q

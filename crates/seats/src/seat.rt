@@ -1,8 +1,9 @@
-// A client's part in a pass: the items of a tape, one after the other. Each element is matched, and what is written of it is laid into the
-// client's buffer, and noted.
+// A client's part in a pass: the tags of a tape, one after the other. Each element is matched, and what is written of it is laid into the
+// client's buffer, and noted. Of what stands between two tags nothing is asked: it is dropped, or is part of a kept entry, which is written
+// in one piece.
 //
-//     tape      items 0 to 4095      items 4096 to 8191      ..          read once, and each client goes through it
-//     seat  ->       through      ->       through      ->   ..          a client's, from one tape to the next
+//     tape      tags 0 to 4095      tags 4096 to 8191      ..          read once, and each client goes through it
+//     seat  ->      through      ->      through      ->   ..          a client's, from one tape to the next
 //
 // The match states by level and what is known of elements (`memo`) are made for each tape anew, so a client keeps none of them: what it
 // writes does not depend on them.
@@ -12,14 +13,12 @@ ghost use Prim.Native.Nat.{_≤_};
 ghost use lib.ListN.{length};
 ghost use Rattle.points.specs.Class.{classTable};
 ghost use Rattle.matcher.specs.Fit.{Serves};
-ghost use Rattle.tape.specs.Taped.{Taped};
 ghost use Rattle.seats.specs.Seated.{Begun, seatSpot};
-ghost use Rattle.seats.specs.Went.{Sits, Went, Through};
+ghost use Rattle.seats.specs.Went.{Lies, Sits, WentBy, Through};
 use crate::standing::states_of;
 use compiled::Compiled;
 use document::InputLevel;
 use document::Open;
-use document::place::end_of;
 use document::place::keep;
 use matcher::fit::row_of;
 use output::Run;
@@ -31,7 +30,8 @@ use recall::Known;
 use recall::slot_of;
 use tags::Item;
 use tape::Tape;
-use tape::item_on;
+use tape::begin_on;
+use tape::tag_on;
 use tests::any;
 
 // What a client keeps between two tapes, beside the names by level: what is written; what is open, where the next item begins and whether
@@ -65,7 +65,8 @@ impl Seat {
     }
 }
 
-// Through the items of a tape, by the tables of a sound list. Name tests are counted where that is asked for.
+// Through the tags of a tape, by the tables of a sound list, and to the place where its reader stopped: there the next item begins, which
+// may be the document's first. Name tests are counted where that is asked for.
 fn all_through(
     table: &Classes,
     list: &[u8],
@@ -73,23 +74,24 @@ fn all_through(
     counts: bool,
     doc: &[u8],
     tape: &Tape,
-    items: usize,
+    tags: usize,
+    to: usize,
+    first: bool,
     starts: &mut [usize; Open::LEVELS],
     lens: &mut [usize; Open::LEVELS],
     out: &mut [u8],
     log: &mut [u64],
     seat: Seat,
 ) -> Seat
-    requires { ⌜ (now table ≡ classTable) × (length (now doc) ≤ 16777216) × (length (now log) ≤ 16777216) × (items ≤ 4096)
+    requires { ⌜ (now table ≡ classTable) × (length (now doc) ≤ 16777216) × (length (now log) ≤ 16777216) × (tags ≤ 4096)
         × Serves (now list) (now t) × Begun counts (now list) (now doc) (now starts) (now lens) seat (now out) (now log)
-        × Taped (now doc) (now tape) (seatSpot (now doc) (now starts) (now lens) seat) items ⌝ }
-    ensures { λ r. ⌜ Went counts (now (list .entry)) (now (doc .entry)) (now (starts .entry)) (now (lens .entry)) seat (now (out .entry))
-        (now (log .entry)) items (now (starts .exit)) (now (lens .exit)) r (now (out .exit)) (now (log .exit)) ⌝ }
+        × Lies (now doc) (now tape) (seatSpot (now doc) (now starts) (now lens) seat) tags to first ⌝ }
+    ensures { λ r. ⌜ WentBy counts (now (list .entry)) (now (doc .entry)) (now (tape .entry)) (now (starts .entry)) (now (lens .entry)) seat
+        (now (out .entry)) (now (log .entry)) tags to first (now (starts .exit)) (now (lens .exit)) r (now (out .exit))
+        (now (log .exit)) ⌝ }
 {
     let mut opened = seat.opened;
     let mut run = seat.run;
-    let mut at = seat.at;
-    let mut first = seat.first;
     let mut tests = seat.tests;
     let tested = any(t);
     let reached = opened.level.0;
@@ -99,8 +101,9 @@ fn all_through(
     let mut memo = [nothing; Known::KEPT];
     let mut slots = [0usize; Open::LEVELS];
     let mut k: usize = 0;
-    while k < items {
-        let next = item_on(tape, k);
+    while k < tags {
+        let at = begin_on(tape, k);
+        let next = tag_on(tape, k);
         let level = opened.level.0;
         if let Item::Start {
             name,
@@ -155,8 +158,6 @@ fn all_through(
                 empty,
             );
             opened = opened.after(next);
-            at = end;
-            first = false;
             k += 1;
             continue;
         }
@@ -172,14 +173,12 @@ fn all_through(
             next,
         );
         opened = opened.after(next);
-        at = end_of(at, next);
-        first = false;
         k += 1;
     }
     Seat {
         run,
         opened,
-        at,
+        at: to,
         first,
         tests,
     }
@@ -194,17 +193,20 @@ pub fn through(
     counts: bool,
     doc: &[u8],
     tape: &Tape,
-    items: usize,
+    tags: usize,
+    to: usize,
+    first: bool,
     starts: &mut [usize; Open::LEVELS],
     lens: &mut [usize; Open::LEVELS],
     out: &mut [u8],
     log: &mut [u64],
     seat: Seat,
 ) -> Seat
-    requires { ⌜ (now table ≡ classTable) × (length (now doc) ≤ 16777216) × (length (now log) ≤ 16777216) × (items ≤ 4096)
-        × Sits live counts (now list) (now t) (now doc) (now tape) (now starts) (now lens) seat (now out) (now log) items ⌝ }
-    ensures { λ r. ⌜ Through live counts (now (list .entry)) (now (doc .entry)) (now (starts .entry)) (now (lens .entry)) seat
-        (now (out .entry)) (now (log .entry)) items (now (starts .exit)) (now (lens .exit)) r (now (out .exit)) (now (log .exit)) ⌝ }
+    requires { ⌜ (now table ≡ classTable) × (length (now doc) ≤ 16777216) × (length (now log) ≤ 16777216) × (tags ≤ 4096)
+        × Sits live counts (now list) (now t) (now doc) (now tape) (now starts) (now lens) seat (now out) (now log) tags to first ⌝ }
+    ensures { λ r. ⌜ Through live counts (now (list .entry)) (now (doc .entry)) (now (tape .entry)) (now (starts .entry))
+        (now (lens .entry)) seat (now (out .entry)) (now (log .entry)) tags to first (now (starts .exit)) (now (lens .exit)) r
+        (now (out .exit)) (now (log .exit)) ⌝ }
 {
     if live {
         return all_through(
@@ -214,7 +216,9 @@ pub fn through(
             counts,
             doc,
             tape,
-            items,
+            tags,
+            to,
+            first,
             starts,
             lens,
             out,

@@ -16,12 +16,12 @@ use Rattle.passes.specs.Opens.{Opens}
 use Rattle.passes.specs.declared.Outcome.{Outcome}
 use Rattle.passes.specs.declared.Outcome.the-variants.{Fine, Fault}
 use Rattle.passes.proofs.Telling.{opens-none}
-use Rattle.tape.specs.Taped.{Spot, spotOf, behind, Taped}
+use Rattle.tape.specs.Taped.{Spot, spotOf, behind}
 use Rattle.reel.specs.Reeling.{Reeling, Stopped, placedAt}
 use Rattle.reel.specs.declared.Stop.{Stop}
 use Rattle.reel.specs.declared.Stop.the-variants as stop
 use Rattle.seats.specs.Seated.{Seated, seatSpot}
-use Rattle.seats.specs.Went.{Sits, Through}
+use Rattle.seats.specs.Went.{Lies, Sits, Through}
 use Rattle.seats.specs.declared.seat.Seat.{Seat}
 use Rattle.seats.proofs.Seating.{seated-start, seated-over, seated-fault}
 use Rattle.together.specs.Joined.{Joins, PassedFor}
@@ -32,29 +32,49 @@ pub record Reading (d starts lens tape : List ℕ) (opened : Open) (at : ℕ) : 
   pub names : Names d starts lens opened
   pub opens : Opens d starts lens (opened .level .0)
   pub within : at ≤ length d
-  pub long : length tape ≡ 16384
+  pub long : length tape ≡ 20480
 
 pub read-start : (d : List ℕ) {opened : Open} {at : ℕ} → opened ≡ record { level = record { 0 = 0 }; rooted = false } → at ≡ startOf d
-    → Reading d (replicate 64 0) (replicate 64 0) (replicate 16384 0) opened at
+    → Reading d (replicate 64 0) (replicate 64 0) (replicate 20480 0) opened at
 read-start d e q =
     let v = judge-start d e q in
     record {
       names = v .names;
       opens = rw e (opens-none d (replicate 64 0) (replicate 64 0));
       within = v .within;
-      long = length-replicate {A = ℕ} 16384 0;
+      long = length-replicate {A = ℕ} 20480 0;
     }
 
-module _ {d : List ℕ} {s : Spot} {starts lens tape : List ℕ} {opened : Open} {at : ℕ} {first : Bool} {n : ℕ}
-    (v : Reeling d s starts lens tape opened at first n) where
+module _ {d : List ℕ} {s : Spot} {starts lens tape : List ℕ} {opened : Open} {at : ℕ} {first : Bool} {items tags : ℕ}
+    (v : Reeling d s starts lens tape opened at first items tags) where
   pub read-on : Reading d starts lens tape opened at
   read-on = record { names = v .names; opens = v .opens; within = v .within; long = v .long }
 
-  -- a full tape has items
-  pub read-less : {x : Stop} → Stopped d s n x → x ≡ stop.Full → length d - at < length d - s .at
+  -- what is on the tape
+  abbrev pub read-lies : Lies d tape s tags at first
+  read-lies =
+      record {
+        items = items;
+        taped = v .taped;
+        to-is = sym (ap (λ (x : Spot). x .at) (v .spot));
+        first-is = sym (ap (λ (x : Spot). x .first) (v .spot));
+      }
+
+  -- a full tape has tags
+  pub read-less : {x : Stop} → Stopped d s items tags x → x ≡ stop.Full → length d - at < length d - s .at
   read-less h q =
-      let z : n ≡ 4096 = rw q at h in
-      omega (arith, z, v .ahead, v .within)
+      let z : tags ≡ 4096 = rw q at h in
+      omega (arith, z, v .fewer, v .ahead, v .within)
+
+-- the same from an equal spot
+abbrev lies-at : {d t : List ℕ} {s s′ : Spot} {tags to : ℕ} {first : Bool} → s′ ≡ s → Lies d t s tags to first → Lies d t s′ tags to first
+lies-at {d} e y =
+    record {
+      items = y .items;
+      taped = rw e (y .taped);
+      to-is = ap (λ (x : Spot). behind d x (y .items) .at) e ∙ y .to-is;
+      first-is = ap (λ (x : Spot). behind d x (y .items) .first) e ∙ y .first-is;
+    }
 
 -- ---- a client
 
@@ -92,29 +112,33 @@ module _ {live counts : Bool} {list d o₀ g₀ starts lens : List ℕ} {s : Sea
     pub go-small : length g ≤ 16777216
     go-small = omega (arith, v .room, j .small)
 
-    pub go-sits : {t : List ℕ} {n : ℕ} → Taped d t here n → Sits live counts list tb d t starts lens s o g n
-    go-sits {t} {n} p =
+    pub go-sits : {t : List ℕ} {tags to : ℕ} {first : Bool} → Lies d t here tags to first
+        → Sits live counts list tb d t starts lens s o g tags to first
+    go-sits y =
         record {
           serves = j .serves;
           begun = λ z. (o₀, v .seated z);
-          taped = λ z. rw (v .spot z) p;
+          lies = λ z. lies-at (v .spot z) y;
         }
 
   -- through a tape
-  pub go-on : {n : ℕ} {starts′ lens′ : List ℕ} {r : Seat} {o′ g′ : List ℕ}
-      → Through live counts list d starts lens s o g n starts′ lens′ r o′ g′ → {there : Spot} → there ≡ behind d here n
-      → Going live counts list d o₀ g₀ starts′ lens′ r o′ g′ there
-  go-on {n} {starts′} {lens′} {r} {o′} {g′} h e =
+  pub go-on : {t : List ℕ} {tags to : ℕ} {first : Bool} {starts′ lens′ : List ℕ} {r : Seat} {o′ g′ : List ℕ}
+      → Through live counts list d t starts lens s o g tags to first starts′ lens′ r o′ g′ → (y : Lies d t here tags to first)
+      → {there : Spot} → there ≡ behind d here (y .items) → Going live counts list d o₀ g₀ starts′ lens′ r o′ g′ there
+  go-on {t} {tags} {to} {first} {starts′} {lens′} {r} {o′} {g′} h y e =
       record {
-        seated = λ z. h .went z .seated o₀ (v .seated z);
-        spot = λ z. h .went z .spot ∙ ap (λ (x : Spot). behind d x n) (v .spot z) ∙ sym e;
+        seated = λ z. h .went z (lies-at (v .spot z) y) .seated o₀ (v .seated z);
+        spot = λ z.
+            h .went z (lies-at (v .spot z) y) .spot ∙ ap (λ (x : Spot). behind d x (y .items)) (v .spot z) ∙ sym e;
         stays = λ z. (h .stays z .3 ∙ v .stays z .0, h .stays z .4 ∙ v .stays z .1);
         same = long live refl .0 ∙ v .same;
         room = long live refl .1 ∙ v .room;
       }
     where
       long : (b : Bool) → live ≡ b → (length o′ ≡ length o) × (length g′ ≡ length g)
-      long true z = (h .went z .room, h .went z .log-room)
+      long true z =
+          let w = h .went z (lies-at (v .spot z) y) in
+          (w .room, w .log-room)
       long false z = (ap length (h .stays z .3), ap length (h .stays z .4))
 
   -- the document is over
@@ -139,22 +163,23 @@ module _ {live counts : Bool} {list d o₀ g₀ starts lens : List ℕ} {s : Sea
 
 -- ---- a client behind a tape that was read
 
-module _ {d : List ℕ} {here : Spot} {starts lens tape : List ℕ} {opened : Open} {at : ℕ} {first : Bool} {n : ℕ}
-    (l : Reeling d here starts lens tape opened at first n)
+module _ {d : List ℕ} {here : Spot} {starts lens tape : List ℕ} {opened : Open} {at : ℕ} {first : Bool} {items tags : ℕ}
+    (l : Reeling d here starts lens tape opened at first items tags)
     {live counts : Bool} {list o₀ g₀ starts₁ lens₁ : List ℕ} {s : Seat} {o g : List ℕ}
     (v : Going live counts list d o₀ g₀ starts₁ lens₁ s o g here)
-    {starts₂ lens₂ : List ℕ} {r : Seat} {o′ g′ : List ℕ} (h : Through live counts list d starts₁ lens₁ s o g n starts₂ lens₂ r o′ g′) where
+    {starts₂ lens₂ : List ℕ} {r : Seat} {o′ g′ : List ℕ}
+    (h : Through live counts list d tape starts₁ lens₁ s o g tags at first starts₂ lens₂ r o′ g′) where
   pub next-going : Going live counts list d o₀ g₀ starts₂ lens₂ r o′ g′ (spotOf d starts lens opened at first)
-  next-going = go-on v h (l .spot)
+  next-going = go-on v h (read-lies l) (l .spot)
 
-  pub next-over : {x : Stop} → Stopped d here n x → x ≡ stop.Over → {y : Outcome}
+  pub next-over : {x : Stop} → Stopped d here items tags x → x ≡ stop.Over → {y : Outcome}
       → y ≡ Fine (r .run .len) (r .run .count) (r .tests) (r .run .noted) → PassedFor live counts list d o₀ g₀ y o′ g′
   next-over p q e =
-      let w : Stopped d here n stop.Over = rw q at p in
+      let w : Stopped d here items tags stop.Over = rw q at p in
       go-over next-going (ap (placedAt d) (l .spot) ∙ w .1) e
 
-  pub next-fault : {x : Stop} → Stopped d here n x → (why : Why) → x ≡ stop.Fault why
+  pub next-fault : {x : Stop} → Stopped d here items tags x → (why : Why) → x ≡ stop.Fault why
       → PassedFor live counts list d o₀ g₀ (Fault why at) o′ g′
   next-fault p why q =
-      let w : Stopped d here n (stop.Fault why) = rw q at p in
+      let w : Stopped d here items tags (stop.Fault why) = rw q at p in
       go-fault next-going why (ap (placedAt d) (l .spot) ∙ w .1) refl

@@ -1,4 +1,4 @@
-// One pass over the items of a document for four clients. The reader lays items on a tape until it is full; each client that takes part
+// One pass over the items of a document for four clients. The reader lays tags on a tape until it is full; each client that takes part
 // goes through it; and the reader goes on. Where the last item stands, or one is at fault, is the same for all.
 //
 //     reader    <g><p><v> ..        tape        </v></p> ..         tape        the document is over, or an item is at fault
@@ -23,7 +23,7 @@ use reel::Stop;
 use reel::items;
 use seats::seat::Seat;
 use seats::seat::through;
-use tape::ITEMS;
+use tape::TAGS;
 
 // What the pass comes to for each client.
 pub struct Outcomes {
@@ -83,7 +83,7 @@ pub fn pass_of_four(
         ⌜ PassedFor w4 counts (now (l4 .entry)) (now (doc .entry)) (now (o4 .entry)) (now (g4 .entry))
         (r .fourth) (now (o4 .exit)) (now (g4 .exit)) ⌝ }
 {
-    let mut tape = [0usize; 4 * ITEMS];
+    let mut tape = [0usize; 5 * TAGS];
     let mut starts = [0usize; Open::LEVELS];
     let mut lens = [0usize; Open::LEVELS];
     let mut starts1 = [0usize; Open::LEVELS];
@@ -113,7 +113,9 @@ pub fn pass_of_four(
             first,
             &mut tape,
         );
-        let n = read.items;
+        let tags = read.tags;
+        let to = read.at;
+        let still = read.first;
         s1 = through(
             table,
             l1,
@@ -122,7 +124,9 @@ pub fn pass_of_four(
             counts,
             doc,
             &tape,
-            n,
+            tags,
+            to,
+            still,
             &mut starts1,
             &mut lens1,
             o1,
@@ -137,7 +141,9 @@ pub fn pass_of_four(
             counts,
             doc,
             &tape,
-            n,
+            tags,
+            to,
+            still,
             &mut starts2,
             &mut lens2,
             o2,
@@ -152,7 +158,9 @@ pub fn pass_of_four(
             counts,
             doc,
             &tape,
-            n,
+            tags,
+            to,
+            still,
             &mut starts3,
             &mut lens3,
             o3,
@@ -167,7 +175,9 @@ pub fn pass_of_four(
             counts,
             doc,
             &tape,
-            n,
+            tags,
+            to,
+            still,
             &mut starts4,
             &mut lens4,
             o4,
@@ -175,8 +185,8 @@ pub fn pass_of_four(
             s4,
         );
         opened = read.opened;
-        at = read.at;
-        first = read.first;
+        at = to;
+        first = still;
         let stop = read.stop;
         match stop {
             Stop::Fault(why) => {

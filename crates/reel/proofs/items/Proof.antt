@@ -1,5 +1,5 @@
--- `items` meets its contract. The loop's invariant is `Reeling`: the tape has the items so far, and the spot reached is the one behind
--- them. The measure is the room left on the tape.
+-- `items` meets its contract. The loop's invariant is `Reeling`: the tape has the tags among the items so far, and the spot reached is the
+-- one behind them. The measure is what is left of the document.
 use mathlib.Core.Path.{_≡_, refl, _∙_}
 use mathlib.Core.Logic.{⊎-elim, inl, inr}
 use Prim.Native.Nat.{_-_, _≤_}
@@ -12,12 +12,13 @@ use Rattle.reel.proofs.items.Statement.{statement}
 use Rattle.reel.proofs.items.Tie as tie
 
 abbrev Inv-loop : tie.InvT-loop
-Inv-loop table doc starts₀ lens₀ at first tape₀ opened₀ at₀ first₀ k₀ starts lens tape opened at' first' k =
+Inv-loop table doc starts₀ lens₀ at first tape₀ opened₀ at₀ first₀ items₀ tags₀ starts lens tape opened at' first' items tags =
     (table ≡ classTable) × (length doc ≤ 16777216) × Reeling doc (spotOf doc starts₀ lens₀ opened₀ at first) starts lens tape opened at'
-    first' k
+    first' items tags
 
 abbrev μ-loop : tie.MeasureT-loop
-μ-loop table doc starts₀ lens₀ at first tape₀ opened₀ at₀ first₀ k₀ starts lens tape opened at' first' k = 4096 - k
+μ-loop table doc starts₀ lens₀ at first tape₀ opened₀ at₀ first₀ items₀ tags₀ starts lens tape opened at' first' items tags = length doc -
+    at'
 
 loop-holds : tie.Need-loop-holds Inv-loop μ-loop
 loop-holds c = search reels
@@ -55,8 +56,8 @@ after-requires c κs = search reels
 end-of-requires : tie.Need-end-of-requires Inv-loop μ-loop
 end-of-requires c κs = search reels
 
-add-k : tie.Need-add-k Inv-loop μ-loop
-add-k c = search reels
+add-items : tie.Need-add-items Inv-loop μ-loop
+add-items c = search reels
 
 loop-less : tie.Need-loop-less Inv-loop μ-loop
 loop-less c = search reels
@@ -73,7 +74,7 @@ loop-again c =
       v .1,
       reel-on (v .2) e q h (here .before .before .before .before .before .loop-test .taken)
           (⊎-elim (λ z. inl (z .5 ∙ z .4 .ensures .0, z .6 ∙ z .4 .ensures .1)) (λ z. inr (z .0 .keys2, z .1, z .2)) (n .came))
-          (c .before .before .put .ensures) (c .before .after .ensures) (c .end-of .ensures) refl,
+          (c .before .before .put .ensures .0) (c .before .before .put .ensures .1) (c .before .after .ensures) (c .end-of .ensures) refl,
     )
 
 returns-3 : tie.Need-returns-3 Inv-loop μ-loop
@@ -97,7 +98,7 @@ items-spec =
     put-requires
     after-requires
     end-of-requires
-    add-k
+    add-items
     loop-less
     loop-again
     returns-3)

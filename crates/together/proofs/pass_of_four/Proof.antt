@@ -4,7 +4,7 @@ use Prim.Native.Nat.{_-_}
 use borrow.Author.Needs.{needs}
 use lib.ListN.{length}
 use Rattle.tape.specs.Taped.{spotOf}
-use Rattle.together.proofs.Going.{Reading, read-start, read-on, read-less, Going, go-start, go-small, go-sits}
+use Rattle.together.proofs.Going.{Reading, read-start, read-on, read-lies, read-less, Going, go-start, go-small, go-sits}
 use Rattle.together.proofs.Going.{next-going, next-over, next-fault}
 use Rattle.together.proofs.pass_of_four.Statement.{statement}
 use Rattle.together.proofs.pass_of_four.Tie as tie
@@ -59,7 +59,7 @@ through-requires c κs =
     .before .before .before .before .before .before .before .before .before .before .before .pre in
     let v = c .before .before .before .before .before .before .before .before .before .loop .inv .1 in
     let i = c .before .before .before .before .before .items .ensures .0 in
-    (p .0, p .1, go-small v (p .2), i .few, go-sits v (p .2) (i .taped))
+    (p .0, p .1, go-small v (p .2), i .few, go-sits v (p .2) (read-lies i))
 
 through-requires-2 : tie.Need-through-requires-2 Inv-loop μ-loop
 through-requires-2 c κs =
@@ -70,7 +70,7 @@ through-requires-2 c κs =
     .before .before .before .before .loop .inv .2 in
     let i = c .before .before .before .before .before .before .before .before .before .before .before .before .before .before .before .items
     .ensures .0 in
-    (p .0, p .1, go-small v (p .3), i .few, go-sits v (p .3) (i .taped))
+    (p .0, p .1, go-small v (p .3), i .few, go-sits v (p .3) (read-lies i))
 
 through-requires-3 : tie.Need-through-requires-3 Inv-loop μ-loop
 through-requires-3 c κs =
@@ -81,7 +81,7 @@ through-requires-3 c κs =
     .before .before .before .before .before .before .before .before .before .before .before .before .before .before .loop .inv .3 in
     let i = c .before .before .before .before .before .before .before .before .before .before .before .before .before .before .before
     .before .before .before .before .before .before .before .before .before .before .items .ensures .0 in
-    (p .0, p .1, go-small v (p .4), i .few, go-sits v (p .4) (i .taped))
+    (p .0, p .1, go-small v (p .4), i .few, go-sits v (p .4) (read-lies i))
 
 through-requires-4 : tie.Need-through-requires-4 Inv-loop μ-loop
 through-requires-4 c κs =
@@ -95,7 +95,7 @@ through-requires-4 c κs =
     let i = c .before .before .before .before .before .before .before .before .before .before .before .before .before .before .before
     .before .before .before .before .before .before .before .before .before .before .before .before .before .before .before .before .before
     .before .before .before .items .ensures .0 in
-    (p .0, p .1, go-small v (p .5), i .few, go-sits v (p .5) (i .taped))
+    (p .0, p .1, go-small v (p .5), i .few, go-sits v (p .5) (read-lies i))
 
 enum-known-stop : tie.Need-enum-known-stop Inv-loop μ-loop
 enum-known-stop c = search needs

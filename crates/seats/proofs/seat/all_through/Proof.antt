@@ -1,31 +1,39 @@
--- `all_through` meets its contract. The invariant is `Going`: from wherever the client stood, what it has come to is a pass in itself, and
--- it stands behind k items. Each need is handed its law of proofs/Going.antt.
+-- `all_through` meets its contract. The invariant is `Gone`: from wherever the client stood, what it has come to is a pass in itself, and
+-- it stands behind k tags. Each need is handed its law of proofs/Going.antt.
 use mathlib.Core.Path.{refl}
+use mathlib.Core.Bool.{Bool}
 use mathlib.Core.Logic.{⊎-elim, inl, inr}
 use native.Mathlib.Omega.{arith}
-use Prim.Native.Nat.{_-_}
+use Prim.Native.Nat.{ℕ, _-_}
 use borrow.Author.Needs.{needs}
 use Rattle.matcher.proofs.Serving.{row-few, row-fit}
 use Rattle.passes.proofs.Passing.{pass-ready, pass-many, pass-deep, Remembered, kept-there, known-there, known-stored, known-recalls}
 use Rattle.passes.proofs.Passing.{tests-told, below-told, verdict-told-by}
 use Rattle.passes.proofs.States.{stored}
-use Rattle.seats.proofs.Going.{Going, begun-placed, going-start, going, going-over, going-near, going-inside, going-placed}
-use Rattle.seats.proofs.Going.{going-other, going-level, going-from, going-to, going-end, going-name, going-behind, going-head}
-use Rattle.seats.proofs.Going.{going-deeper, going-tag}
+use Rattle.seats.specs.Seated.{Begun, seatSpot}
+use Rattle.seats.specs.Went.{Lies}
+use Rattle.seats.proofs.Going.{Gone, begun-placed, gone-start, going, going-near, going-placed, going-level, going-from, going-to}
+use Rattle.seats.proofs.Going.{going-end, going-name, going-behind, going-head, going-deeper, going-tag}
+use Rattle.seats.proofs.Going.{turn, turn-on, turn-start, turn-inside, turn-other, gone-over}
 use Rattle.seats.proofs.seat.all_through.Statement.{statement}
 use Rattle.seats.proofs.seat.all_through.Tie as tie
 
+-- where the client began, and whether at the document's first item, is asked for no more
 abbrev Inv-loop : tie.InvT-loop
-Inv-loop table list t counts doc tape items starts₀ lens₀ out₀ log₀ opened₀ run₀ at₀ first₀ tests₀ tested reached states₀ memo₀ slots₀ k₀
-    starts lens out log opened run at first tests states memo slots k =
-    Going counts list t doc tape items starts₀ lens₀
-    (record { run = run₀; opened = opened₀; at = at₀; first = first₀; tests = tests₀ }) out₀ log₀ states memo slots starts lens opened run
-    at first tests k out log
+Inv-loop table list t counts doc tape tags to first starts₀ lens₀ out₀ log₀ opened₀ run₀ tests₀ tested reached states₀ memo₀ slots₀ k₀
+    starts lens out log opened run tests states memo slots k =
+    (a : ℕ) (b : Bool)
+    → Begun counts list doc starts₀ lens₀ (record { run = run₀; opened = opened₀; at = a; first = b; tests = tests₀ }) out₀ log₀
+    → (y : Lies doc tape
+    (seatSpot doc starts₀ lens₀ (record { run = run₀; opened = opened₀; at = a; first = b; tests = tests₀ })) tags to first)
+    → Gone counts list t doc tape (y .items) tags starts₀ lens₀
+    (record { run = run₀; opened = opened₀; at = a; first = b; tests = tests₀ }) out₀ log₀ states memo slots starts lens opened run tests
+    k out log
 
 abbrev μ-loop : tie.MeasureT-loop
-μ-loop table list t counts doc tape items starts₀ lens₀ out₀ log₀ opened₀ run₀ at₀ first₀ tests₀ tested reached states₀ memo₀ slots₀ k₀
-    starts lens out log opened run at first tests states memo slots k =
-    items - k
+μ-loop table list t counts doc tape tags to first starts₀ lens₀ out₀ log₀ opened₀ run₀ tests₀ tested reached states₀ memo₀ slots₀ k₀
+    starts lens out log opened run tests states memo slots k =
+    tags - k
 
 any-requires : tie.Need-any-requires Inv-loop μ-loop
 any-requires c κs =
@@ -44,14 +52,19 @@ nothing-requires c κs =
 
 loop-holds : tie.Need-loop-holds Inv-loop μ-loop
 loop-holds c =
-    going-start _ (c .before .before .before .before .before .before .before .before .before .before .before .before .pre .5) (c .before
-    .before .before .before .before .before .before .before .before .before .before .before .pre .6) (c .before .before .states-of .ensures)
-    (c .nothing .ensures)
+    λ a b g y. gone-start _ g (y .taped) (c .before .before .states-of .ensures) (c .nothing .ensures)
 
-item-on-requires : tie.Need-item-on-requires Inv-loop μ-loop
-item-on-requires c κs =
+begin-on-requires : tie.Need-begin-on-requires Inv-loop μ-loop
+begin-on-requires c κs =
     let few = c .before .before .before .before .before .before .before .before .before .before .before .before .before .before .pre .3 in
     let l = c .loop-test .taken in
+    omega (arith, few, l)
+
+tag-on-requires : tie.Need-tag-on-requires Inv-loop μ-loop
+tag-on-requires c κs =
+    let few = c .before .before .before .before .before .before .before .before .before .before .before .before .before .before .before .pre
+    .3 in
+    let l = c .before .loop-test .taken in
     omega (arith, few, l)
 
 enum-known-next : tie.Need-enum-known-next Inv-loop μ-loop
@@ -60,43 +73,66 @@ enum-known-next c =
 
 keep-requires : tie.Need-keep-requires Inv-loop μ-loop
 keep-requires c κs =
-    let w = c .before .before .before .before .before .before .before .loop .inv in
+    let u = turn (c .before .before .before .before .before .before .before .before .loop .inv _ _ (c .before .before .before .before
+    .before .before .before .before .before .before .before .before .before .before .before .before .before .before .before .before .before
+    .pre .5) (c .before .before .before .before .before .before .before .before .before .before .before .before .before .before .before
+    .before .before .before .before .before .before .pre .6)) (c .before .before .before .before .before .before .before .loop-test .taken)
+    (c .before .before .before .before .before .before .begin-on .ensures) in
+    let w = u .going in
     let names = going w .judging .names in
-    let near = going-near w (c .before .before .before .before .before .before .loop-test .taken) in
+    let near = going-near w (u .near) in
     let small = c .before .before .before .before .before .before .before .before .before .before .before .before .before .before .before
-    .before .before .before .before .before .pre .1 in
+    .before .before .before .before .before .before .pre .1 in
     (names .starts-long, names .lens-long, omega (arith, near, small))
 
 mul-parent : tie.Need-mul-parent Inv-loop μ-loop
 mul-parent c =
-    let below = going-level (c .before .before .before .before .before .before .before .before .loop .inv) (c .before .before .before
-    .before .before .before .before .loop-test .taken) (c .before .before .before .before .before .before .item-on .ensures) (c .before
-    .before .before .before .next .given .1) in
+    let u = turn (c .before .before .before .before .before .before .before .before .before .loop .inv _ _ (c .before .before .before
+    .before .before .before .before .before .before .before .before .before .before .before .before .before .before .before .before .before
+    .before .before .pre .5) (c .before .before .before .before .before .before .before .before .before .before .before .before .before
+    .before .before .before .before .before .before .before .before .before .pre .6)) (c .before .before .before .before .before .before
+    .before .before .loop-test .taken) (c .before .before .before .before .before .before .before .begin-on .ensures) in
+    let below = going-level (u .going) (u .near) (turn-start u (c .before .before .before .before .before .before .tag-on .ensures) (c
+    .before .before .before .before .next .given .1) .1) in
     search (needs, below)
 
 array-copy-out-parent : tie.Need-array-copy-out-parent Inv-loop μ-loop
 array-copy-out-parent c =
-    let below = going-level (c .before .before .before .before .before .before .before .before .loop .inv) (c .before .before .before
-    .before .before .before .before .loop-test .taken) (c .before .before .before .before .before .before .item-on .ensures) (c .before
-    .before .before .before .next .given .1) in
-    let long = going (c .before .before .before .before .before .before .before .before .loop .inv) .long in
+    let u = turn (c .before .before .before .before .before .before .before .before .before .loop .inv _ _ (c .before .before .before
+    .before .before .before .before .before .before .before .before .before .before .before .before .before .before .before .before .before
+    .before .before .pre .5) (c .before .before .before .before .before .before .before .before .before .before .before .before .before
+    .before .before .before .before .before .before .before .before .before .pre .6)) (c .before .before .before .before .before .before
+    .before .before .loop-test .taken) (c .before .before .before .before .before .before .before .begin-on .ensures) in
+    let below = going-level (u .going) (u .near) (turn-start u (c .before .before .before .before .before .before .tag-on .ensures) (c
+    .before .before .before .before .next .given .1) .1) in
+    let long = going (u .going) .long in
     omega (arith, below, long)
 
 add-a : tie.Need-add-a Inv-loop μ-loop
 add-a c =
-    let near = going-near (c .before .before .before .before .before .before .before .before .before .loop .inv) (c .before .before .before
-    .before .before .before .before .before .loop-test .taken) in
+    let u = turn (c .before .before .before .before .before .before .before .before .before .before .loop .inv _ _ (c .before .before
+    .before .before .before .before .before .before .before .before .before .before .before .before .before .before .before .before .before
+    .before .before .before .before .pre .5) (c .before .before .before .before .before .before .before .before .before .before .before
+    .before .before .before .before .before .before .before .before .before .before .before .before .pre .6)) (c .before .before .before
+    .before .before .before .before .before .before .loop-test .taken) (c .before .before .before .before .before .before .before .before
+    .begin-on .ensures) in
+    let near = going-near (u .going) (u .near) in
     let small = c .before .before .before .before .before .before .before .before .before .before .before .before .before .before .before
-    .before .before .before .before .before .before .before .pre .1 in
+    .before .before .before .before .before .before .before .before .pre .1 in
     record { fits = omega (arith, near, small) }
 
 add-row-of : tie.Need-add-row-of Inv-loop μ-loop
 add-row-of c =
-    let inside = going-name (c .before .before .before .before .before .before .before .before .before .loop .inv) (c .before .before
-    .before .before .before .before .before .before .loop-test .taken) (c .before .before .before .before .before .before .before .item-on
-    .ensures) (c .before .before .before .before .before .next .given .1) in
+    let u = turn (c .before .before .before .before .before .before .before .before .before .before .loop .inv _ _ (c .before .before
+    .before .before .before .before .before .before .before .before .before .before .before .before .before .before .before .before .before
+    .before .before .before .before .pre .5) (c .before .before .before .before .before .before .before .before .before .before .before
+    .before .before .before .before .before .before .before .before .before .before .before .before .pre .6)) (c .before .before .before
+    .before .before .before .before .before .before .loop-test .taken) (c .before .before .before .before .before .before .before .before
+    .begin-on .ensures) in
+    let inside = going-name (u .going) (u .near) (turn-start u (c .before .before .before .before .before .before .before .tag-on .ensures)
+    (c .before .before .before .before .before .next .given .1) .1) in
     let small = c .before .before .before .before .before .before .before .before .before .before .before .before .before .before .before
-    .before .before .before .before .before .before .before .pre .1 in
+    .before .before .before .before .before .before .before .before .pre .1 in
     record { fits = omega (arith, inside, small) }
 
 sub-row-of : tie.Need-sub-row-of Inv-loop μ-loop
@@ -109,31 +145,46 @@ part-row-of-start c =
 
 part-row-of-end : tie.Need-part-row-of-end Inv-loop μ-loop
 part-row-of-end c =
-    let inside = going-name (c .before .before .before .before .before .before .before .before .before .loop .inv) (c .before .before
-    .before .before .before .before .before .before .loop-test .taken) (c .before .before .before .before .before .before .before .item-on
-    .ensures) (c .before .before .before .before .before .next .given .1) in
+    let u = turn (c .before .before .before .before .before .before .before .before .before .before .loop .inv _ _ (c .before .before
+    .before .before .before .before .before .before .before .before .before .before .before .before .before .before .before .before .before
+    .before .before .before .before .pre .5) (c .before .before .before .before .before .before .before .before .before .before .before
+    .before .before .before .before .before .before .before .before .before .before .before .before .pre .6)) (c .before .before .before
+    .before .before .before .before .before .before .loop-test .taken) (c .before .before .before .before .before .before .before .before
+    .begin-on .ensures) in
+    let inside = going-name (u .going) (u .near) (turn-start u (c .before .before .before .before .before .before .before .tag-on .ensures)
+    (c .before .before .before .before .before .next .given .1) .1) in
     search (needs, inside)
 
 row-of-requires : tie.Need-row-of-requires Inv-loop μ-loop
 row-of-requires c κs =
     c .before .before .before .before .before .before .before .before .before .before .before .before .before .before .before .before
-    .before .before .before .before .before .before .before .pre .4
+    .before .before .before .before .before .before .before .before .pre .4
 
 mul-slot-of : tie.Need-mul-slot-of Inv-loop μ-loop
 mul-slot-of c =
-    let below = going-level (c .before .before .before .before .before .before .before .before .before .before .before .loop .inv) (c
-    .before .before .before .before .before .before .before .before .before .before .loop-test .taken) (c .before .before .before .before
-    .before .before .before .before .before .item-on .ensures) (c .before .before .before .before .before .before .before .next .given .1)
+    let u = turn (c .before .before .before .before .before .before .before .before .before .before .before .before .loop .inv _ _ (c
+    .before .before .before .before .before .before .before .before .before .before .before .before .before .before .before .before .before
+    .before .before .before .before .before .before .before .before .pre .5) (c .before .before .before .before .before .before .before
+    .before .before .before .before .before .before .before .before .before .before .before .before .before .before .before .before .before
+    .before .pre .6)) (c .before .before .before .before .before .before .before .before .before .before .before .loop-test .taken) (c
+    .before .before .before .before .before .before .before .before .before .before .begin-on .ensures) in
+    let below = going-level (u .going) (u .near) (turn-start u (c .before .before .before .before .before .before .before .before .before
+    .tag-on .ensures) (c .before .before .before .before .before .before .before .next .given .1) .1)
     in
     search (needs, below)
 
 array-read-slot-of : tie.Need-array-read-slot-of Inv-loop μ-loop
 array-read-slot-of c =
-    let below = going-level (c .before .before .before .before .before .before .before .before .before .before .before .loop .inv) (c
-    .before .before .before .before .before .before .before .before .before .before .loop-test .taken) (c .before .before .before .before
-    .before .before .before .before .before .item-on .ensures) (c .before .before .before .before .before .before .before .next .given .1)
+    let u = turn (c .before .before .before .before .before .before .before .before .before .before .before .before .loop .inv _ _ (c
+    .before .before .before .before .before .before .before .before .before .before .before .before .before .before .before .before .before
+    .before .before .before .before .before .before .before .before .pre .5) (c .before .before .before .before .before .before .before
+    .before .before .before .before .before .before .before .before .before .before .before .before .before .before .before .before .before
+    .before .pre .6)) (c .before .before .before .before .before .before .before .before .before .before .before .loop-test .taken) (c
+    .before .before .before .before .before .before .before .before .before .before .begin-on .ensures) in
+    let below = going-level (u .going) (u .near) (turn-start u (c .before .before .before .before .before .before .before .before .before
+    .tag-on .ensures) (c .before .before .before .before .before .before .before .next .given .1) .1)
     in
-    let long = going (c .before .before .before .before .before .before .before .before .before .before .before .loop .inv) .slots-long in
+    let long = going (u .going) .slots-long in
     omega (arith, below, long)
 
 slot-of-requires : tie.Need-slot-of-requires Inv-loop μ-loop
@@ -147,9 +198,15 @@ mul-before c =
 
 array-copy-out-before : tie.Need-array-copy-out-before Inv-loop μ-loop
 array-copy-out-before c =
+    let u = turn (c .before .before .before .before .before .before .before .before .before .before .before .before .before .loop .inv _ _
+    (c .before .before .before .before .before .before .before .before .before .before .before .before .before .before .before .before
+    .before .before .before .before .before .before .before .before .before .before .pre .5) (c .before .before .before .before .before
+    .before .before .before .before .before .before .before .before .before .before .before .before .before .before .before .before .before
+    .before .before .before .before .pre .6)) (c .before .before .before .before .before .before .before .before .before .before .before
+    .before .loop-test .taken) (c .before .before .before .before .before .before .before .before .before .before .before .begin-on
+    .ensures) in
     let l = c .slot-of .ensures .1 in
-    let long = going (c .before .before .before .before .before .before .before .before .before .before .before .before .loop .inv)
-    .memo-long in
+    let long = going (u .going) .memo-long in
     omega (arith, l, long)
 
 is-of-requires : tie.Need-is-of-requires Inv-loop μ-loop
@@ -159,8 +216,8 @@ is-of-requires c κs =
 made-requires : tie.Need-made-requires Inv-loop μ-loop
 made-requires c κs =
     row-few (c .before .before .before .before .before .before .before .before .before .before .before .before .before .before .before
-    .before .before .before .before .before .before .before .before .before .before .before .before .before .pre .4) _ (c .before .before
-    .before .before .row-of .ensures)
+    .before .before .before .before .before .before .before .before .before .before .before .before .before .before .pre .4) _ (c .before
+    .before .before .before .row-of .ensures)
 
 mul-memo : tie.Need-mul-memo Inv-loop μ-loop
 mul-memo c =
@@ -169,9 +226,16 @@ mul-memo c =
 
 array-set-from-memo : tie.Need-array-set-from-memo Inv-loop μ-loop
 array-set-from-memo c =
+    let u = turn (c .before .before .before .before .before .before .before .before .before .before .before .before .before .before .before
+    .before .before .loop .inv _ _ (c .before .before .before .before .before .before .before .before .before .before .before .before
+    .before .before .before .before .before .before .before .before .before .before .before .before .before .before .before .before .before
+    .before .pre .5) (c .before .before .before .before .before .before .before .before .before .before .before .before .before .before
+    .before .before .before .before .before .before .before .before .before .before .before .before .before .before .before .before .pre
+    .6)) (c .before .before .before .before .before .before .before .before .before .before .before .before .before .before .before .before
+    .loop-test .taken) (c .before .before .before .before .before .before .before .before .before .before .before .before .before .before
+    .before .begin-on .ensures) in
     let l = c .before .before .before .before .slot-of .ensures .1 in
-    let long = going (c .before .before .before .before .before .before .before .before .before .before .before .before .before .before
-    .before .before .loop .inv) .memo-long in
+    let long = going (u .going) .memo-long in
     omega (arith, l, long)
 
 mul-known : tie.Need-mul-known Inv-loop μ-loop
@@ -181,106 +245,138 @@ mul-known c =
 
 array-copy-out-known : tie.Need-array-copy-out-known Inv-loop μ-loop
 array-copy-out-known c =
-    let v = going (c .before .before .before .before .before .before .before .before .before .before .before .before .before .before .before
-    .loop .inv) in
+    let u = turn (c .before .before .before .before .before .before .before .before .before .before .before .before .before .before .before
+    .before .loop .inv _ _ (c .before .before .before .before .before .before .before .before .before .before .before .before .before
+    .before .before .before .before .before .before .before .before .before .before .before .before .before .before .before .before .pre .5)
+    (c .before .before .before .before .before .before .before .before .before .before .before .before .before .before .before .before
+    .before .before .before .before .before .before .before .before .before .before .before .before .before .pre .6)) (c .before .before
+    .before .before .before .before .before .before .before .before .before .before .before .before .before .loop-test .taken) (c .before
+    .before .before .before .before .before .before .before .before .before .before .before .before .before .begin-on .ensures) in
+    let v = going (u .going) in
     let l = c .before .before .before .slot-of .ensures .1 in
     let there = kept-there l (v .memo-long) in
     let few = row-few (c .before .before .before .before .before .before .before .before .before .before .before .before .before .before
-    .before .before .before .before .before .before .before .before .before .before .before .before .before .before .pre .4) _ (c .before
-    .before .before .before .row-of .ensures) in
+    .before .before .before .before .before .before .before .before .before .before .before .before .before .before .before .pre .4) _ (c
+    .before .before .before .before .row-of .ensures) in
     let known : Remembered _ _ _ _ (c .before .before .before .before .before .before .before .before .before .before .before .before
-    .before .before .before .loop .memo) _ (c .if1 .memo) =
+    .before .before .before .before .loop .memo) _ (c .if1 .memo) =
     ⊎-elim (λ z. known-stored _ _ _ _ (c .before .before .before .before .before .before .before .before .before .before .before .before
-    .before .before .before .loop .memo) _ there (z .1 .ensures) (z .2))
+    .before .before .before .before .loop .memo) _ there (z .1 .ensures) (z .2))
     (λ z. known-there (c .before .before .before .before .before .before .before .before .before .before .before .before .before .before
-    .before .loop .memo) (v .recalls) _ there few _ (c .before .is-of .ensures) (z .0 .left) (z .1)) (c .if1 .came) in
+    .before .before .loop .memo) (v .recalls) _ there few _ (c .before .is-of .ensures) (z .0 .left) (z .1)) (c .if1 .came) in
     let long = v .memo-long in
     let same = known .3 in
     omega (arith, l, long, same)
 
 cast-tests : tie.Need-cast-tests Inv-loop μ-loop
 cast-tests c =
-    let v = going (c .before .before .before .before .before .before .before .before .before .before .before .before .before .before .before
-    .before .before .loop .inv) in
+    let u = turn (c .before .before .before .before .before .before .before .before .before .before .before .before .before .before .before
+    .before .before .before .loop .inv _ _ (c .before .before .before .before .before .before .before .before .before .before .before
+    .before .before .before .before .before .before .before .before .before .before .before .before .before .before .before .before .before
+    .before .before .before .pre .5) (c .before .before .before .before .before .before .before .before .before .before .before .before
+    .before .before .before .before .before .before .before .before .before .before .before .before .before .before .before .before .before
+    .before .before .pre .6)) (c .before .before .before .before .before .before .before .before .before .before .before .before .before
+    .before .before .before .before .loop-test .taken) (c .before .before .before .before .before .before .before .before .before .before
+    .before .before .before .before .before .before .begin-on .ensures) in
+    let v = going (u .going) in
     let l = c .before .before .before .before .before .slot-of .ensures .1 in
     let there = kept-there l (v .memo-long) in
     let few = row-few (c .before .before .before .before .before .before .before .before .before .before .before .before .before .before
-    .before .before .before .before .before .before .before .before .before .before .before .before .before .before .before .before .pre .4)
+    .before .before .before .before .before .before .before .before .before .before .before .before .before .before .before .before .before
+    .pre .4)
     _ (c .before .before .before .before .before .before .row-of .ensures) in
     let known : Remembered _ _ _ _ (c .before .before .before .before .before .before .before .before .before .before .before .before
-    .before .before .before .before .before .loop .memo) _ (c .before .before .if1 .memo) =
+    .before .before .before .before .before .before .loop .memo) _ (c .before .before .if1 .memo) =
     ⊎-elim (λ z. known-stored _ _ _ _ (c .before .before .before .before .before .before .before .before .before .before .before .before
-    .before .before .before .before .before .loop .memo) _ there (z .1 .ensures) (z .2))
+    .before .before .before .before .before .before .loop .memo) _ there (z .1 .ensures) (z .2))
     (λ z. known-there (c .before .before .before .before .before .before .before .before .before .before .before .before .before .before
-    .before .before .before .loop .memo) (v .recalls) _ there few _ (c .before .before .before .is-of .ensures) (z .0 .left) (z .1)) (c
-    .before .before .if1 .came) in
+    .before .before .before .before .loop .memo) (v .recalls) _ there few _ (c .before .before .before .is-of .ensures) (z .0 .left) (z .1))
+    (c .before .before .if1 .came) in
     let bound = known .2 in
     search (needs, bound)
 
 add-tests : tie.Need-add-tests Inv-loop μ-loop
 add-tests c =
-    let v = going (c .before .before .before .before .before .before .before .before .before .before .before .before .before .before .before
-    .before .before .loop .inv) in
+    let u = turn (c .before .before .before .before .before .before .before .before .before .before .before .before .before .before .before
+    .before .before .before .loop .inv _ _ (c .before .before .before .before .before .before .before .before .before .before .before
+    .before .before .before .before .before .before .before .before .before .before .before .before .before .before .before .before .before
+    .before .before .before .pre .5) (c .before .before .before .before .before .before .before .before .before .before .before .before
+    .before .before .before .before .before .before .before .before .before .before .before .before .before .before .before .before .before
+    .before .before .pre .6)) (c .before .before .before .before .before .before .before .before .before .before .before .before .before
+    .before .before .before .before .loop-test .taken) (c .before .before .before .before .before .before .before .before .before .before
+    .before .before .before .before .before .before .begin-on .ensures) in
+    let v = going (u .going) in
     let l = c .before .before .before .before .before .slot-of .ensures .1 in
     let there = kept-there l (v .memo-long) in
     let few = row-few (c .before .before .before .before .before .before .before .before .before .before .before .before .before .before
-    .before .before .before .before .before .before .before .before .before .before .before .before .before .before .before .before .pre .4)
+    .before .before .before .before .before .before .before .before .before .before .before .before .before .before .before .before .before
+    .pre .4)
     _ (c .before .before .before .before .before .before .row-of .ensures) in
     let known : Remembered _ _ _ _ (c .before .before .before .before .before .before .before .before .before .before .before .before
-    .before .before .before .before .before .loop .memo) _ (c .before .before .if1 .memo) =
+    .before .before .before .before .before .before .loop .memo) _ (c .before .before .if1 .memo) =
     ⊎-elim (λ z. known-stored _ _ _ _ (c .before .before .before .before .before .before .before .before .before .before .before .before
-    .before .before .before .before .before .loop .memo) _ there (z .1 .ensures) (z .2))
+    .before .before .before .before .before .before .loop .memo) _ there (z .1 .ensures) (z .2))
     (λ z. known-there (c .before .before .before .before .before .before .before .before .before .before .before .before .before .before
-    .before .before .before .loop .memo) (v .recalls) _ there few _ (c .before .before .before .is-of .ensures) (z .0 .left) (z .1)) (c
-    .before .before .if1 .came) in
+    .before .before .before .before .loop .memo) (v .recalls) _ there few _ (c .before .before .before .is-of .ensures) (z .0 .left) (z .1))
+    (c .before .before .if1 .came) in
     pass-many v (c .before .before .before .before .before .before .before .before .before .before .before .before .before .before .before
-    .before .before .before .before .before .before .before .before .before .before .before .before .before .before .before .pre .1)
-    (going-near (c .before .before .before .before .before .before .before .before .before .before .before .before .before .before .before
-    .before .before .loop .inv) (c .before .before .before .before .before .before .before .before .before .before .before .before .before
-    .before .before .before .loop-test .taken)) (known .2)
+    .before .before .before .before .before .before .before .before .before .before .before .before .before .before .before .before .pre .1)
+    (going-near (u .going) (u .near)) (known .2)
 
 judged-requires : tie.Need-judged-requires Inv-loop μ-loop
 judged-requires c κs =
-    let v = going (c .before .before .before .before .before .before .before .before .before .before .before .before .before .before .before
-    .before .before .loop .inv) in
+    let u = turn (c .before .before .before .before .before .before .before .before .before .before .before .before .before .before .before
+    .before .before .before .loop .inv _ _ (c .before .before .before .before .before .before .before .before .before .before .before
+    .before .before .before .before .before .before .before .before .before .before .before .before .before .before .before .before .before
+    .before .before .before .pre .5) (c .before .before .before .before .before .before .before .before .before .before .before .before
+    .before .before .before .before .before .before .before .before .before .before .before .before .before .before .before .before .before
+    .before .before .pre .6)) (c .before .before .before .before .before .before .before .before .before .before .before .before .before
+    .before .before .before .before .loop-test .taken) (c .before .before .before .before .before .before .before .before .before .before
+    .before .before .before .before .before .before .begin-on .ensures) in
+    let v = going (u .going) in
     let l = c .before .before .before .before .before .slot-of .ensures .1 in
     let there = kept-there l (v .memo-long) in
     let few = row-few (c .before .before .before .before .before .before .before .before .before .before .before .before .before .before
-    .before .before .before .before .before .before .before .before .before .before .before .before .before .before .before .before .pre .4)
+    .before .before .before .before .before .before .before .before .before .before .before .before .before .before .before .before .before
+    .pre .4)
     _ (c .before .before .before .before .before .before .row-of .ensures) in
     let known : Remembered _ _ _ _ (c .before .before .before .before .before .before .before .before .before .before .before .before
-    .before .before .before .before .before .loop .memo) _ (c .before .before .if1 .memo) =
+    .before .before .before .before .before .before .loop .memo) _ (c .before .before .if1 .memo) =
     ⊎-elim (λ z. known-stored _ _ _ _ (c .before .before .before .before .before .before .before .before .before .before .before .before
-    .before .before .before .before .before .loop .memo) _ there (z .1 .ensures) (z .2))
+    .before .before .before .before .before .before .loop .memo) _ there (z .1 .ensures) (z .2))
     (λ z. known-there (c .before .before .before .before .before .before .before .before .before .before .before .before .before .before
-    .before .before .before .loop .memo) (v .recalls) _ there few _ (c .before .before .before .is-of .ensures) (z .0 .left) (z .1)) (c
-    .before .before .if1 .came) in
-    let w = c .before .before .before .before .before .before .before .before .before .before .before .before .before .before .before
-    .before .before .loop .inv in
-    let n = c .before .before .before .before .before .before .before .before .before .before .before .before .before .before .before
-    .before .loop-test .taken in
-    let e = c .before .before .before .before .before .before .before .before .before .before .before .before .before .before .before
-    .item-on .ensures in
-    let s = c .before .before .before .before .before .before .before .before .before .before .before .before .before .next .given .1 in (
+    .before .before .before .before .loop .memo) (v .recalls) _ there few _ (c .before .before .before .is-of .ensures) (z .0 .left) (z .1))
+    (c .before .before .if1 .came) in
+    let w = u .going in
+    let n = u .near in
+    let s = (turn-start u (c .before .before .before .before .before .before .before .before .before .before .before .before .before .before
+    .before .tag-on .ensures) (c .before .before .before .before .before .before .before .before .before .before .before .before .before
+    .next .given .1) .1) in (
       c .before .before .before .before .before .before .before .before .before .before .before .before .before .before .before .before
-          .before .before .before .before .before .before .before .before .before .before .before .before .before .before .pre .0,
+          .before .before .before .before .before .before .before .before .before .before .before .before .before .before .before .pre .0,
       c .before .before .before .before .before .before .before .before .before .before .before .before .before .before .before .before
-          .before .before .before .before .before .before .before .before .before .before .before .before .before .before .pre .4,
+          .before .before .before .before .before .before .before .before .before .before .before .before .before .before .before .pre .4,
       c .before .before .before .before .before .before .before .before .before .before .before .before .before .before .before .before
-          .before .before .before .before .before .before .before .any .ensures,
-      going-behind w n e s,
-      going-head w n e s,
+          .before .before .before .before .before .before .before .before .any .ensures,
+      going-behind w n s,
+      going-head w n s,
       few,
       verdict-told-by _ _ _ _ (known .1, known .2),
     )
 
 add-if2 : tie.Need-add-if2 Inv-loop μ-loop
 add-if2 c =
-    let below = going-level (c .before .before .before .before .before .before .before .before .before .before .before .before .before
-    .before .before .before .before .before .loop .inv) (c .before .before .before .before .before .before .before .before .before .before
-    .before .before .before .before .before .before .before .loop-test .taken) (c .before .before .before .before .before .before .before
-    .before .before .before .before .before .before .before .before .before .item-on .ensures) (c .before .before .before .before .before
-    .before .before .before .before .before .before .before .before .before .next .given .1) in
+    let u = turn (c .before .before .before .before .before .before .before .before .before .before .before .before .before .before .before
+    .before .before .before .before .loop .inv _ _ (c .before .before .before .before .before .before .before .before .before .before
+    .before .before .before .before .before .before .before .before .before .before .before .before .before .before .before .before .before
+    .before .before .before .before .before .pre .5) (c .before .before .before .before .before .before .before .before .before .before
+    .before .before .before .before .before .before .before .before .before .before .before .before .before .before .before .before .before
+    .before .before .before .before .before .pre .6)) (c .before .before .before .before .before .before .before .before .before .before
+    .before .before .before .before .before .before .before .before .loop-test .taken) (c .before .before .before .before .before .before
+    .before .before .before .before .before .before .before .before .before .before .before .begin-on .ensures) in
+    let below = going-level (u .going) (u .near) (turn-start u (c .before .before .before .before .before .before .before .before .before
+    .before .before .before .before .before .before .before .tag-on .ensures) (c .before .before .before .before .before .before .before
+    .before .before .before .before .before .before .before .next .given .1) .1) in
     search (needs, below)
 
 add-states : tie.Need-add-states Inv-loop μ-loop
@@ -305,128 +401,164 @@ mul-slots c =
 
 array-write-slots : tie.Need-array-write-slots Inv-loop μ-loop
 array-write-slots c =
-    let long = going (c .before .before .before .before .before .before .before .before .before .before .before .before .before .before
-    .before .before .before .before .before .loop .inv) .slots-long in
+    let u = turn (c .before .before .before .before .before .before .before .before .before .before .before .before .before .before .before
+    .before .before .before .before .before .loop .inv _ _ (c .before .before .before .before .before .before .before .before .before
+    .before .before .before .before .before .before .before .before .before .before .before .before .before .before .before .before .before
+    .before .before .before .before .before .before .before .pre .5) (c .before .before .before .before .before .before .before .before
+    .before .before .before .before .before .before .before .before .before .before .before .before .before .before .before .before .before
+    .before .before .before .before .before .before .before .before .pre .6)) (c .before .before .before .before .before .before .before
+    .before .before .before .before .before .before .before .before .before .before .before .before .loop-test .taken) (c .before .before
+    .before .before .before .before .before .before .before .before .before .before .before .before .before .before .before .before
+    .begin-on .ensures) in
+    let long = going (u .going) .slots-long in
     let l = c .if2 .taken in
     omega (arith, l, long)
 
 tag-step-requires : tie.Need-tag-step-requires Inv-loop μ-loop
 tag-step-requires c κs =
-    let w = c .before .before .before .before .before .before .before .before .before .before .before .before .before .before .before
-    .before .before .before .before .before .before .before .before .loop .inv in
-    let l = c .before .before .before .before .before .before .before .before .before .before .before .before .before .before .before
-    .before .before .before .before .before .before .before .loop-test .taken in
-    let e = c .before .before .before .before .before .before .before .before .before .before .before .before .before .before .before
-    .before .before .before .before .before .before .item-on .ensures in
-    let s = c .before .before .before .before .before .before .before .before .before .before .before .before .before .before .before
-    .before .before .before .before .next .given .1 in
+    let u = turn (c .before .before .before .before .before .before .before .before .before .before .before .before .before .before .before
+    .before .before .before .before .before .before .before .before .before .loop .inv _ _ (c .before .before .before .before .before
+    .before .before .before .before .before .before .before .before .before .before .before .before .before .before .before .before .before
+    .before .before .before .before .before .before .before .before .before .before .before .before .before .before .before .pre .5) (c
+    .before .before .before .before .before .before .before .before .before .before .before .before .before .before .before .before .before
+    .before .before .before .before .before .before .before .before .before .before .before .before .before .before .before .before .before
+    .before .before .before .pre .6)) (c .before .before .before .before .before .before .before .before .before .before .before .before
+    .before .before .before .before .before .before .before .before .before .before .before .loop-test .taken) (c .before .before .before
+    .before .before .before .before .before .before .before .before .before .before .before .before .before .before .before .before .before
+    .before .before .begin-on .ensures) in
+    let w = u .going in
+    let l = u .near in
+    let s = (turn-start u (c .before .before .before .before .before .before .before .before .before .before .before .before .before .before
+    .before .before .before .before .before .before .before .tag-on .ensures) (c .before .before .before .before .before .before .before
+    .before .before .before .before .before .before .before .before .before .before .before .before .next .given .1) .1) in
     let k = c .before .before .before .before .before .before .before .before .before .before .before .before .before .before .before .keep
     .ensures in (
       pass-ready (going w) (c .before .before .before .before .before .before .before .before .before .before .before .before .before
           .before .before .before .before .before .before .before .before .before .before .before .before .before .before .before .before
-          .before .before .before .before .before .before .before .pre .1) (c .before .before .before .before .before .before .before
+          .before .before .before .before .before .before .before .before .pre .1) (c .before .before .before .before .before .before
           .before .before .before .before .before .before .before .before .before .before .before .before .before .before .before .before
-          .before .before .before .before .before .before .before .before .before .before .before .before .before .pre .2) (going-near w l),
+          .before .before .before .before .before .before .before .before .before .before .before .before .before .before .before .pre .2)
+          (going-near w l),
       going w .stands .behind,
       going w .order,
-      going-from w l e s,
-      going-to w l e s,
-      going-end w l e s,
-      going-deeper w l e s (k .0) (k .1),
+      going-from w l s,
+      going-to w l s,
+      going-end w l s,
+      going-deeper w l s (k .0) (k .1),
     )
 
 after-requires : tie.Need-after-requires Inv-loop μ-loop
 after-requires c κs =
-    pass-deep (going (c .before .before .before .before .before .before .before .before .before .before .before .before .before .before
-    .before .before .before .before .before .before .before .before .before .before .before .before .before .before .loop .inv)) (c .before
+    let u = turn (c .before .before .before .before .before .before .before .before .before .before .before .before .before .before .before
+    .before .before .before .before .before .before .before .before .before .before .before .before .before .before .loop .inv _ _ (c
     .before .before .before .before .before .before .before .before .before .before .before .before .before .before .before .before .before
     .before .before .before .before .before .before .before .before .before .before .before .before .before .before .before .before .before
-    .before .before .before .before .before .before .pre .1)
+    .before .before .before .before .before .before .before .before .pre .5) (c .before .before .before .before .before .before .before
+    .before .before .before .before .before .before .before .before .before .before .before .before .before .before .before .before .before
+    .before .before .before .before .before .before .before .before .before .before .before .before .before .before .before .before .before
+    .before .pre .6)) (c .before .before .before .before .before .before .before .before .before .before .before .before .before .before
+    .before .before .before .before .before .before .before .before .before .before .before .before .before .before .loop-test .taken) (c
+    .before .before .before .before .before .before .before .before .before .before .before .before .before .before .before .before .before
+    .before .before .before .before .before .before .before .before .before .before .begin-on .ensures) in
+    pass-deep (going (u .going)) (c .before .before .before .before .before .before .before .before .before .before .before .before .before
+    .before .before .before .before .before .before .before .before .before .before .before .before .before .before .before .before .before
+    .before .before .before .before .before .before .before .before .before .before .before .before .pre .1)
 
 add-k : tie.Need-add-k Inv-loop μ-loop
 add-k c =
     let l = c .before .before .before .before .before .before .before .before .before .before .before .before .before .before .before
-    .before .before .before .before .before .before .before .before .before .before .before .before .before .loop-test .taken in
+    .before .before .before .before .before .before .before .before .before .before .before .before .before .before .loop-test .taken in
     let few = c .before .before .before .before .before .before .before .before .before .before .before .before .before .before .before
     .before .before .before .before .before .before .before .before .before .before .before .before .before .before .before .before .before
-    .before .before .before .before .before .before .before .before .before .before .pre .3 in
+    .before .before .before .before .before .before .before .before .before .before .before .pre .3 in
     record { fits = omega (arith, l, few) }
 
 loop-less : tie.Need-loop-less Inv-loop μ-loop
 loop-less c =
     let l = c .before .before .before .before .before .before .before .before .before .before .before .before .before .before .before
-    .before .before .before .before .before .before .before .before .before .before .before .before .before .loop-test .taken in
+    .before .before .before .before .before .before .before .before .before .before .before .before .before .before .loop-test .taken in
     omega (arith, l)
 
 loop-again : tie.Need-loop-again Inv-loop μ-loop
 loop-again c =
-    let v = going (c .before .before .before .before .before .before .before .before .before .before .before .before .before .before .before
-    .before .before .before .before .before .before .before .before .before .before .before .before .before .before .loop .inv) in
+    λ a b g y.
+    let u = turn (c .before .before .before .before .before .before .before .before .before .before .before .before .before .before .before
+    .before .before .before .before .before .before .before .before .before .before .before .before .before .before .before .loop .inv a b g
+    y) (c .before .before .before .before .before .before .before .before .before .before .before .before .before .before .before .before
+    .before .before .before .before .before .before .before .before .before .before .before .before .before .loop-test .taken) (c .before
+    .before .before .before .before .before .before .before .before .before .before .before .before .before .before .before .before .before
+    .before .before .before .before .before .before .before .before .before .before .begin-on .ensures) in
+    let v = going (u .going) in
     let l = c .before .before .before .before .before .before .before .before .before .before .before .before .before .before .before
     .before .before .slot-of .ensures .1 in
     let there = kept-there l (v .memo-long) in
     let few = row-few (c .before .before .before .before .before .before .before .before .before .before .before .before .before .before
     .before .before .before .before .before .before .before .before .before .before .before .before .before .before .before .before .before
-    .before .before .before .before .before .before .before .before .before .before .before .pre .4) _ (c .before .before .before .before
-    .before .before .before .before .before .before .before .before .before .before .before .before .before .before .row-of .ensures) in
+    .before .before .before .before .before .before .before .before .before .before .before .before .pre .4) _ (c .before .before .before
+    .before .before .before .before .before .before .before .before .before .before .before .before .before .before .before .row-of
+    .ensures) in
     let known : Remembered _ _ _ _ (c .before .before .before .before .before .before .before .before .before .before .before .before
     .before .before .before .before .before .before .before .before .before .before .before .before .before .before .before .before .before
-    .loop .memo) _ (c .before .before .before .before .before .before .before .before .before .before .before .before .before .before .if1
-    .memo) =
+    .before .loop .memo) _ (c .before .before .before .before .before .before .before .before .before .before .before .before .before
+    .before .if1 .memo) =
     ⊎-elim (λ z. known-stored _ _ _ _ (c .before .before .before .before .before .before .before .before .before .before .before .before
     .before .before .before .before .before .before .before .before .before .before .before .before .before .before .before .before .before
-    .loop .memo) _ there (z .1 .ensures) (z .2))
+    .before .loop .memo) _ there (z .1 .ensures) (z .2))
     (λ z. known-there (c .before .before .before .before .before .before .before .before .before .before .before .before .before .before
-    .before .before .before .before .before .before .before .before .before .before .before .before .before .before .before .loop .memo) (v
-    .recalls) _ there few _ (c .before .before .before .before .before .before .before .before .before .before .before .before .before
-    .before .before .is-of .ensures) (z .0 .left) (z .1)) (c .before .before .before .before .before .before .before .before .before .before
-    .before .before .before .before .if1 .came) in
+    .before .before .before .before .before .before .before .before .before .before .before .before .before .before .before .before .loop
+    .memo) (v .recalls) _ there few _ (c .before .before .before .before .before .before .before .before .before .before .before .before
+    .before .before .before .is-of .ensures) (z .0 .left) (z .1)) (c .before .before .before .before .before .before .before .before .before
+    .before .before .before .before .before .if1 .came) in
     let serves = c .before .before .before .before .before .before .before .before .before .before .before .before .before .before .before
     .before .before .before .before .before .before .before .before .before .before .before .before .before .before .before .before .before
-    .before .before .before .before .before .before .before .before .before .before .pre .4 in
+    .before .before .before .before .before .before .before .before .before .before .before .pre .4 in
     let k = c .before .before .before .before .before .before .before .before .before .before .before .before .before .before .before
     .before .before .before .before .before .before .keep .ensures in
     let kept = c .before .before .before .before .before .before .before .before .before .before .if2 .came in
-    going-tag (c .before .before .before .before .before .before .before .before .before .before .before .before .before .before .before
-    .before .before .before .before .before .before .before .before .before .before .before .before .before .before .loop .inv) (c .before
+    turn-on u (going-tag (u .going) (u .near) (turn-start u (c .before .before .before .before .before .before .before .before .before
     .before .before .before .before .before .before .before .before .before .before .before .before .before .before .before .before .before
-    .before .before .before .before .before .before .before .before .before .before .loop-test .taken) (c .before .before .before .before
-    .before .before .before .before .before .before .before .before .before .before .before .before .before .before .before .before .before
-    .before .before .before .before .before .before .item-on .ensures) (c .before .before .before .before .before .before .before .before
-    .before .before .before .before .before .before .before .before .before .before .before .before .before .before .before .before .before
-    .next .given .1) (k .0) (k .1) (serves .sound) refl
+    .before .tag-on .ensures) (c .before .before .before .before .before .before .before .before .before .before .before .before .before
+    .before .before .before .before .before .before .before .before .before .before .before .before .next .given .1) .1) (k .0) (k .1)
+    (serves .sound) refl
     (row-fit serves _ (c .before .before .before .before .before .before .before .before .before .before .before .before .before .before
     .before .before .before .before .row-of .ensures)) (c .before .before .before .before .before .before .before .before .before .before
     .before .judged .ensures)
     (⊎-elim (λ z. stored _ (z .0 .taken) (below-told _ _ _ _ (known .1, known .2)) (z .1)) (λ z. inr (z .0 .left, z .1)) kept)
     _ (known .0) (known-recalls _ _ _ _ (known .1, known .2))
     (⊎-elim (λ z. inl (_, _, z .2)) (λ z. inr (z .2)) kept)
-    (tests-told _ _ _ _ (known .1, known .2)) (c .before .before .before .before .before .tag-step .ensures) (c .after .ensures)
+    (tests-told _ _ _ _ (known .1, known .2)) (c .before .before .before .before .before .tag-step .ensures) (c .after .ensures))
 
 other-step-requires : tie.Need-other-step-requires Inv-loop μ-loop
 other-step-requires c κs =
-    let w = c .before .before .before .before .before .before .before .loop .inv in
-    let l = c .before .before .before .before .before .before .loop-test .taken in
-    let e = c .before .before .before .before .before .item-on .ensures in (
+    let u = turn (c .before .before .before .before .before .before .before .before .loop .inv _ _ (c .before .before .before .before
+    .before .before .before .before .before .before .before .before .before .before .before .before .before .before .before .before .before
+    .pre .5) (c .before .before .before .before .before .before .before .before .before .before .before .before .before .before .before
+    .before .before .before .before .before .before .pre .6)) (c .before .before .before .before .before .before .before .loop-test .taken)
+    (c .before .before .before .before .before .before .begin-on .ensures) in
+    let w = u .going in
+    let l = u .near in (
       pass-ready (going w) (c .before .before .before .before .before .before .before .before .before .before .before .before .before
-          .before .before .before .before .before .before .before .pre .1) (c .before .before .before .before .before .before .before
-          .before .before .before .before .before .before .before .before .before .before .before .before .before .pre .2) (going-near w l),
+          .before .before .before .before .before .before .before .before .pre .1) (c .before .before .before .before .before .before
+          .before .before .before .before .before .before .before .before .before .before .before .before .before .before .before .pre .2)
+          (going-near w l),
       going w .stands .behind,
       going w .order,
-      going-inside w l e,
+      turn-inside u (c .before .before .before .before .before .tag-on .ensures) (c .before .before .before .before .match .keys2),
       going w .judging .within,
       going-placed w l,
     )
 
 after-requires-2 : tie.Need-after-requires-2 Inv-loop μ-loop
 after-requires-2 c κs =
-    pass-deep (going (c .before .before .before .before .before .before .before .before .before .before .before .before .loop .inv)) (c
+    let u = turn (c .before .before .before .before .before .before .before .before .before .before .before .before .before .loop .inv _ _
+    (c .before .before .before .before .before .before .before .before .before .before .before .before .before .before .before .before
+    .before .before .before .before .before .before .before .before .before .before .pre .5) (c .before .before .before .before .before
     .before .before .before .before .before .before .before .before .before .before .before .before .before .before .before .before .before
-    .before .before .before .before .before .before .before .before .pre .1)
-
-end-of-requires : tie.Need-end-of-requires Inv-loop μ-loop
-end-of-requires c κs =
-    search needs
+    .before .before .before .before .pre .6)) (c .before .before .before .before .before .before .before .before .before .before .before
+    .before .loop-test .taken) (c .before .before .before .before .before .before .before .before .before .before .before .begin-on
+    .ensures) in
+    pass-deep (going (u .going)) (c .before .before .before .before .before .before .before .before .before .before .before .before .before
+    .before .before .before .before .before .before .before .before .before .before .before .before .before .pre .1)
 
 add-k-2 : tie.Need-add-k-2 Inv-loop μ-loop
 add-k-2 c =
@@ -442,26 +574,37 @@ loop-less-2 c =
 
 loop-again-2 : tie.Need-loop-again-2 Inv-loop μ-loop
 loop-again-2 c =
-    going-other (c .before .before .before .before .before .before .before .before .before .before .before .before .before .before .loop
-    .inv) (c .before .before .before .before .before .before .before .before .before .before .before .before .before .loop-test .taken) (c
-    .before .before .before .before .before .before .before .before .before .before .before .before .item-on .ensures) (c .before .before
+    λ a b g y.
+    turn-other (turn (c .before .before .before .before .before .before .before .before .before .before .before .before .before .before
+    .loop .inv a b g y) (c .before .before .before .before .before .before .before .before .before .before .before .before .before
+    .loop-test .taken) (c .before .before .before .before .before .before .before .before .before .before .before .before .begin-on
+    .ensures)) (c .before .before .before .before .before .before .before .before .before .before .before .tag-on .ensures) (c .before
     .before .before .before .before .before .before .before .before .before .match .keys2) (c .before .before .before .before .before
-    .before .other-step .ensures) (c .before .after2 .ensures)
-    (c .end-of .ensures)
+    .other-step .ensures)
+    (c .after2 .ensures)
 
 same-length : tie.Need-same-length Inv-loop μ-loop
 same-length c =
-    let e = going-over (c .before .loop .inv) (c .loop-test .left) .room in
+    let e = gone-over (c .before .loop .inv _ _ (c .before .before .before .before .before .before .before .before .before .before .before
+    .before .before .before .pre .5) (c .before .before .before .before .before .before .before .before .before .before .before .before
+    .before .before .pre .6)) (c .loop-test .left) (c .before .before .before .before .before .before .before .before .before .before
+    .before .before .before .before .pre .6 .to-is) (c .before .before .before .before .before .before .before .before .before .before
+    .before .before .before .before .pre .6 .first-is) .room in
     search (needs, e)
 
 same-length-2 : tie.Need-same-length-2 Inv-loop μ-loop
 same-length-2 c =
-    let e = going-over (c .before .loop .inv) (c .loop-test .left) .log-room in
+    let e = gone-over (c .before .loop .inv _ _ (c .before .before .before .before .before .before .before .before .before .before .before
+    .before .before .before .pre .5) (c .before .before .before .before .before .before .before .before .before .before .before .before
+    .before .before .pre .6)) (c .loop-test .left) (c .before .before .before .before .before .before .before .before .before .before
+    .before .before .before .before .pre .6 .to-is) (c .before .before .before .before .before .before .before .before .before .before
+    .before .before .before .before .pre .6 .first-is) .log-room in
     search (needs, e)
 
 returns : tie.Need-returns Inv-loop μ-loop
 returns c =
-    going-over (c .before .loop .inv) (c .loop-test .left)
+    λ y. gone-over (c .before .loop .inv _ _ (c .before .before .before .before .before .before .before .before .before .before .before
+    .before .before .before .pre .5) y) (c .loop-test .left) (y .to-is) (y .first-is)
 
 pub all-through-spec : {M : Type 1} → statement M
 all-through-spec =
@@ -473,7 +616,8 @@ all-through-spec =
     states-of-requires
     nothing-requires
     loop-holds
-    item-on-requires
+    begin-on-requires
+    tag-on-requires
     enum-known-next
     keep-requires
     mul-parent
@@ -512,7 +656,6 @@ all-through-spec =
     loop-again
     other-step-requires
     after-requires-2
-    end-of-requires
     add-k-2
     loop-less-2
     loop-again-2

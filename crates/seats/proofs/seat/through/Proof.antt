@@ -1,5 +1,5 @@
 -- `through` meets its contract:
--- a client that is live goes through the items, and one that sits out stays as it is.
+-- a client that is live goes through the tags, and one that sits out stays as it is.
 use mathlib.Core.Path.{refl, sym, _∙_}
 use mathlib.Core.Bool.{false≢true}
 use borrow.Author.Needs.{needs}
@@ -19,7 +19,7 @@ all-through-requires c κs =
           .before .pre .4 .serves live,
       c .before .before .before .before .before .before .before .before .before .pre .4 .begun live,
       c .before
-          .before .before .before .before .before .before .before .before .pre .4 .taped live,
+          .before .before .before .before .before .before .before .before .pre .4 .lies live,
     )
 
 same-length : tie.Need-same-length

@@ -1,10 +1,10 @@
--- `item_on` meets its contract:
--- the four numbers of the entry say the item.
+-- `tag_on` meets its contract:
+-- the four numbers of the entry say the tag.
 use Rattle.tape.specs.Tape.{entryAt}
 use Rattle.tape.proofs.Entries.{entries}
 use borrow.Author.Needs.{needs}
-use Rattle.tape.proofs.item_on.Statement.{statement}
-use Rattle.tape.proofs.item_on.Tie as tie
+use Rattle.tape.proofs.tag_on.Statement.{statement}
+use Rattle.tape.proofs.tag_on.Tie as tie
 
 mul-i : tie.Need-mul-i
 mul-i c = search entries
@@ -49,8 +49,8 @@ returns : tie.Need-returns
 unfolding entryAt
 returns c = c .shaped .ensures
 
-pub item-on-spec : {M : Type 1} → statement M
-item-on-spec =
+pub tag-on-spec : {M : Type 1} → statement M
+tag-on-spec =
     tie.close
     (tie.spec
     mul-i
