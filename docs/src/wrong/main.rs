@@ -10,13 +10,18 @@ const PACKS: usize = 3;
 /// Seconds for a wrong program to answer the packs, which takes a few: one that goes on for ever is found too.
 const LIMIT: &str = "60";
 
-/// One wrong program: in a crate, by a name, a line of a file that is replaced.
-struct Edit {
-    crate_name: String,
-    label: String,
+/// A text of a file that is replaced by another.
+struct Change {
     file: String,
     old: String,
     new: String,
+}
+
+/// One wrong program: in a crate, by a name, changes that are made one after the other.
+struct Edit {
+    crate_name: String,
+    label: String,
+    changes: Vec<Change>,
 }
 
 fn files(folder: &Path) -> io::Result<Vec<PathBuf>> {
@@ -25,11 +30,22 @@ fn files(folder: &Path) -> io::Result<Vec<PathBuf>> {
     Ok(files)
 }
 
+/// A file holds for the pairs of old and new after it.
 fn edit(crate_name: &str, path: &Path) -> io::Result<Edit> {
     let text = fs::read_to_string(path)?;
-    let field = |name: &str| text.lines().find_map(|line| line.strip_prefix(name)).unwrap_or("").to_string();
     let label = path.file_stem().map_or(String::new(), |stem| stem.to_string_lossy().into_owned());
-    Ok(Edit { crate_name: crate_name.into(), label, file: field("file: "), old: field("old: "), new: field("new: ") })
+    let (mut file, mut old, mut changes) = ("", "", Vec::new());
+    for line in text.lines() {
+        if let Some(name) = line.strip_prefix("file: ") {
+            file = name;
+        } else if let Some(text) = line.strip_prefix("old: ") {
+            old = text;
+        } else if let Some(new) = line.strip_prefix("new:") {
+            let new = new.strip_prefix(' ').unwrap_or(new);
+            changes.push(Change { file: file.into(), old: old.into(), new: new.into() });
+        }
+    }
+    Ok(Edit { crate_name: crate_name.into(), label, changes })
 }
 
 /// The wrong programs of a crate.
@@ -75,12 +91,14 @@ fn otherwise(crates: &[String]) -> io::Result<Option<Vec<usize>>> {
 
 /// The same for one edit, which is then taken back.
 fn tried(edit: &Edit, crates: &[String]) -> io::Result<Option<Vec<usize>>> {
-    let path = format!("{COPY}/crates/{}/{}", edit.crate_name, edit.file);
-    let text = fs::read_to_string(&path)?;
-    assert_eq!(text.matches(&edit.old).count(), 1, "{path}: {}", edit.old);
-    fs::write(&path, text.replace(&edit.old, &edit.new))?;
+    for Change { file, old, new } in &edit.changes {
+        let path = format!("{COPY}/crates/{}/{file}", edit.crate_name);
+        let text = fs::read_to_string(&path)?;
+        assert_eq!(text.matches(old).count(), 1, "{path}: {old}");
+        fs::write(&path, text.replace(old, new))?;
+    }
     let counts = otherwise(crates);
-    fs::write(&path, text)?;
+    copy(&edit.crate_name)?;
     counts
 }
 
@@ -90,7 +108,7 @@ fn main() -> io::Result<()> {
     assert_eq!(otherwise(&crates)?, Some(vec![0; PACKS]), "the filter as it stands differs from the second program");
     let (mut found, mut passed) = (0, Vec::new());
     for name in &crates {
-        for edit in edits(name)?.into_iter().filter(|edit| edit.file.starts_with("src/")) {
+        for edit in edits(name)?.into_iter().filter(|edit| edit.changes.iter().all(|change| change.file.starts_with("src/"))) {
             let counts = tried(&edit, &crates)?;
             match &counts {
                 Some(counts) => println!("{name} {}: suite {}, named {}, made {}", edit.label, counts[0], counts[1], counts[2]),
