@@ -4,18 +4,17 @@
 use mathlib.Core.Path.{_≡_, refl, sym, ap, _∙_}
 use mathlib.Core.Bool.{Bool, false≢true}
 use mathlib.Core.List.{List}
-use Prim.Native.Nat.{ℕ, _≤_, _<_}
+use Prim.Native.Nat.{ℕ, _<_}
 use native.Mathlib.Omega.{arith}
 use lib.ListN.{length}
 use Rattle.contracts.specs.One.{OneResult}
 use Rattle.document.specs.Place.{Opened}
-use Rattle.document.specs.Levels.{openedOf, namesOf}
+use Rattle.document.specs.Levels.{openedOf}
 use Rattle.document.specs.declared.Open.{Open}
 use Rattle.document.specs.declared.Placement.the-variants as placed
-use Rattle.document.specs.declared.Why.{Why}
 use Rattle.document.proofs.Placing.{names-long}
 use Rattle.tape.specs.Taped.{Spot, spotOf, behind, tagsIn, Taped}
-use Rattle.reel.specs.Reeling.{Reeling, placedAt, Stopped}
+use Rattle.reel.specs.Reeling.{Reeling, Stopped}
 use Rattle.reel.specs.declared.Read.{Read}
 use Rattle.reel.specs.declared.Stop.{Stop}
 use Rattle.reel.specs.declared.Stop.the-variants.{Full, Over, Fault}

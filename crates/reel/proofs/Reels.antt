@@ -35,9 +35,10 @@ use Rattle.passes.proofs.Passing.{opened-past}
 use Rattle.tape.specs.Tape.{entryAt, beginAt, tagsOf, putAt, imageOf}
 use Rattle.tape.specs.Taped.{Spot, spotOf, itemOf, nextOf, behind, tagsIn, Taped}
 use Rattle.tape.proofs.Entries.{put-here, put-begins, put-before, put-began, put-long}
+use Rattle.tape.proofs.Counting.{one-most, tag-before}
 use Rattle.reel.specs.Reeling.{Reeling, placedAt, Stopped}
 use Rattle.reel.specs.declared.Stop.{Stop}
-use Rattle.reel.specs.declared.Stop.the-variants.{Full, Over, Fault}
+use Rattle.reel.specs.declared.Stop.the-variants.{Over, Fault}
 
 -- ---- the names of the open elements after an item
 
@@ -107,36 +108,6 @@ abbrev pub Named : List ℕ → List ℕ → ℕ → ℕ → Item → List ℕ �
 Named starts lens level at i starts′ lens′ =
     ((starts′ ≡ set starts level (at + 1)) × (lens′ ≡ set lens level (lenOf i)))
     ⊎ (OneOf untagged (kindOf item.the-type i) × (starts′ ≡ starts) × (lens′ ≡ lens))
-
--- ---- how many tags are among the items
-
-one-most : (i : Item) → tagsOf i ≤ 1
-one-most (Declaration e) = omega arith
-one-most (Instruction e) = omega arith
-one-most (Comment e) = omega arith
-one-most (Section e) = omega arith
-one-most (Reference n e) = omega arith
-one-most (Text e) = omega arith
-one-most (Start n h e m t) = omega arith
-one-most (Finish n e) = omega arith
-one-most Doctype = omega arith
-one-most Malformed = omega arith
-one-most TooLarge = omega arith
-one-most Nothing = omega arith
-
--- there are no fewer behind more items
-tags-grow : (d : List ℕ) (s : Spot) (j n : ℕ) → j < n → tagsIn d s (suc j) ≤ tagsIn d s n
-tags-grow d s j zero g = absurd (omega arith)
-tags-grow d s j (suc n) g =
-    let le : j ≤ n = omega arith in
-    ⊎-elim
-    (λ (z : j ≡ n). rw z (omega arith))
-    (λ (z : j < n). omega (arith, tags-grow d s j n z))
-    (eq-or-lt-of-le le)
-
--- the entry of a tag is before those of the tags behind it
-tag-before : (d : List ℕ) (s : Spot) (j n : ℕ) → j < n → tagsOf (itemOf d (behind d s j)) ≡ 1 → tagsIn d s j < tagsIn d s n
-tag-before d s j n g o = omega (arith, tags-grow d s j n g, o)
 
 -- ---- the beginning
 

@@ -46,6 +46,7 @@ use Rattle.output.proofs.Steps.{open-is}
 use Rattle.output.proofs.Outs.{other-step}
 use Rattle.tape.specs.Tape.{entryAt, beginAt, tagsOf, imageOf}
 use Rattle.tape.specs.Taped.{Spot, spotOf, itemOf, nextOf, behind, tagsIn, Taped}
+use Rattle.tape.proofs.Counting.{tags-more}
 use Rattle.passes.specs.ByTests.{ByTests}
 use Rattle.passes.proofs.Rests.{untagged, tag-makes, tag-sums, other-makes, other-sums}
 use Rattle.passes.proofs.States.{none, Stored}
@@ -402,19 +403,6 @@ module _ {counts : Bool} {list tb d t : List ℕ} {items tags : ℕ} {starts₀ 
                 (rw (es, el) (stands-kept (going .order) (w .came o₀ x v .stood) (at + 1) n)))
 
 -- ---- the next tag, and the way out
-
--- tags are counted item by item
-tags-more : (d : List ℕ) (s : Spot) (i n : ℕ) → i ≤ n → tagsIn d s i ≤ tagsIn d s n
-tags-more d s i zero l =
-    let z : i ≡ 0 = omega arith in
-    rw z (omega arith)
-tags-more d s i (suc n) l =
-    ⊎-elim
-    (λ (z : i ≡ suc n). rw z (omega arith))
-    (λ (z : i < suc n).
-    let h = tags-more d s i n (omega arith) in
-    omega (arith, h))
-    (eq-or-lt-of-le l)
 
 module _ {counts : Bool} {list tb d t : List ℕ} {items tags : ℕ} {starts₀ lens₀ : List ℕ} {s : Seat} {o₁ g₁ : List ℕ}
     {states : List MatchState} {memo : List Known} {slots starts lens : List ℕ} {opened : Open} {run : Run} {tests : ℕ} {o g : List ℕ} where

@@ -15,8 +15,8 @@ use Rattle.seats.specs.Made.{RunStands, Came, startsAfter, lensAfter}
 use Rattle.seats.specs.Seated.{Seated, Begun, seatSpot}
 use Rattle.seats.specs.declared.seat.Seat.{Seat}
 
--- so many tags of the tape t are those of the items from the spot s on, and behind these items is the place `to`, where the document's
--- first item begins or another
+-- so many tags of the tape t are those of some items from the spot s on; behind these items the place `to` is reached, and whether the next
+-- item is the document's first is `first`
 pub record Lies (d t : List ℕ) (s : Spot) (tags to : ℕ) (first : Bool) : Type 0 where
   pub items : ℕ
   pub taped : Taped d t s items tags

@@ -2,7 +2,6 @@
 -- the four numbers of the entry say the tag.
 use Rattle.tape.specs.Tape.{entryAt}
 use Rattle.tape.proofs.Entries.{entries}
-use borrow.Author.Needs.{needs}
 use Rattle.tape.proofs.tag_on.Statement.{statement}
 use Rattle.tape.proofs.tag_on.Tie as tie
 
