@@ -10,6 +10,8 @@
 //
 // Where the buffer has twice the bytes of the batch there is room, as is proved, and each document is gone through once; else the result is
 // measured first, document by document.
+#![tactic(auto)]
+
 ghost use Rattle.std.specs.Prelude.{◌≡◌, ◌≤◌, length};
 ghost use Rattle.matcher.specs.Fit.{Serves};
 ghost use Rattle.bundle.specs.Batch.{layout_of};

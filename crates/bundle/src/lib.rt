@@ -1,5 +1,7 @@
 // The layout of a batch: a length that is read, and laid; and whether some bytes are a version byte and whole entries, from the first to
 // the last. What is said of them is in specs/Batch.antt.
+#![tactic(auto)]
+
 ghost use Rattle.std.specs.Prelude.{◌≡◌, ◌+◌, ◌≤◌, ◌<◌, length, drop};
 ghost use Rattle.std.proofs.lemmas.List.Edits.{sets};
 ghost use Rattle.bundle.specs.Batch.{big, number_at, layout_of};

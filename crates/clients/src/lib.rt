@@ -1,5 +1,8 @@
 // Four clients in one call, for callers in Rust and C: four lists, a document and four buffers. The four numbers of each client, those of
-// `choughbell_cut`, are written to a lent array, one client behind the other.
+// `choughbell_cut`, are written to a lent array, one client behind the other. C is given the functions of the crate `clients_c`, which call
+// these.
+#![tactic(auto)]
+
 ghost use Rattle.std.specs.Prelude.{◌≡◌, length};
 ghost use Rattle.cutter.specs.Answer.{answer_of, bytes_after};
 ghost use Rattle.clients.specs.Results.{results_of};

@@ -1,5 +1,7 @@
 // Whether every path of a narrow list is covered by one of a wide list: what is said of two lists. What covering means is in
 // specs/Cover.antt, and what is answered in specs/Answer.antt.
+#![tactic(auto)]
+
 ghost use Rattle.std.specs.Prelude.{◌≡◌};
 ghost use Rattle.paths.specs.Judge.{list_answer, list_paths};
 ghost use Rattle.paths.specs.declared.ListAnswer.TheVariants.{Sound};

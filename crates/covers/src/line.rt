@@ -13,7 +13,7 @@ use paths::{Kind, LineEnd, ListAnswer, StepEnd, end_at, step_at};
 
 // A line: where it begins, where its steps end, where its test ends, and the next line's place; whether it is marked, and whether it has
 // child and descendant steps only.
-#[derive(Drop)]
+#[derive(Clone, Copy)]
 pub struct Line {
     pub from: usize,
     pub steps: usize,
@@ -24,7 +24,7 @@ pub struct Line {
 }
 
 // The lines of a list, and how many there are.
-#[derive(Drop)]
+#[derive(Clone, Copy)]
 pub struct Lines {
     pub all: [Line; Lines::MOST],
     pub count: usize,

@@ -14,6 +14,8 @@
 //
 // The log is room for notes. Only the time depends on it: `cut` and `cut_by` have a short one of their own, and `cut_with` and
 // `cut_by_with` take one from the caller, of any length.
+#![tactic(auto)]
+
 ghost use Rattle.std.specs.Prelude.{◌≡◌, false, length, drop, ◌≤◌};
 ghost use Rattle.chars.specs.Check.{check_of};
 ghost use Rattle.chars.specs.declared.whole.Checked.TheVariants.{All};
@@ -37,7 +39,7 @@ use points::table::classes;
 // long; a line of it is malformed, or too large; the document is too long; its declaration, at a place, names another encoding than UTF-8;
 // a sequence that is no character begins at a place; a document type, an item that is not well-formed, an item over a size begins at a
 // place; the buffer is too short for the cut, which has this length.
-#[derive(Drop)]
+#[derive(Clone, Copy)]
 pub enum Answer {
     Written {
         length: usize,

@@ -11,6 +11,8 @@
 // `tree` has the two functions that call each other: an element reads its content, and content reads the elements inside it. `select` tries
 // the places of every path at an element, from the top: nothing is kept from one element to the next but the names of those around it.
 // `ink` is what is written of an element. A document is gone through twice: into one byte, which measures, and into the buffer.
+#![tactic(auto)]
+
 ghost use Rattle.std.specs.Prelude.{◌≡◌, false, ◌≤◌, length, drop};
 ghost use Rattle.chars.specs.Check.{check_of};
 ghost use Rattle.chars.specs.declared.whole.Checked.TheVariants.{All};

@@ -27,7 +27,7 @@ use paths::{Kind, LineEnd, StepEnd, end_at, step_at};
 use points::table::Classes;
 
 // Not selected; selected; selected by a path that is marked.
-#[derive(Drop)]
+#[derive(Clone, Copy)]
 pub enum Verdict {
     Unselected,
     Selected,

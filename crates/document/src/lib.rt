@@ -1,14 +1,16 @@
 // A document as a whole: each item in its place, and the answer on a document alone. What a place asks of an item is document 01's: one
 // root, nothing but comments, instructions and white space outside it, end tags that match, no attribute name twice, depth 64.
+#![tactic(auto)]
+
 pub mod place; // an item in its place
 pub mod judge; // the answer on a document
 
 // How many elements are open in the input: the level that is reached there.
-#[derive(Drop)]
+#[derive(Clone, Copy)]
 pub struct InputLevel(pub usize);
 
 // What is open: the level, and whether a root was there. The names by level are kept by their places, two arrays beside it.
-#[derive(Drop)]
+#[derive(Clone, Copy)]
 pub struct Open {
     pub level: InputLevel,
     pub rooted: bool,
@@ -22,7 +24,7 @@ impl Open {
 }
 
 // Why an item is at fault: a document type; not well-formed; over a size.
-#[derive(Drop)]
+#[derive(Clone, Copy)]
 pub enum Why {
     Doctype,
     Malformed,

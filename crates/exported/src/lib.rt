@@ -1,6 +1,9 @@
-// What callers in Rust and C can call: numbers pass as themselves, a slice as a pointer and then a length. An answer that is an enum in the
-// library is a number here, or three: document 01's "Numbers handed back", and 10 for another encoding. A cut has a fourth, document 02's
-// number of name tests. Here the cut, the judgement of a document and its characters; the other calls have modules of their own.
+// What callers in Rust and C can call: numbers pass as themselves, a slice as a pointer and then a length. C is given the functions of the
+// crate `exported_c`, which call these. An answer that is an enum in the library is a number here, or three: document 01's "Numbers handed
+// back", and 10 for another encoding. A cut has a fourth, document 02's number of name tests. Here the cut, the judgement of a document and
+// its characters; the other calls have modules of their own.
+#![tactic(auto)]
+
 ghost use Rattle.std.specs.Prelude.{◌≡◌, length};
 ghost use Rattle.document.specs.Judge.{why_number, judge_of};
 ghost use Rattle.cutter.specs.Answer.{answer_of, bytes_after};

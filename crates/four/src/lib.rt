@@ -13,6 +13,8 @@
 //               writes, for those whose log has none
 //
 // A client's part is in specs/Parts.antt: the four are served by the same functions, each by its own list, table, buffer and log.
+#![tactic(auto)]
+
 ghost use Rattle.std.specs.Prelude.{◌≡◌, length, ◌≤◌};
 ghost use Rattle.paths.specs.Judge.{list_answer};
 ghost use Rattle.cutter.specs.Answer.{answer_of, bytes_after};

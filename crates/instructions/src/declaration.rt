@@ -18,7 +18,7 @@ use chars::text::stands;
 use scans::byte::after_byte;
 
 // The parts of a declaration: a version, an encoding, another encoding than UTF-8, and `standalone`.
-#[derive(Drop)]
+#[derive(Clone, Copy)]
 pub enum Part {
     Version,
     Encoding,

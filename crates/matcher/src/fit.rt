@@ -13,7 +13,7 @@ use lookup::find::find;
 
 // For each path: the steps that pass the name; those that may stay, go below, go far; the last one; and the last one again if the path is
 // marked.
-#[derive(Drop)]
+#[derive(Clone, Copy)]
 pub struct Fit {
     pub passes: [u16; MatchState::PATHS],
     pub stays: [u16; MatchState::PATHS],

@@ -8,6 +8,8 @@
 //               item by item up to the first fault          refused: 12, where no root tag is whole
 //     buffer    is there room                               refused: 9
 //               the bytes that are kept, the end tags       0
+#![tactic(auto)]
+
 ghost use Rattle.std.specs.Prelude.{◌≡◌, ◌≤◌, length, take};
 ghost use Rattle.mend.specs.Kept.{readable};
 ghost use Rattle.mend.specs.Answer.{answer_of, bytes_after};

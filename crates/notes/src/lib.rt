@@ -11,6 +11,8 @@
 //                      </v>         2 v                     </v>
 //
 // A log has room for as many notes as it is long. Their number is one more than that as soon as one was left out.
+#![tactic(auto)]
+
 pub mod made; // a note is made
 pub mod replay; // notes are laid into a buffer
 mod word; // a note as a number

@@ -6,6 +6,8 @@
 //              that text is packed and compared with the input  refused: 13, then 9
 //
 // So the reader judges no byte by itself: what is no packed form of a sound list can't come out again as it went in.
+#![tactic(auto)]
+
 ghost use Rattle.std.specs.Prelude.{◌≡◌, length};
 ghost use Rattle.packed.specs.Spelled.{same, packs};
 ghost use Rattle.packed.specs.Answer.{pack_answer, pack_bytes, unpack_answer, unpack_bytes};

@@ -9,6 +9,8 @@
 // State 0 is the fresh one, under which the root stands, and state k the one below level k. No element stands below level 64, so there is
 // none of it. What is known of elements that were matched is kept (`memo`), by where that of the parent is (`slots`), and asked before
 // another is matched: only the time depends on it.
+#![tactic(auto)]
+
 ghost use Rattle.std.specs.Prelude.{◌≡◌, ◌+◌, ◌-◌, ◌≤◌, ◌<◌, length, get_or, take, drop};
 ghost use Rattle.points.specs.Class.{class_table};
 ghost use Rattle.matcher.specs.Fit.{Serves, fit_at};

@@ -1,5 +1,7 @@
 // The path list: steps, tests and line ends at places, and the list judged line by line. What a list means is in specs/Path.antt, and what
 // is answered in specs/Answer.antt.
+#![tactic(auto)]
+
 ghost use Rattle.std.specs.Prelude.{◌≡◌};
 ghost use Rattle.paths.specs.Path.{is_value};
 ghost use Rattle.paths.specs.Reader.{two_colons};
@@ -13,7 +15,7 @@ use utf8::{Sequence, sequence_at};
 
 // Where a step stands, seen from the step before: one place below; any number of places below, from one on; the same place; that place or
 // any below.
-#[derive(Drop)]
+#[derive(Clone, Copy)]
 pub enum Kind {
     Child,
     Descendant,
@@ -62,7 +64,7 @@ pub enum LineEnd {
 }
 
 // What is said of a list: sound; over 8,192 bytes; the first line at fault is malformed, or too large.
-#[derive(Drop)]
+#[derive(Clone, Copy)]
 pub enum ListAnswer {
     Sound,
     TooLong,

@@ -6,6 +6,8 @@
 //     verdict, tests   what the list says of it by its name, and how many name tests are tried there, where they are counted
 //
 // What is made anew is what is known again, so only the time depends on what is kept. The definitions are in specs/Known.antt.
+#![tactic(auto)]
+
 ghost use Rattle.std.specs.Prelude.{◌≡◌, ◌+◌, ◌*◌, ◌%◌, ◌≤◌, ◌<◌};
 ghost use Rattle.recall.specs.Known.{is_of, tests_in, known_of, unknown, Recalls};
 
@@ -14,7 +16,7 @@ use matcher::Verdict;
 use matcher::fit::fit_by;
 use matcher::state::MatchState;
 
-#[derive(Drop)]
+#[derive(Clone, Copy)]
 pub struct Known {
     pub row: usize,
     pub parent: MatchState,

@@ -1,5 +1,7 @@
 // The reader for a tape: items are read and put in their places, and the tags among them are laid on the tape, until it is full, nothing is
 // left, or one is at fault. It knows no list and no client. What it hands back is in specs/Reeling.antt.
+#![tactic(auto)]
+
 ghost use Rattle.std.specs.Prelude.{◌≡◌, ◌≤◌, length};
 ghost use Rattle.points.specs.Class.{class_table};
 ghost use Rattle.document.specs.Levels.{Names};

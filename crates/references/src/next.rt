@@ -15,7 +15,7 @@ use points::allowed::is_char;
 use utf8::{Sequence, sequence_at};
 
 // Where characters stand: in text, between tags and the like; in a CDATA section; in a value in double quotes or in single ones.
-#[derive(Drop)]
+#[derive(Clone, Copy)]
 pub enum Where {
     Text,
     Section,

@@ -4,6 +4,8 @@
 //     decimal   a number in decimal
 //     line      a word and two numbers
 //     told      all that is printed for a list and a standard input
+#![tactic(auto)]
+
 ghost use Rattle.std.specs.Prelude.{◌≡◌, ◌+◌, ◌≤◌, length, take};
 ghost use Rattle.writer.specs.Wrote.{Wrote};
 ghost use Rattle.report.specs.Decimal.{decimal as decimal_of};

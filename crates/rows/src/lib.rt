@@ -8,6 +8,8 @@
 // A field's text is laid twice, first into one byte: that tells whether it holds a comma, a quote, CR or LF, and so is quoted. Each time
 // the element is read from behind its start tag to its end, with all that is inside. So a byte is read twice for each element around it
 // that has a record, 64 at most.
+#![tactic(auto)]
+
 mod field; // a byte of a field, and its quotes
 mod said; // what an item says
 mod gather; // the text directly in an element

@@ -29,7 +29,7 @@ use tests::any;
 
 // What a client keeps between two tapes, beside the names by level: what is written; what is open, where the next item begins and whether
 // it is the document's first; and how many name tests were tried.
-#[derive(Drop)]
+#[derive(Clone, Copy)]
 pub struct Seat {
     pub run: Run,
     pub opened: Open,

@@ -10,6 +10,8 @@
 //
 // A record stands at its start tag, so a pass lays it there, and its text is read ahead. A table may be far longer than its document: its
 // length is counted in 64 bits.
+#![tactic(auto)]
+
 ghost use Rattle.std.specs.Prelude.{◌≡◌, false, ◌+◌, ◌≤◌, ◌<◌, length, drop};
 ghost use Rattle.points.specs.Class.{class_table};
 ghost use Rattle.chars.specs.Check.{check_of};

@@ -1,4 +1,7 @@
-// Rows for a spreadsheet, for callers in Rust and C: three numbers, and the table in the buffer.
+// Rows for a spreadsheet, for callers in Rust and C: three numbers, and the table in the buffer. C is given the function of the crate
+// `spreadsheet_c`, which calls this one.
+#![tactic(auto)]
+
 ghost use Rattle.std.specs.Prelude.{◌≡◌, length};
 ghost use Rattle.sheet.specs.Answer.{answer_of, bytes_after};
 ghost use Rattle.spreadsheet.specs.Numbers.{rows_numbers};

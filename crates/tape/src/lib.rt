@@ -6,6 +6,8 @@
 //     0       begin    end    name    0         an end tag
 //     1       begin    end    name    head      a start tag
 //     2       begin    end    name    head      an empty tag
+#![tactic(auto)]
+
 ghost use Rattle.std.specs.Prelude.{◌≡◌, ◌+◌, ◌*◌, ◌<◌};
 ghost use Rattle.tape.specs.Tape.{tag_kind, shape, entry_at, begin_at, stored, put_at, tags_of};
 

@@ -1,5 +1,7 @@
 // The attribute tests of a compiled list: whether a path has one, and which of them a tag passes. A test is read where it stands in the
 // list; the attributes are those of a tag's head, behind `<` and the name.
+#![tactic(auto)]
+
 ghost use Rattle.std.specs.Prelude.{◌≡◌, ◌-◌, ◌^◌, ◌<◌, length, take, drop};
 ghost use Rattle.points.specs.Class.{class_table};
 ghost use Rattle.paths.specs.Judge.{list_paths};

@@ -8,6 +8,8 @@
 //     fourth    sits out
 //
 // A client keeps between two tapes what is written, the name tests tried, and the names of the open elements, in two arrays of its own.
+#![tactic(auto)]
+
 ghost use Rattle.std.specs.Prelude.{◌≡◌, ◌≤◌, length};
 ghost use Rattle.points.specs.Class.{class_table};
 ghost use Rattle.passes.specs.declared.Outcome.TheVariants.{Fine};

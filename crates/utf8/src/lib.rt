@@ -1,5 +1,7 @@
 // UTF-8: one well-formed sequence at a place of a slice, any slice and any place, by Unicode's table of nine rows. What it means is in
 // specs/Sequence.antt.
+#![tactic(auto)]
+
 ghost use Rattle.std.specs.Prelude.{◌≡◌, ◌+◌, ◌≤◌, ◌<◌, length, get_or};
 ghost use Rattle.xml.specs.Range.{inside, ◌–◌};
 ghost use Rattle.xml.specs.Utf8.{size_of};

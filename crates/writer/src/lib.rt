@@ -1,5 +1,7 @@
 // Text laid into a buffer as far as the buffer reaches: what is past its end is counted and not written. So the same pass measures a text,
 // into a buffer of one byte, and writes it, into one that is long enough.
+#![tactic(auto)]
+
 ghost use Rattle.std.specs.Prelude.{[], ◌∷◌, ◌+◌, ◌≤◌, ◌<◌, ◌≡◌, length};
 ghost use Rattle.xml.specs.Forest.{start_tag, end_tag};
 ghost use Rattle.writer.specs.Wrote.{Wrote};
