@@ -48,7 +48,7 @@ module _ (d n : List ℕ) (a e : ℕ) (l : a ≤ e) (h : e ≤ length d) where
     pub is_valued : not b ≡ false → {r x : Bool} → r ≡ x → r ≡ same (name_from d a (e - a)) n && x
     is_valued q v = rw (sym named ∙ not-false b q) v
 
-pub ruleset being = (is_longer, is_other_lem, is_valued, rules)
+pub ruleset being = (is_longer, is_other_lem, is_valued)
 
 -- ---- one attribute after the other
 

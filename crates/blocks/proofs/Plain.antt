@@ -5,7 +5,6 @@ use mathlib.Core.Bool.{Bool, true, false, cond, not, ◌&&◌, ◌||◌}
 use mathlib.Core.List.{List, [], ◌∷◌}
 use Prim.Native.Nat.{ℕ, ◌<◌}
 use native.Mathlib.Omega.{arith}
-use borrow.Author.Rules.{rules}
 use borrow.Author.Tests.{ltb-true, ltb-false, lt-ltb, le-leb, lt-leb, ne_eqb, not-false}
 use lib.Dec.{eqb, leb, ltb}
 use Rattle.xml.specs.Character.{run}
@@ -50,4 +49,4 @@ plain_run (b ∷ s) = go (is_other b) refl (plain_run s)
     go true e rec = refl
     go false e rec = let (l, c) = other_plain b e in rec ∙ sym (run_low is_char b s l ∙ rw c)
 
-pub ruleset plain = (other_test, rules)
+pub ruleset plain = (other_test)

@@ -7,7 +7,6 @@ use Prim.Native.Nat.{ℕ, zero, suc, ◌+◌, ◌≤◌, ◌<◌}
 use native.Mathlib.Nat.{add-zero, not-suc-le-zero}
 use native.Mathlib.Numerals.{add-one}
 use native.Mathlib.Omega.{arith}
-use borrow.Author.Rules.{rules}
 use borrow.Author.Tests.{eqb-true, eqb-false}
 use lib.Dec.{eqb}
 use lib.ListN.{length, get_or, drop}
@@ -100,4 +99,4 @@ module _ {p : ℕ → Bool} {d : List ℕ} {from i : ℕ} (v : Skips p d from i)
     pub seek_found : r < n → Stands d (i + r) (until p (drop from d))
     seek_found h = stands (skips r (omega arith) f.passed) (until_here p d (i + r) (omega arith) (f.found h))
 
-pub ruleset seeking = (seek_start, seek_here, seek_next, seek_end, seek_last, seek_on, seek_past, seek_block, seek_found, rules)
+pub ruleset seeking = (seek_start, seek_here, seek_next, seek_end, seek_last, seek_on, seek_past, seek_block, seek_found)

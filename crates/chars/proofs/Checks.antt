@@ -5,7 +5,6 @@ use mathlib.Core.Bool.{Bool, true, false, not}
 use mathlib.Core.List.{List, ◌∷◌}
 use Prim.Native.Nat.{ℕ, ◌+◌, ◌-◌, ◌≤◌, ◌<◌}
 use native.Mathlib.Omega.{arith}
-use borrow.Author.Rules.{rules}
 use borrow.Author.Tests.{not-true, not-false}
 use lib.ListN.{length, get_or, drop, length-drop}
 use Rattle.xml.specs.Character.{starts, run}
@@ -45,7 +44,7 @@ module _ {d : List ℕ} {from i : ℕ} (v : Passes d from i) where
     pub block_less : (e ≡ i → ⊥) → length d - e < length d - i
     block_less n = omega (arith, n, block_pass.ahead, block_pass.inside)
 
-pub ruleset passing = (pass_start, block_on, block_less, rules)
+pub ruleset passing = (pass_start, block_on, block_less)
 
 -- ---- `after_chars`
 
@@ -88,7 +87,7 @@ module _ {d : List ℕ} {at i : ℕ} (v : Passes d at i) (h : i < length d) wher
           let c : e - length d ≤ i - length d = w.bound in
           record { ahead = omega arith; inside = omega arith; same = w.same ∙ v.same }
 
-pub ruleset reading = (pass_start, char_nil, char_plain, char_bad, char_none, char_less, char_on, rules)
+pub ruleset reading = (pass_start, char_nil, char_plain, char_bad, char_none, char_less, char_on)
 
 -- ---- `check`
 
@@ -110,4 +109,4 @@ module _ {d : List ℕ} {i k e : ℕ} (v : Passes d 0 i) (w : Passes d i k) (u :
   pub check_less : e < length d → k + 64 ≤ e → length d - e < length d - i
   check_less h n = omega (arith, w.ahead)
 
-pub ruleset checking = (pass_start, check_on, check_all, check_bad, check_less, rules)
+pub ruleset checking = (pass_start, check_on, check_all, check_bad, check_less)

@@ -6,7 +6,6 @@ use mathlib.Core.List.{List}
 use Prim.Native.Nat.{ℕ, zero, suc, ◌+◌, ◌-◌, ◌≤◌, ◌<◌}
 use native.Mathlib.Nat.{add-zero}
 use native.Mathlib.Omega.{arith}
-use borrow.Author.Rules.{rules}
 use borrow.Author.Tests.{ltb-true, lt-ltb, not-false, not-true}
 use lib.Dec.{ltb}
 use lib.ListN.{length, get_or, drop, length-drop}
@@ -63,7 +62,7 @@ module _ (d : List ℕ) (at : ℕ) where
       pub point_goes : k ≡ true → e ≡ name_step d at
       point_goes z = point_wide d at q f ∙ goes (point_starts d at q is_name f ∙ sym g ∙ z)
 
-pub ruleset stepping = (low_stays, low_goes, bad_stays, point_stays, point_goes, rules)
+pub ruleset stepping = (low_stays, low_goes, bad_stays, point_stays, point_goes)
 
 -- ---- the run
 
@@ -101,7 +100,7 @@ pub names_over : {d : List ℕ} {at i : ℕ} → Running is_name d at i → leng
 unfolding name_end
 names_over v h = run_over v h
 
-pub ruleset naming = (run_start, names_end, names_less, names_on, names_over, rules)
+pub ruleset naming = (run_start, names_end, names_less, names_on, names_over)
 
 -- ---- the run, by words
 
@@ -175,7 +174,7 @@ module _ {d : List ℕ} {at i : ℕ} (v : Passing d at i) where
               let r = names_on d (i + n) q passed short g in
               record { inside = omega (arith, r.bound, v.running.begun); running = r }
 
-pub ruleset wording = (run_start, names_over, words_start, words_over, rules)
+pub ruleset wording = (run_start, names_over, words_start, words_over)
 
 -- ---- the first character, and the answer
 
@@ -202,4 +201,4 @@ module _ (d : List ℕ) (at : ℕ) where
     unfolding name_at name_of
     name_fault n = sym (rw (sym q ∙ n))
 
-pub ruleset answering = (start_over, start_low, start_point, start_bad, name_ends, name_fault, rules)
+pub ruleset answering = (start_over, start_low, start_point, start_bad, name_ends, name_fault)

@@ -1,14 +1,13 @@
 -- White space: its four bytes are the four ranges of [3]; it is ASCII alone, so a byte tells it; and the loop over a run of it, with the
 -- rules by which both functions are proved.
 use mathlib.Core.Path.{◌≡◌, sym, ◌∙◌}
-use mathlib.Core.Bool.{Bool, true, false, not, ◌||◌, and-false, or_assoc, or-false}
+use mathlib.Core.Bool.{Bool, true, false, ◌||◌, and-false, or_assoc, or-false}
 use mathlib.Core.List.{List}
 use Prim.Native.Nat.{ℕ, ◌+◌, ◌≤◌, ◌<◌}
 use native.Mathlib.Omega.{arith}
 use lib.Dec.{eqb, leb}
 use lib.ListN.{length, get_or, drop}
-use borrow.Author.Rules.{rules}
-use borrow.Author.Tests.{lt-leb, not-true, not-false}
+use borrow.Author.Tests.{lt-leb}
 use Rattle.xml.specs.Character.{starts}
 use Rattle.xml.specs.Productions.{is_space}
 use Rattle.xml.proofs.Bools.{only_equal}
@@ -43,15 +42,15 @@ module _ {d : List ℕ} {at i : ℕ} (v : Running is_space d at i) (h : i < leng
   space_starts : {y : Bool} → x ≡ y → starts is_space (drop i d) ≡ y
   space_starts e = starts_byte space_ascii d i h ∙ sym q ∙ e
 
-  pub spaces_end : not x ≡ true → i ≡ space_end d at
+  pub spaces_end : x ≡ false → i ≡ space_end d at
   unfolding space_end
-  spaces_end n = run_ends v (space_starts (not-true x n)) (omega arith)
+  spaces_end n = run_ends v (space_starts n) (omega arith)
 
-  pub spaces_on : not x ≡ false → Running is_space d at (i + 1)
-  spaces_on y = run_on v (space_starts (not-false x y)) (byte_wide space_ascii d i h (sym q ∙ not-false x y)) h
+  pub spaces_on : x ≡ true → Running is_space d at (i + 1)
+  spaces_on y = run_on v (space_starts y) (byte_wide space_ascii d i h (sym q ∙ y)) h
 
 pub spaces_over : {d : List ℕ} {at i : ℕ} → Running is_space d at i → length d ≤ i → i ≡ space_end d at
 unfolding space_end
 spaces_over v h = run_over v h
 
-pub ruleset spacing = (space_four, run_start, spaces_end, spaces_on, spaces_over, rules)
+pub ruleset spacing = (space_four, run_start, spaces_end, spaces_on, spaces_over)

@@ -5,7 +5,6 @@ use mathlib.Core.Bool.{true, false}
 use mathlib.Core.List.{List}
 use Prim.Native.Nat.{ℕ, ◌+◌, ◌≤◌, ◌<◌}
 use native.Mathlib.Omega.{arith}
-use borrow.Author.Rules.{rules}
 use borrow.Author.Tests.{eq-eqb, ne_eqb}
 use lib.ListN.{length, get_or, drop}
 use Rattle.xml.specs.Character.{begins}
@@ -38,4 +37,4 @@ module _ {d : List ℕ} {at : ℕ} {w : List ℕ} {i k : ℕ} (v : Standing d at
             same = rw (drop_step w k h, drop_step d i l, eq-eqb (get_or d i 0) (get_or w k 0) e) at v.same;
           }
 
-pub ruleset standing = (stand_start, stand_whole, stand_short, stand_other, stand_on, rules)
+pub ruleset standing = (stand_start, stand_whole, stand_short, stand_other, stand_on)

@@ -8,7 +8,6 @@ use Prim.Native.Nat.{ℕ, zero, suc, ◌+◌, ◌-◌, ◌*◌, ◌/◌, ◌^◌
 use native.Mathlib.Nat.{pow-zero, two-pow-succ, add-zero}
 use native.Mathlib.Numerals.{add-one}
 use native.Mathlib.Omega.{arith}
-use borrow.Author.Rules.{rules}
 use lib.ListN.{length, take, drop, get_or, set, length-append, length-map, length-drop, get_or-eq_default}
 use lib.Seq.{drop_at, drop-drop, take_at, set-get_or}
 use lib.Dec.{eqb}
@@ -31,7 +30,7 @@ use Rattle.paths.proofs.Steps.{step_undoes, step_long}
 use Rattle.paths.proofs.Lines.{line_print, end_no_step, after_step}
 use Rattle.paths.proofs.Meaning.{says, paths_print}
 use Rattle.compiled.specs.Kinds as kinds
-use Rattle.compiled.specs.Bits.{bit, bits_of, step_bits, column, last_bit}
+use Rattle.compiled.specs.Bits.{bits_of, step_bits, column, last_bit}
 use Rattle.lookup.specs.Names.{names_of, list_names, firsts}
 use Rattle.compiled.specs.Compiled.{joined}
 use Rattle.compiled.specs.Built.{number_of, number_row, number_rows, test_of, test_in, Built, AtStep, StepDone}
@@ -444,4 +443,4 @@ module _ {d at len head next rows : List ℕ} {names p place bit stays goes far 
               ∙ bits_snoc (map h v.read) (h s)
               ∙ cc (e, v.bit_is, g, next_step.kind_is, length-map v.read h))
 
-pub ruleset lining = (line_start, line_bit, line_stays, line_goes, line_far, line_end, line_less, line_room, line_step, line_more, rules)
+pub ruleset lining = (line_start, line_bit, line_stays, line_goes, line_far, line_end, line_less, line_room, line_step, line_more)

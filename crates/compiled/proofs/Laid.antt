@@ -6,7 +6,6 @@ use Prim.Native.Nat.{ℕ, suc, ◌+◌, ◌≤◌, ◌<◌}
 use native.Mathlib.Nat.{add-zero}
 use native.Mathlib.Numerals.{add-one}
 use native.Mathlib.Omega.{arith}
-use borrow.Author.Rules.{rules}
 use lib.ListN.{length, take, drop, get_or, set, length-append, length-drop, length-set, take-append-drop}
 use lib.Seq.{length-take-le, take_at, drop_at, drop-drop, drop-cons, sets, sets-eq}
 use Rattle.compiled.specs.Compiled.{joined}
@@ -37,7 +36,7 @@ module _ {t₀ : List ℕ} {from : ℕ} {part t : List ℕ} {i : ℕ} (v : Layin
   pub lay_end : length part ≤ i → t ≡ sets t₀ from part
   lay_end l = rw (drop_end part i l) at v.rest
 
-pub ruleset laying = (lay_start, lay_more, lay_end, rules)
+pub ruleset laying = (lay_start, lay_more, lay_end)
 
 -- ---- the tables laid so far
 

@@ -5,7 +5,6 @@ use mathlib.Core.Bool.{Bool, false, cond}
 use mathlib.Core.List.{List, [], ◌∷◌, ◌++◌, append_assoc, append-nil, append_cancel_left}
 use Prim.Native.Nat.{ℕ, ◌+◌, ◌-◌, ◌≤◌, ◌<◌}
 use native.Mathlib.Omega.{arith}
-use borrow.Author.Rules.{rules}
 use lib.ListN.{length, take, set, replicate, length-append, length-replicate, replicate-append-replicate}
 use lib.Seq.{take_at, drop_at, sets}
 use Rattle.paths.specs.Path.{Path, print_step, print_all, print_line, print_list}
@@ -50,7 +49,7 @@ module _ (d : List ℕ) (at : ℕ) {e : LineEnd} (q : e ≡ line_end_at d at) wh
   pub tail_fault : e ≡ Fault → record { test = 0; marked = false; next = at } ≡ tail_of (line_end_at d at) at
   tail_fault f = sym (ap (λ (x : LineEnd). tail_of x at) (sym q ∙ f))
 
-pub ruleset tails = (tail_ends, tail_fault, rules)
+pub ruleset tails = (tail_ends, tail_fault)
 
 -- ---- the tables of no path
 
@@ -372,4 +371,4 @@ module _ {d at len head next t stays goes far lasts marks tests : List ℕ} {nam
           → t₂ ≡ tables_of (list_paths d)
       lines_end e f = laid_tables sizes (with_rows t rows') lines_long (rows_stand t rows' v.long s.long) e f ∙ all_are
 
-pub ruleset over_lines = (lines_start, lines_line, lines_few, lines_less, lines_place, lines_more, lines_spreadable, rules)
+pub ruleset over_lines = (lines_start, lines_line, lines_few, lines_less, lines_place, lines_more, lines_spreadable)

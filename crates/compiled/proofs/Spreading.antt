@@ -5,7 +5,6 @@ use mathlib.Core.Bool.{Bool, true, false, ◌&&◌, ◌||◌, true≢false}
 use mathlib.Core.List.{List, [], ◌∷◌, map}
 use Prim.Native.Nat.{ℕ, zero, suc, ◌+◌, ◌-◌, ◌*◌, ◌/◌, ◌%◌, ◌≤◌, ◌<◌}
 use native.Mathlib.Omega.{arith}
-use borrow.Author.Rules.{rules}
 use borrow.Author.Tests.{eqb-true, eqb-false, eq-eqb, ne_eqb, ltb-true, ltb-false}
 use lib.ListN.{length, get_or, drop, set, length-set}
 use lib.Seq.{get_or-set_same, get_or-set_other, get_or-take, get_or-drop, ext_get_or}
@@ -85,7 +84,7 @@ module _ {l l' : List ℕ} {i : ℕ} (v : Spreading l l' i) where
   pub spread_end : 16416 ≤ i → Spread l l'
   spread_end h = let z = v.i_in in record { long = v.long; first = v.first; other = λ j k m. v.past j k (omega arith) }
 
-pub ruleset spreading = (spread_start, spread_fits, spread_more, spread_end, rules)
+pub ruleset spreading = (spread_start, spread_fits, spread_more, spread_end)
 
 -- ---- the rows of the compiled list, by number
 

@@ -6,7 +6,6 @@ use mathlib.Core.List.{List, [], ◌∷◌, ◌++◌, append-nil}
 use mathlib.Core.Option.{Option, none, some, some-injective}
 use Prim.Native.Nat.{ℕ, zero, suc, ◌+◌, ◌≤◌, ◌<◌}
 use native.Mathlib.Omega.{arith}
-use borrow.Author.Rules.{rules}
 use lib.ListN.{length, take, drop, get_or, length-append}
 use lib.Seq.{drop_at}
 use Rattle.paths.specs.Path.{AttributeTest, Step, print_step, print_all, print_list}
@@ -32,7 +31,7 @@ tested_place {name} {place} h = go name h
     go zero h = absurd (h refl)
     go (suc n) h = refl
 
-pub ruleset testing = (tested_place, rules)
+pub ruleset testing = (tested_place)
 
 -- ---- a line's end, read
 

@@ -30,6 +30,7 @@ wider-true (named m) (named n) e = same_equal m n e
 
 true_wider : (s t : Test) → Wider s t → wider s t ≡ true
 true_wider any t h = refl
+true_wider (named m) any h = elim h [ ]
 true_wider (named m) (named n) h = rw h (same_refl n)
 
 pub child_is : (k : Kind) → is_child k ≡ true → k ≡ Child

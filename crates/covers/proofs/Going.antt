@@ -5,11 +5,10 @@ use mathlib.Core.Bool.{Bool, true, false, not, false≢true, true≢false, ◌&&
 use mathlib.Core.List.{List, [], map}
 use Prim.Native.Nat.{ℕ, ◌-◌, ◌≤◌, ◌<◌}
 use native.Mathlib.Omega.{arith}
-use borrow.Author.Rules.{rules}
 use lib.ListN.{length, take, drop}
 use Rattle.utf8.proofs.Place.{drop_end}
 use Rattle.paths.specs.Path.{Path}
-use Rattle.paths.specs.Reader.{Run, steps}
+use Rattle.paths.specs.Reader.{Run}
 use Rattle.paths.specs.Judge.{lines, list_answer, list_paths}
 use Rattle.paths.specs.declared.ListAnswer.{ListAnswer}
 use Rattle.paths.specs.declared.ListAnswer.TheVariants as lists
@@ -120,7 +119,7 @@ module _ {narrow wide : List ℕ} {at : ℕ} (v : Going narrow wide at) where
           go true h = refl
           go false h = absurd (true≢false h)
 
-pub ruleset going = (go_start, go_end, go_inside, go_less, go_stop, go_on, rules)
+pub ruleset going = (go_start, go_end, go_inside, go_less, go_stop, go_on)
 
 -- ---- what is said
 
@@ -151,4 +150,4 @@ said_covered e h = ap said_of (sym h ∙ e)
 pub said_uncovered : {b c : Bool} → b ≡ c → b ≡ false → answers.Uncovered ≡ said_of c
 said_uncovered e h = ap said_of (sym h ∙ e)
 
-pub ruleset saying = (wide_serves, said_accepted, said_long, said_malformed, said_large, said_sound, said_covered, said_uncovered, rules)
+pub ruleset saying = (wide_serves, said_accepted, said_long, said_malformed, said_large, said_sound, said_covered, said_uncovered)

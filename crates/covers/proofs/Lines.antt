@@ -7,7 +7,6 @@ use mathlib.Core.Option.{Option, none, some, none-ne-some, some-injective}
 use Prim.Native.Nat.{ℕ, suc, ◌+◌, ◌-◌, ◌*◌, ◌^◌, ◌≤◌, ◌<◌}
 use native.Mathlib.Numerals.{add-one}
 use native.Mathlib.Omega.{arith}
-use borrow.Author.Rules.{rules}
 use borrow.Author.Tests.{ne_eqb}
 use lib.ListN.{length, take, drop, set, length-append, length-drop, length-set, length-replicate, replicate}
 use lib.Seq.{take-append_seam, take-suc-set}
@@ -75,7 +74,7 @@ module _ {d : List ℕ} {at i : ℕ} {p : Bool} (w : Walking d at i p) {r : Step
         inside = w.inside;
       }
 
-pub ruleset walking = (walk_start, walk_less, walk_on, walk_end, rules)
+pub ruleset walking = (walk_start, walk_less, walk_on, walk_end)
 
 -- ---- the end of a line
 
@@ -85,7 +84,7 @@ test_none at len value size e = rw e
 pub test_some : (at len value size : ℕ) → (len ≡ 0 → ⊥) → value + size + 2 ≡ test_end at len value size
 test_some at len value size n = rw (ne_eqb len 0 n)
 
-pub ruleset testing = (test_none, test_some, rules)
+pub ruleset testing = (test_none, test_some)
 
 module _ (d : List ℕ) (i : ℕ) {r : LineEnd} (q : r ≡ line_end_at d i) {name len value size : ℕ} {m : Bool} {next : ℕ}
     (f : r ≡ LineEnds name len value size m next) where
@@ -146,7 +145,7 @@ pub line_unended : {d : List ℕ} {i : ℕ} {r : LineEnd} → r ≡ line_end_at 
 line_unended {d} {i} q f w =
     record { from_is = refl; steps_are = w; tail = λ e h. absurd (none-ne-some _ (sym (end_none d i q f) ∙ h)) }
 
-pub ruleset ending = (end_room, line_ended, line_unended, rules)
+pub ruleset ending = (end_room, line_ended, line_unended)
 
 -- ---- the line of a path
 
@@ -319,4 +318,4 @@ module _ {d : List ℕ} {all : List Line} {count at : ℕ} (v : Lining d all cou
         each = rw e v.each;
       }
 
-pub ruleset lining = (lines_start, lines_bytes, lines_place, lines_few, lines_scaled, lines_next, lines_less, lines_more, lines_end, rules)
+pub ruleset lining = (lines_start, lines_bytes, lines_place, lines_few, lines_scaled, lines_next, lines_less, lines_more, lines_end)

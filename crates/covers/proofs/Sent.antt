@@ -7,7 +7,6 @@ use mathlib.Core.List.{List, [], ◌∷◌, ◌++◌, append_assoc, map}
 use mathlib.Core.Option.{Option, none, some}
 use Prim.Native.Nat.{ℕ, zero, suc, ◌+◌, ◌-◌, ◌*◌, ◌^◌, ◌≤◌, ◌<◌}
 use native.Mathlib.Omega.{arith}
-use borrow.Author.Rules.{rules}
 use lib.ListN.{length, take, drop, get_or, set, replicate, length-append}
 use lib.Bits.{bit_and}
 use Rattle.xml.specs.Productions.{same}
@@ -24,7 +23,7 @@ use Rattle.paths.proofs.Print.{read_inside}
 use Rattle.paths.proofs.Steps.{step_undoes, step_long, steps_none}
 use Rattle.paths.proofs.Meaning.{paths_print}
 use Rattle.paths.proofs.Here.{StepHere, step_none, step_here}
-use Rattle.compiled.specs.Kinds.{stays, goes, far}
+use Rattle.compiled.specs.Kinds.{goes, far}
 use Rattle.compiled.specs.Bits.{bit, bits_of, step_bits, column, passes, fit_of, far_of}
 use Rattle.compiled.specs.Built.{listed}
 use Rattle.compiled.proofs.Alls.{all_map}
@@ -209,7 +208,7 @@ mask_end f v l =
     ap (λ (l : List ℕ). record { passes = l; stays = f.stays; goes = f.goes; far = f.far; lasts = f.lasts; marks = f.marks })
     (fill_end v.filled l)
 
-pub ruleset masking = (mask_start, mask_more, mask_end, rules)
+pub ruleset masking = (mask_start, mask_more, mask_end)
 
 -- ---- a narrow step
 
@@ -231,7 +230,7 @@ pub fit_or_self : (ws : List Path) (n : List ℕ) {k : Kind} {f r : Fit} → k �
 unfolding fit_by
 fit_or_self ws n e q h = rw e (h ∙ ap far_only q)
 
-pub ruleset fitting = (fit_child, fit_descendant, fit_self, fit_or_self, rules)
+pub ruleset fitting = (fit_child, fit_descendant, fit_self, fit_or_self)
 
 -- ---- a narrow line, step by step
 
@@ -314,4 +313,4 @@ module _ {wide narrow : List ℕ} {at i : ℕ} {state : MatchState} {bits : ℕ}
       let n = steps_none (drop i narrow) (step_none narrow i q f) in
       ap (λ (y : Run Step). run_bits (list_paths wide) state bits y.all) (sym n) ∙ v.run
 
-pub ruleset sending = (send_start, send_less, send_name, send_sum, send_on, send_end, rules)
+pub ruleset sending = (send_start, send_less, send_name, send_sum, send_on, send_end)

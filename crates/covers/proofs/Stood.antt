@@ -7,7 +7,6 @@ use mathlib.Core.Option.{Option, none, some, some-injective}
 use Prim.Native.Nat.{ℕ, zero, suc, ◌+◌, ◌-◌, ◌/◌, ◌≤◌, ◌<◌}
 use native.Mathlib.Numerals.{add-one}
 use native.Mathlib.Omega.{arith}
-use borrow.Author.Rules.{rules}
 use borrow.Author.Tests.{eq-eqb, ne_eqb}
 use lib.Dec.{eqb}
 use lib.ListN.{length, take, drop, get_or, length-drop, drop_of_length-le}
@@ -45,7 +44,7 @@ module _ (a b : List ℕ) where
   same_text e q =
       q ∙ begins-same b a ∙ ap (λ (w : List ℕ). same w b) (take_all (length b) a (let z = e in omega arith))
 
-pub ruleset texts = (same_long, same_text, rules)
+pub ruleset texts = (same_long, same_text)
 
 -- ---- the ways through
 
@@ -125,7 +124,7 @@ module _ (d : List ℕ) (a : Line) (e : List ℕ) (b : Line) (sent : Bool) where
 pub line_ordered : {d : List ℕ} {r : Line} → Inside d r → r.from ≤ r.end
 line_ordered v = omega (arith, v.begun, v.tested)
 
-pub ruleset ways = (stands_unmarked, stands_same, stands_unsent, stands_untested, stands_tested, line_ordered, rules)
+pub ruleset ways = (stands_unmarked, stands_same, stands_unsent, stands_untested, stands_tested, line_ordered)
 
 -- ---- line by line
 
@@ -182,7 +181,7 @@ module _ {e : List ℕ} {all : List Line} {count : ℕ} (w : Lined e all count) 
     seek_end l =
         sym (v.rest ∙ ap (λ (bs : List Line). some_by d a e bs left) (drop_of_length-le (take count all) {i = p} (omega (arith, taken))))
 
-pub ruleset seeking = (seek_start, seek_inside, seek_few, seek_found, seek_more, seek_end, rules)
+pub ruleset seeking = (seek_start, seek_inside, seek_few, seek_found, seek_more, seek_end)
 
 -- ---- the meaning
 

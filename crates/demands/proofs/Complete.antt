@@ -1,7 +1,7 @@
 -- Completeness: what the grammar derives, the scan passes, and the tokens are those of the derivation's forest. In order: characters after
 -- tags; what stops a text before content and outside the root; content, what stands after the root, the root and what stands before it;
 -- the document, whose forest is the one that its tokens grow to.
-use mathlib.Core.Path.{refl}
+use mathlib.Core.Path.{◌≡◌, refl, ap}
 use mathlib.Core.Bool.{Bool, true, false}
 use mathlib.Core.List.{List, [], ◌∷◌}
 use mathlib.Core.Logic.{inl, inr}
@@ -86,31 +86,31 @@ abbrev within : List Name → Opened
 within ns = record { names = ns; rooted = true }
 
 module _ (d : List ℕ) where
-  content_goes : {n : Name} {ns : List Name} {b : Bool} {s t : List ℕ} {f : Forest} → Content Small (suc (length ns)) b s t f → Stops t
-      → (at : ℕ) → Stands d at s → Chars s → (ts : List Token)
+  content_goes : {n : Name} {ns : List Name} {l : ℕ} {b : Bool} {s t : List ℕ} {f : Forest} → Content Small (suc l) b s t f → l ≡ length ns
+      → Stops t → (at : ℕ) → Stands d at s → Chars s → (ts : List Token)
       → ((e : ℕ) → Stands d e t → Chars t → Goes d e (within (n ∷ ns)) ts) → Goes d at (within (n ∷ ns)) (tokens f ts)
-  content_goes doc.end z at p c ts next = next at p c
-  content_goes {n} {ns} (doc.data_next {s = s} {m = m} w i r) z at p c ts next =
+  content_goes doc.end o z at p c ts next = next at p c
+  content_goes {n} {ns} (doc.data_next {s = s} {m = m} w i r) o z at p c ts next =
       data_goes d p c (within (n ∷ ns)) w i (content_stops r z) refl
-      (λ e q. content_goes r z e q (chars_left CharData (ascii CharData refl) s m c i.reads) ts next)
-  content_goes {n} {ns} (doc.reference_next {s = s} {m = m} i r) z at p c ts next =
+      (λ e q. content_goes r o z e q (chars_left CharData (ascii CharData refl) s m c i.reads) ts next)
+  content_goes {n} {ns} (doc.reference_next {s = s} {m = m} i r) o z at p c ts next =
       reference_goes d p c (within (n ∷ ns)) i refl
-      (λ e q. content_goes r z e q (chars_left Reference (ascii Reference refl) s m c i.reads) ts next)
-  content_goes {n} {ns} (doc.section_next {s = s} {m = m} i r) z at p c ts next =
+      (λ e q. content_goes r o z e q (chars_left Reference (ascii Reference refl) s m c i.reads) ts next)
+  content_goes {n} {ns} (doc.section_next {s = s} {m = m} i r) o z at p c ts next =
       section_goes d p c (within (n ∷ ns)) i refl
-      (λ e q. content_goes r z e q (chars_left CDSect (ascii CDSect refl) s m c i.reads) ts next)
-  content_goes {n} {ns} (doc.instruction_next {s = s} {m = m} i r) z at p c ts next =
+      (λ e q. content_goes r o z e q (chars_left CDSect (ascii CDSect refl) s m c i.reads) ts next)
+  content_goes {n} {ns} (doc.instruction_next {s = s} {m = m} i r) o z at p c ts next =
       instruction_goes d p c (within (n ∷ ns)) i
-      (λ e q. content_goes r z e q (chars_left PI (ascii PI refl) s m c i.reads) ts next)
-  content_goes {n} {ns} (doc.comment_next {s = s} {m = m} i r) z at p c ts next =
+      (λ e q. content_goes r o z e q (chars_left PI (ascii PI refl) s m c i.reads) ts next)
+  content_goes {n} {ns} (doc.comment_next {s = s} {m = m} i r) o z at p c ts next =
       comment_goes d p c (within (n ∷ ns)) i
-      (λ e q. content_goes r z e q (chars_left Comment (ascii Comment refl) s m c i.reads) ts next)
-  content_goes {n} {ns} (doc.empty_next x k r) z at p c ts next =
-      start_goes d p c (within (n ∷ ns)) true x k refl (λ e q. content_goes r z e q (opens_chars true x c) ts next)
-  content_goes {n} {ns} (doc.element_next {raw = raw} {f = f} x k r y r') z at p c ts next =
-      start_goes d p c (within (n ∷ ns)) false x k refl (λ e q.
-      content_goes r (closes_stops y) e q (opens_chars false x c) (finish raw ∷ tokens f ts) (λ e' q' c'.
-      finish_goes d q' c' (n ∷ ns) true y k.1 (λ e'' q''. content_goes r' z e'' q'' (closes_chars y c') ts next)))
+      (λ e q. content_goes r o z e q (chars_left Comment (ascii Comment refl) s m c i.reads) ts next)
+  content_goes {n} {ns} (doc.empty_next x k r) o z at p c ts next =
+      start_goes d p c (within (n ∷ ns)) true x (rw o at k) refl (λ e q. content_goes r o z e q (opens_chars true x c) ts next)
+  content_goes {n} {ns} (doc.element_next {raw = raw} {f = f} x k r y r') o z at p c ts next =
+      start_goes d p c (within (n ∷ ns)) false x (rw o at k) refl (λ e q.
+      content_goes r (ap suc o) (closes_stops y) e q (opens_chars false x c) (finish raw ∷ tokens f ts) (λ e' q' c'.
+      finish_goes d q' c' (n ∷ ns) true y (rw o at k).1 (λ e'' q''. content_goes r' o z e'' q'' (closes_chars y c') ts next)))
 
   -- ---- after the root
 
@@ -138,5 +138,5 @@ module _ (d : List ℕ) where
       start_goes d p c nothing true x k refl (λ e q. after_goes a e q (opens_chars true x c))
   rooted_goes (doc.root {raw = raw} {f = f} x k r y a) at p c =
       start_goes d p c nothing false x k refl (λ e q.
-      content_goes r (closes_stops y) e q (opens_chars false x c) (finish raw ∷ tokens f []) (λ e' q' c'.
+      content_goes r refl (closes_stops y) e q (opens_chars false x c) (finish raw ∷ tokens f []) (λ e' q' c'.
       finish_goes d q' c' [] true y k.1 (λ e'' q''. after_goes a e'' q'' (closes_chars y c'))))

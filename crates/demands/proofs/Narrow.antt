@@ -23,10 +23,12 @@ use Rattle.demands.proofs.Selected.{marked_some}
 
 module _ (P : Path → Type 0) (covers : (p q : Path) → StandsFor p q → P p → P q) where
   covered : (p : Path) → P p → (ws : List Path) → Some (λ q. StandsFor p q) ws → Some P ws
+  covered p h [] x' = elim x' [ ]
   covered p h (q ∷ ws) (this c) = this (covers p q c h)
   covered p h (q ∷ ws) (later s) = later (covered p h ws s)
 
   wider : (ns ws : List Path) → Covered ns ws → Some P ns → Some P ws
+  wider [] ws _ x3 = elim x3 [ ]
   wider (p ∷ ns) ws (more s w) (this h) = covered p h ws s
   wider (p ∷ ns) ws (more s w) (later h) = wider ns ws w h
 
@@ -52,6 +54,7 @@ module _ (ns ws : List Path) (names : List Name) (xs ys : List Attribute) (some_
 -- ---- without attributes
 
 passes_fewer : (t : Option AttributeTest) (xs : List Attribute) → PassesTest t [] → PassesTest t xs
+passes_fewer (mathlib.Core.Option.some _) xs h = elim h [ ]
 passes_fewer none xs h = tt
 
 picks_fewer : (names : List Name) (xs : List Attribute) (p : Path) → Picks p names [] → Picks p names xs
@@ -90,7 +93,7 @@ module _ (ns ws : List Path) (all : Covered ns ws) where
 stands_covered : (p q : Path) → StandsAs p q → StandsFor p q
 stands_covered p q s = record { covered = covers_same q p s.steps_same s.test_same; marked_too = s.marked_too }
 
-pub within_covered : {ns ws : List Path} → Within ns ws → Covered ns ws
+pub within_covered : {ws ns : List Path} → Within ns ws → Covered ns ws
 within_covered nil = nil
 within_covered (more {x = p} s w) = more (some_map (stands_covered p) s) (within_covered w)
 

@@ -34,6 +34,12 @@ use Rattle.demands.proofs.Narrow.{within_most}
 -- ---- two lists, each within the other
 
 at_most_both : (x y : Verdict) → AtMost x y → AtMost y x → x ≡ y
+at_most_both Unselected Selected l m = elim m [ ]
+at_most_both Unselected Marked l m = elim m [ ]
+at_most_both Selected Unselected l m = elim l [ ]
+at_most_both Selected Marked l m = elim m [ ]
+at_most_both Marked Unselected l m = elim l [ ]
+at_most_both Marked Selected l m = elim l [ ]
 at_most_both Unselected Unselected l m = refl
 at_most_both Selected Selected l m = refl
 at_most_both Marked Marked l m = refl

@@ -35,7 +35,7 @@ use Rattle.demands.specs.Elements.{Element, elements, how_many}
 
 -- ---- "A path selects an element exactly when ..": the verdict is that of a choice of places, and of the test where there is one
 
-pub marked_some : {ps : List Path} {names : List Name} {xs : List Attribute} → ByMarked ps names xs → BySome ps names xs
+pub marked_some : {names : List Name} {xs : List Attribute} {ps : List Path} → ByMarked ps names xs → BySome ps names xs
 marked_some (this h) = this h.1
 marked_some (later h) = later (marked_some h)
 

@@ -75,6 +75,7 @@ module _ (ps : List Path) where
 
   selected_any : (up : List Name) (f : Forest) → SomeSelected ps (root_first up) f → any (verdicts ps) up f ≡ true
   unfolding verdicts
+  selected_any up nil s = elim s [ ]
   selected_any up (other raw rest) s = selected_any up rest s
   selected_any up (elem t kids close rest) (this h) =
       or_left (is_selected (verdict_of ps (root_first (t.name ∷ up)) (attributes_of t))) _

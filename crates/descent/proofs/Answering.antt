@@ -5,7 +5,6 @@ use mathlib.Core.Bool.{Bool, true, false, cond}
 use mathlib.Core.List.{List, []}
 use Prim.Native.Nat.{ℕ, ◌≤◌, ◌<◌}
 use native.Mathlib.Omega.{arith}
-use borrow.Author.Rules.{rules}
 use lib.ListN.{length, drop}
 use Rattle.paths.specs.Judge.{list_answer}
 use Rattle.paths.specs.declared.ListAnswer.{ListAnswer}
@@ -46,7 +45,7 @@ module _ {w : Why} (o : ℕ) where
   pub fault_large : w ≡ why.TooLarge → TooLarge o ≡ without (fault_of w o)
   fault_large q = sym (ap (λ (x : Why). without (fault_of x o)) q)
 
-pub ruleset faults = (fault_doctype, fault_malformed, fault_large, rules)
+pub ruleset faults = (fault_doctype, fault_malformed, fault_large)
 
 -- ---- the answer and the buffer, together: by a sound list and by any
 

@@ -1,15 +1,13 @@
 -- States on the way. In order: the first; an item at fault; one item on, whatever it is; an item that is no tag; a tag; an end tag.
+use Rattle.document.proofs.Placing.{Unstarted, Unfinished}
 use mathlib.Core.Path.{◌≡◌, refl, sym, ap, ◌∙◌}
 use mathlib.Core.Bool.{Bool, true, false}
-use mathlib.Core.List.{List, [], ◌∷◌}
+use mathlib.Core.List.{List, []}
 use Prim.Native.Nat.{ℕ, zero, suc, ◌+◌, ◌-◌, ◌≤◌, ◌<◌}
 use native.Mathlib.Numerals.{add-one}
 use native.Mathlib.Omega.{arith}
-use types.Run.{OneOf}
-use denote.Enum.Declared.{tag_of as kind_of}
 use lib.ListN.{length}
 use Rattle.paths.specs.Judge.{list_paths}
-use Rattle.tags.specs.contracts.Item as item
 use Rattle.tags.specs.declared.Item.{Item}
 use Rattle.tags.specs.declared.Item.TheVariants.{Declaration, Instruction, Comment, Section, Reference, Text, Start, Finish}
 use Rattle.tags.specs.declared.Item.TheVariants.{Doctype, Malformed, TooLarge, Nothing}
@@ -20,7 +18,6 @@ use Rattle.document.specs.declared.Placement.{Placement}
 use Rattle.document.specs.declared.Placement.TheVariants.{Fine, Fault as Faulty, Over}
 use Rattle.document.specs.declared.Why.{Why}
 use Rattle.document.specs.declared.judge.Judged.TheVariants.{Sound, AtFault}
-use Rattle.document.proofs.Placing.{not_among}
 use Rattle.trees.specs.Cut.{Judge}
 use Rattle.trees.specs.Grown.{Token, part, item_tokens, tokens_from, tokens_of}
 use Rattle.trees.specs.Engine.{Engine, engine, begun, on_finish, on_aside, run as runs}
@@ -48,13 +45,6 @@ going_start list d o er ea starts lens =
     })
 
 -- ---- one item
-
--- all but end tags, and all but start tags and empty tags
-abbrev pub unfinished : List ℕ
-unfinished = 0 ∷ 1 ∷ 2 ∷ 3 ∷ 4 ∷ 5 ∷ 6 ∷ 8 ∷ 9 ∷ 10 ∷ 11 ∷ []
-
-abbrev pub unstarted : List ℕ
-unstarted = 0 ∷ 1 ∷ 2 ∷ 3 ∷ 4 ∷ 5 ∷ 7 ∷ 8 ∷ 9 ∷ 10 ∷ 11 ∷ []
 
 scan_turn : (k : ℕ) (d : List ℕ) (at : ℕ) (first : Bool) (s : Opened) {i : Item} → i ≡ item_at first d at
     → scan_from (suc k) d at first s ≡ onward (placement d at i s) at (scan_from k d (end_of at i) false (after_item d at i s))
@@ -131,28 +121,28 @@ module _ {list d starts lens o₀ : List ℕ} {level : ℕ} {rooted kept : Bool}
   -- ---- an item that is no tag
 
   pub going_aside : placement d at i s ≡ Fine → at < end_of at i → end_of at i ≤ length d
-      → OneOf unfinished (kind_of item.the_type i) → OneOf unstarted (kind_of item.the_type i)
+      → Unfinished i → Unstarted i
       → {r' : Run} {o' : List ℕ} → Moves d starts lens level kept r o (on_aside (part d at (end_of at i))) level kept r' o'
       → Going list d starts lens o₀ level rooted kept r' (end_of at i) false o'
   going_aside h l g k k' m =
       going_on h l g (on_aside (part d at (end_of at i)) v.x) (sym (stays i h k k')) (makes i h k k') (m.moves o₀ v.x v.stands)
     where
-      stays : (i : Item) → placement d at i s ≡ Fine → OneOf unfinished (kind_of item.the_type i)
-          → OneOf unstarted (kind_of item.the_type i) → after_item d at i s ≡ s
+      stays : (i : Item) → placement d at i s ≡ Fine → Unfinished i
+          → Unstarted i → after_item d at i s ≡ s
       stays (Declaration e) z k k' = refl
       stays (Instruction e) z k k' = refl
       stays (Comment e) z k k' = refl
       stays (Section e) z k k' = refl
       stays (Reference n e) z k k' = refl
       stays (Text e) z k k' = refl
-      stays (Start n h e m t) z k k' = absurd (not_among unstarted 6 refl k')
-      stays (Finish n e) z k k' = absurd (not_among unfinished 7 refl k)
+      stays (Start n h e m t) z k k' = absurd (k' n h e m t refl)
+      stays (Finish n e) z k k' = absurd (k n e refl)
       stays Doctype z k k' = refl
       stays Malformed z k k' = refl
       stays TooLarge z k k' = refl
       stays Nothing z k k' = refl
 
-      makes : (i : Item) → placement d at i s ≡ Fine → OneOf unfinished (kind_of item.the_type i) → OneOf unstarted (kind_of item.the_type i)
+      makes : (i : Item) → placement d at i s ≡ Fine → Unfinished i → Unstarted i
           → (ts : List Token) → runs judge (item_tokens d at i ts) v.x ≡ runs judge ts (on_aside (part d at (end_of at i)) v.x)
       makes (Declaration e) z k k' ts = refl
       makes (Instruction e) z k k' ts = refl
@@ -160,8 +150,8 @@ module _ {list d starts lens o₀ : List ℕ} {level : ℕ} {rooted kept : Bool}
       makes (Section e) z k k' ts = refl
       makes (Reference n e) z k k' ts = refl
       makes (Text e) z k k' ts = refl
-      makes (Start n h e m t) z k k' ts = absurd (not_among unstarted 6 refl k')
-      makes (Finish n e) z k k' ts = absurd (not_among unfinished 7 refl k)
+      makes (Start n h e m t) z k k' ts = absurd (k' n h e m t refl)
+      makes (Finish n e) z k k' ts = absurd (k n e refl)
       makes Doctype z k k' ts = cc
       makes Malformed z k k' ts = cc
       makes TooLarge z k k' ts = cc

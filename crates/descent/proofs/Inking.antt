@@ -5,26 +5,24 @@ use mathlib.Core.Bool.{Bool, true, false, cond, true≢false, ◌||◌}
 use mathlib.Core.List.{List, [], ◌∷◌}
 use Prim.Native.Nat.{ℕ, ◌+◌, ◌-◌, ◌≤◌, ◌<◌}
 use native.Mathlib.Omega.{arith}
-use borrow.Author.Rules.{rules}
 use mir.Syntax.{w64}
 use mir.Val.{Fits}
 use lib.Dec.{ltb}
 use lib.ListN.{length, get_or}
 use Rattle.xml.specs.Forest.{start_tag, end_tag}
-use Rattle.matcher.specs.declared.Verdict.TheVariants.{Unselected, Selected, Marked}
 use Rattle.writer.specs.Wrote.{Wrote}
 use Rattle.notes.specs.Notes.{Noted}
 use Rattle.notes.proofs.Replaying.{part_size}
 use Rattle.trees.specs.Cut.{one}
 use Rattle.trees.specs.Grown.{part}
-use Rattle.trees.specs.Engine.{Engine, chain, on_start, on_finish, on_aside}
+use Rattle.trees.specs.Engine.{chain, on_start, on_finish, on_aside}
 use Rattle.output.specs.Levels.{name_at, span, Placed, Inked}
 use Rattle.output.proofs.Inking.{part_long}
 use Rattle.output.proofs.Chains.{Chaining, chain_start, chain_level, chain_fits, chain_inside, chain_room, chain_step}
 use Rattle.output.proofs.Chains.{chain_whole, chain_far, name_part}
 use Rattle.writer.proofs.Laying.{wrote_more}
 use Rattle.descent.specs.Lines.{verdict_by}
-use Rattle.descent.specs.Ink.{Stands, Moved, Ready, Reached, is_marked}
+use Rattle.descent.specs.Ink.{Moved, Ready, Reached, is_marked}
 use Rattle.descent.specs.declared.select.Verdict.{Verdict as Said}
 use Rattle.descent.specs.declared.select.Verdict.TheVariants as said
 use Rattle.descent.specs.declared.ink.Run.{Run}
@@ -78,7 +76,6 @@ pub ruleset chained = (
   chained_room,
   chained_end,
   chained_far,
-  rules,
 )
 
 -- ---- `aside`
@@ -96,7 +93,7 @@ module _ {d : List ℕ} {run : Run} (ready : Ready d run) where
   pub ink_near : run.len < 288230376151711744
   ink_near = omega (arith, ready.near)
 
-pub ruleset asides = (ink_near, raw_small, aside_stays, aside_goes, rules)
+pub ruleset asides = (ink_near, raw_small, aside_stays, aside_goes)
 
 -- ---- `finish`
 
@@ -176,7 +173,6 @@ pub ruleset finishes = (
   finish_level,
   finish_waits,
   stays_out,
-  rules,
 )
 
 -- ---- `start`
@@ -209,29 +205,29 @@ Started d starts lens level reached kept len count o v head raw reached' r count
     (level + 1) reached' (kept || is_marked v) r count' o'
 
 module _ {d starts lens o : List ℕ} {level reached : ℕ} {kept : Bool} {len count : ℕ} (h : reached ≤ level) (v : Said) where
-  pub tag_kept : {head raw o' : List ℕ} {r n : ℕ} → kept ≡ true → Wrote o len raw r o' → length raw ≤ 16777216
+  pub tag_kept : (head : List ℕ) {raw o' : List ℕ} {r n : ℕ} → kept ≡ true → Wrote o len raw r o' → length raw ≤ 16777216
       → (n ≡ one (verdict_by v)) × (n ≤ 1) → Started d starts lens level reached kept len count o v head raw reached r (count + n) o'
-  tag_kept e w b en = rw e (start_kept h refl w b en.0 en.1)
+  tag_kept head e w b en = rw e (start_kept h _ head refl w b en.0 en.1)
 
-  pub tag_marked : {head raw o₁ o' : List ℕ} {a r : ℕ} → kept ≡ false → v ≡ said.Marked
+  pub tag_marked : (head : List ℕ) {raw o₁ o' : List ℕ} {a r : ℕ} → kept ≡ false → v ≡ said.Marked
       → Wrote o len (chain (span (name_at d starts lens) reached (level - reached))) a o₁ → a ≤ len + 1073741952
       → Wrote o₁ a raw r o' → length raw ≤ 16777216 → Started d starts lens level reached kept len count o v head raw level r (count + 1) o'
-  tag_marked e q u f w b = rw (e, q) (start_marked h refl refl u f w b)
+  tag_marked head e q u f w b = rw (e, q) (start_marked h head refl refl u f w b)
 
   pub tag_selected : {head raw o₁ o₂ o' : List ℕ} {a b r : ℕ} → kept ≡ false → v ≡ said.Selected
       → Wrote o len (chain (span (name_at d starts lens) reached (level - reached))) a o₁ → a ≤ len + 1073741952
       → Wrote o₁ a head b o₂ → Wrote o₂ b (62 ∷ []) r o' → length head ≤ 16777216
       → Started d starts lens level reached kept len count o v head raw (level + 1) r (count + 1) o'
-  tag_selected e q u f w x b = rw (e, q) (start_selected h refl refl u f (wrote_more w x) b)
+  tag_selected e q u f w x b = rw (e, q) (start_selected h _ refl refl u f (wrote_more w x) b)
 
-  pub tag_waits : {head raw : List ℕ} → kept ≡ false → v ≡ said.Unselected → (level ≡ 0 → ⊥)
+  pub tag_waits : (head : List ℕ) {raw : List ℕ} → kept ≡ false → v ≡ said.Unselected → (level ≡ 0 → ⊥)
       → Started d starts lens level reached kept len count o v head raw reached len count o
-  tag_waits e q z = rw (e, q) (start_waits h refl refl z)
+  tag_waits head e q z = rw (e, q) (start_waits h head refl refl z)
 
-  pub tag_root : {head raw o' : List ℕ} {r : ℕ} → kept ≡ false → v ≡ said.Unselected → level ≡ 0 → Placed d starts lens (level + 1)
+  pub tag_root : (head : List ℕ) {raw o' : List ℕ} {r : ℕ} → kept ≡ false → v ≡ said.Unselected → level ≡ 0 → Placed d starts lens (level + 1)
       → length d ≤ 16777216 → Wrote o len (chain (span (name_at d starts lens) 0 (1 - 0))) r o'
       → Started d starts lens level reached kept len count o v head raw 1 r count o'
-  tag_root e q z p small w = rw (e, q) (start_root h refl refl z (rw (sym z) at w) (own_small level p small))
+  tag_root head e q z p small w = rw (e, q) (start_root h head refl refl z (rw (sym z) at w) (own_small level p small))
 
 -- the level opened in the output
 module _ {kept : Bool} (v : Said) (level before : ℕ) where
@@ -278,5 +274,4 @@ pub ruleset starting = (
   reach_selected,
   reach_unselected,
   ink_near,
-  rules,
 )

@@ -7,7 +7,6 @@ use mathlib.Core.Logic.{◌↔◌}
 use mathlib.Core.Option.{Option, none, some, none-ne-some, some-injective}
 use Prim.Native.Nat.{ℕ, zero, suc, ◌+◌, ◌-◌, ◌≤◌, ◌<◌}
 use native.Mathlib.Omega.{arith}
-use borrow.Author.Rules.{rules}
 use borrow.Author.Tests.{ne_eqb}
 use lib.ListN.{length, take, drop, get_or, set, length-set, replicate, length-replicate, length-append}
 use lib.Seq.{get_or-set_same, get_or-set_other}
@@ -181,7 +180,7 @@ module _ {list d starts lens : List ℕ} {level from : ℕ} where
             inside = w.inside;
           }
 
-pub ruleset walking = (walk_start, walk_places, walk_less, walk_name, walk_on, walk_end, rules)
+pub ruleset walking = (walk_start, walk_places, walk_less, walk_name, walk_on, walk_end)
 
 -- ---- the test of a line
 
@@ -197,7 +196,7 @@ module _ (list : List ℕ) (name len value size : ℕ) (xs : List Attribute) whe
       let z : value + size - value ≡ size = omega arith in
       rw (ne_eqb len 0 n) (rw (y, z) at e)
 
-pub ruleset testing = (test_none, test_read, rules)
+pub ruleset testing = (test_none, test_read)
 
 -- ---- the lines of a sound list
 
@@ -335,4 +334,4 @@ module _ {list : List ℕ} {names : List (List ℕ)} {xs : List Attribute} {at :
                 inside = here_ends.inside;
               }
 
-pub ruleset saying = (say_start, say_end, say_fault, say_name, say_value, say_less, say_more, rules)
+pub ruleset saying = (say_start, say_end, say_fault, say_name, say_value, say_less, say_more)

@@ -8,7 +8,6 @@ use Prim.Native.Nat.{ℕ, zero, suc, ◌+◌, ◌-◌, ◌≤◌, ◌<◌}
 use native.Mathlib.Nat.{eq-or-lt_of_le}
 use native.Mathlib.Numerals.{add-one}
 use native.Mathlib.Omega.{arith}
-use borrow.Author.Rules.{rules}
 use borrow.Author.Tests.{ne_eqb}
 use lib.ListN.{length, take, drop, get_or, set, length-set, length-append}
 use lib.Seq.{get_or-set_same, get_or-set_other}
@@ -51,7 +50,7 @@ module _ (k : Kind) (right above there : Bool) where
   unfolding may_stand
   may_both e = rw e
 
-pub ruleset standing = (may_child, may_descendant, may_self, may_both, rules)
+pub ruleset standing = (may_child, may_descendant, may_self, may_both)
 
 same_turned : (w m : List ℕ) → same_bytes w m ≡ same_bytes m w
 same_turned w m = go (same_bytes w m) refl
@@ -81,7 +80,7 @@ module _ (list : List ℕ) (test len : ℕ) (d : List ℕ) (a n : ℕ) where
         ∙ ap (λ (m : ℕ). same_bytes (take m (drop a d)) (name_from list test len)) (name_size list test len h ∙ q)
         ∙ same_turned (name_from d a n) (name_from list test len))
 
-pub ruleset naming_step = (passes_any_lem, passes_longer, passes_compared, rules)
+pub ruleset naming_step = (passes_any_lem, passes_longer, passes_compared)
 
 -- ---- the loop over the places
 
@@ -151,7 +150,7 @@ module _ {d starts lens : List ℕ} {level : ℕ} (v : Inside d starts lens leve
   pub level_inside : get_or starts p 0 + get_or lens p 0 ≤ length d
   level_inside = v.inside p l
 
-pub ruleset trying = (try_start, try_on, try_end, level_deep, level_next, level_inside, rules)
+pub ruleset trying = (try_start, try_on, try_end, level_deep, level_next, level_inside)
 
 -- ---- the names at the places
 

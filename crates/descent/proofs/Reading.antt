@@ -1,15 +1,12 @@
 -- The loop of `content`: a law for each way on and each way out. The invariant: the state now is safe, and where the state at the beginning
 -- was on the way, it is.
+use Rattle.document.proofs.Placing.{Unstarted, Unfinished}
 use mathlib.Core.Path.{◌≡◌, refl, sym, ◌∙◌, subst}
 use mathlib.Core.Bool.{Bool, true, false}
 use mathlib.Core.List.{List}
 use Prim.Native.Nat.{ℕ, ◌+◌, ◌-◌, ◌≤◌, ◌<◌}
 use native.Mathlib.Omega.{arith}
-use borrow.Author.Rules.{rules}
-use types.Run.{OneOf}
-use denote.Enum.Declared.{tag_of as kind_of}
 use lib.ListN.{length}
-use Rattle.tags.specs.contracts.Item as item
 use Rattle.tags.specs.declared.Item.{Item}
 use Rattle.tags.specs.declared.Item.TheVariants.{Start, Finish}
 use Rattle.items.specs.Item.{item_at}
@@ -31,7 +28,7 @@ use Rattle.descent.specs.declared.ink.Run.{Run}
 use Rattle.descent.specs.declared.ink.Tag.{Tag}
 use Rattle.descent.specs.declared.tree.Read.{Read}
 use Rattle.descent.specs.declared.tree.Read.TheVariants.{Ends, Fault}
-use Rattle.descent.proofs.Going.{unfinished, unstarted, going_fault, going_aside}
+use Rattle.descent.proofs.Going.{going_fault, going_aside}
 
 pub record Reading (list d starts lens : List ℕ) (level : ℕ) (kept rooted₀ : Bool) (at₀ : ℕ) (first₀ : Bool) (r₀ : Run) (o₀ : List ℕ)
     (rooted : Bool) (at : ℕ) (first : Bool) (r : Run) (o : List ℕ) : Type 0 where
@@ -123,7 +120,7 @@ module _ {list d starts lens : List ℕ} {level : ℕ} {kept rooted₀ : Bool} {
         pub read_to : {end : ℕ} → end ≡ end_of at i → end ≤ length d
         read_to g = rw g next.1
 
-        pub read_aside : OneOf unfinished (kind_of item.the_type i) → OneOf unstarted (kind_of item.the_type i)
+        pub read_aside : Unfinished i → Unstarted i
             → {end : ℕ} → end ≡ end_of at i → {r' : Run} {o' : List ℕ}
             → ((ss ls : List ℕ) (l : ℕ) → r.reached.0 ≤ l → Moves d ss ls l kept r o (on_aside (part d at end)) l kept r' o')
             → r'.reached.0 ≡ r.reached.0
@@ -216,5 +213,4 @@ pub ruleset reading = (
   read_inner_fault,
   read_element,
   read_shorter,
-  rules,
 )

@@ -1,6 +1,6 @@
 -- The steps of an item that is no tag, of an end and of a start, where every byte is laid at once: one law for each way out.
 -- Each says what the way makes of whatever engine the code's state stands for.
-use mathlib.Core.Path.{◌≡◌, refl, sym, ap, ◌∙◌}
+use mathlib.Core.Path.{◌≡◌, refl, sym, ◌∙◌}
 use mathlib.Core.Bool.{Bool, true, false}
 use mathlib.Core.List.{List, [], ◌∷◌, ◌++◌}
 use Prim.Native.Nat.{ℕ, ◌+◌, ◌-◌, ◌≤◌, ◌<◌}
@@ -159,11 +159,11 @@ module _ {d starts lens o : List ℕ} {level reached : ℕ} {kept : Bool} {len c
 -- ---- a start
 
 module _ {d starts lens o : List ℕ} {level reached : ℕ} {kept : Bool} {len count : ℕ} (h : reached ≤ level) where
-  pub start_kept : {v : Verdict} {head raw o' : List ℕ} {r n : ℕ} → kept ≡ true → Wrote o len raw r o'
+  pub start_kept : (v : Verdict) (head : List ℕ) {raw o' : List ℕ} {r n : ℕ} → kept ≡ true → Wrote o len raw r o'
       → length raw ≤ 16777216 → n ≡ one v → n ≤ 1
       → Moved d starts lens level reached kept len count o
       (on_start v (name_at d starts lens level) head raw) (level + 1) reached true r (count + n) o'
-  start_kept {v} {head} {raw} {o'} {r} {n} ek w b en l =
+  start_kept v head {raw} {o'} {r} {n} ek w b en l =
       record {
         moves = go;
         order = omega arith;
@@ -184,12 +184,12 @@ module _ {d starts lens o : List ℕ} {level reached : ℕ} {kept : Bool} {len c
             text = laid_more t.text w;
           })
 
-  pub start_marked : {v : Verdict} {head raw o₁ o' : List ℕ} {a r : ℕ} → kept ≡ false → v ≡ Marked
+  pub start_marked : {v : Verdict} (head : List ℕ) {raw o₁ o' : List ℕ} {a r : ℕ} → kept ≡ false → v ≡ Marked
       → Wrote o len (chain (span (name_at d starts lens) reached (level - reached))) a o₁ → a ≤ len + 1073741952
       → Wrote o₁ a raw r o' → length raw ≤ 16777216
       → Moved d starts lens level reached kept len count o
       (on_start v (name_at d starts lens level) head raw) (level + 1) level true r (count + 1) o'
-  start_marked {v} {head} {raw} {o₁} {o'} {a} {r} ek ev u ua w l =
+  start_marked {v} head {raw} {o₁} {o'} {a} {r} ek ev u ua w l =
       record {
         moves = go;
         order = omega arith;
@@ -212,12 +212,12 @@ module _ {d starts lens o : List ℕ} {level reached : ℕ} {kept : Bool} {len c
             text = rw t.pend_is (laid_more t.text (wrote_more u w));
           })
 
-  pub start_selected : {v : Verdict} {head raw o₁ o' : List ℕ} {a r : ℕ} → kept ≡ false → v ≡ Selected
+  pub start_selected : {v : Verdict} (head : List ℕ) {raw o₁ o' : List ℕ} {a r : ℕ} → kept ≡ false → v ≡ Selected
       → Wrote o len (chain (span (name_at d starts lens) reached (level - reached))) a o₁ → a ≤ len + 1073741952
       → Wrote o₁ a (head ++ (62 ∷ [])) r o' → length head ≤ 16777216
       → Moved d starts lens level reached kept len count o
       (on_start v (name_at d starts lens level) head raw) (level + 1) (level + 1) false r (count + 1) o'
-  start_selected {v} {head} {raw} {o₁} {o'} {a} {r} ek ev u ua w l =
+  start_selected {v} head {raw} {o₁} {o'} {a} {r} ek ev u ua w l =
       record {
         moves = go;
         order = omega arith;
@@ -240,11 +240,11 @@ module _ {d starts lens o : List ℕ} {level reached : ℕ} {kept : Bool} {len c
             text = rw t.pend_is (laid_more t.text (wrote_more u w));
           })
 
-  pub start_root : {v : Verdict} {head raw o' : List ℕ} {r : ℕ} → kept ≡ false → v ≡ Unselected → level ≡ 0
+  pub start_root : {v : Verdict} (head : List ℕ) {raw o' : List ℕ} {r : ℕ} → kept ≡ false → v ≡ Unselected → level ≡ 0
       → Wrote o len (start_tag (name_at d starts lens level)) r o' → length (name_at d starts lens level) ≤ 16777216
       → Moved d starts lens level reached kept len count o
       (on_start v (name_at d starts lens level) head raw) (level + 1) 1 false r count o'
-  start_root {v} {head} {raw} {o'} {r} ek ev z w b =
+  start_root {v} head {raw} {o'} {r} ek ev z w b =
       record {
         moves = go;
         order = omega arith;
@@ -268,10 +268,10 @@ module _ {d starts lens o : List ℕ} {level reached : ℕ} {kept : Bool} {len c
             text = laid_more t.text w;
           })
 
-  pub start_waits : {v : Verdict} {head raw : List ℕ} → kept ≡ false → v ≡ Unselected → (level ≡ 0 → ⊥)
+  pub start_waits : {v : Verdict} (head : List ℕ) {raw : List ℕ} → kept ≡ false → v ≡ Unselected → (level ≡ 0 → ⊥)
       → Moved d starts lens level reached kept len count o
       (on_start v (name_at d starts lens level) head raw) (level + 1) reached kept len count o
-  start_waits {v} {head} {raw} ek ev z =
+  start_waits {v} head {raw} ek ev z =
       record { moves = go; order = omega arith; far = omega arith; few = omega arith; same = refl }
     where
       go : (o₀ : List ℕ) (e : Engine) → Stands d starts lens o₀ level reached kept len count o e

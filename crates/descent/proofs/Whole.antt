@@ -4,7 +4,6 @@ use mathlib.Core.Bool.{true, false, false≢true}
 use mathlib.Core.List.{List}
 use Prim.Native.Nat.{ℕ, ◌≤◌}
 use native.Mathlib.Omega.{arith}
-use borrow.Author.Rules.{rules}
 use lib.ListN.{length, replicate, length-replicate}
 use lib.Seq.{sets}
 use Rattle.document.specs.Judge.{start_of}
@@ -69,4 +68,4 @@ module _ (d : List ℕ) {opened : Open} {r : Run} {at : ℕ} (eo : opened ≡ re
         go (Ends at' end r') w = ended at' end r' o' w
         go (Fault why p) w = w o (going_start list d o er ea starts lens)
 
-pub ruleset wholes = (whole_safe, whole_is, rules)
+pub ruleset wholes = (whole_safe, whole_is)

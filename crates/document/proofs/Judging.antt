@@ -5,7 +5,6 @@ use mathlib.Core.Bool.{Bool, true, false, cond, ◌&&◌, false≢true}
 use mathlib.Core.List.{List}
 use Prim.Native.Nat.{ℕ, zero, suc, ◌+◌, ◌-◌, ◌^◌, ◌≤◌, ◌<◌}
 use native.Mathlib.Omega.{arith}
-use borrow.Author.Rules.{rules}
 use borrow.Author.Tests.{lt-ltb, le-ltb}
 use lib.ListN.{length, drop, set, replicate, length-replicate}
 use Rattle.xml.specs.Character.{begins}
@@ -20,7 +19,7 @@ use Rattle.tags.specs.declared.Item.TheVariants.{Doctype, Malformed, TooLarge, N
 use Rattle.items.specs.Item.{item_at}
 use Rattle.items.specs.Inside.{Inside}
 use Rattle.items.proofs.Insides.{item_inside}
-use Rattle.document.specs.Place.{Opened, inside, outside, placement, after_item, end_of}
+use Rattle.document.specs.Place.{Opened, outside, placement, after_item, end_of}
 use Rattle.document.specs.Levels.{opened_of, Names, open_after, len_of}
 use Rattle.document.specs.Judge.{front, start_of, onward, scan_from, scanned, judge_of}
 use Rattle.document.specs.declared.Open.{Open}
@@ -42,7 +41,7 @@ module _ (d : List ℕ) {b : Bool} (t : b ≡ begins front (drop 0 d)) where
   unfolding start_of
   start_zero q = sym (rw (sym t ∙ q))
 
-pub ruleset beginning = (start_three, start_zero, rules)
+pub ruleset beginning = (start_three, start_zero)
 
 start_inside : (d : List ℕ) → start_of d ≤ length d
 unfolding start_of
@@ -199,7 +198,7 @@ module _ (d : List ℕ) where
       unfolding judge_of
       judged_char q = sym (rw (le-ltb 16777216 (length d) l, n, sym e ∙ q))
 
-pub ruleset judging = (judged_long, judged_named, judged_other, judged_items, judged_char, rules)
+pub ruleset judging = (judged_long, judged_named, judged_other, judged_items, judged_char)
 
 -- ---- the loop of `scan`
 
@@ -234,4 +233,4 @@ pub scan_deep : {d starts lens : List ℕ} {o : Open} {at : ℕ} {first : Bool} 
 scan_deep v = v.names.deep
 
 pub ruleset scanning =
-    (judge_start, judge_fault, judge_over, scan_inside, scan_fits, scan_less, scan_on, scan_names, scan_deep, rules)
+    (judge_start, judge_fault, judge_over, scan_inside, scan_fits, scan_less, scan_on, scan_names, scan_deep)

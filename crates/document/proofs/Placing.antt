@@ -1,24 +1,20 @@
 -- An item in its place, each way through the code: names by level; a start tag, an end tag, the end; whether an item may stand where it
 -- stands; where it ends, what is kept of it, and what is open after it. What the pass over a document needs of these is in After.
 use mathlib.Core.Path.{◌≡◌, refl, sym, ap, ap₂, ◌∙◌}
-use mathlib.Core.Bool.{Bool, true, false, cond, not, ◌&&◌, ◌||◌, or-true, false≢true}
-use mathlib.Core.List.{List, [], ◌∷◌}
+use mathlib.Core.Bool.{Bool, true, false, cond, not, ◌&&◌, ◌||◌}
+use mathlib.Core.List.{List}
 use Prim.Native.Nat.{ℕ, zero, suc, ◌+◌, ◌-◌, ◌^◌, ◌≤◌, ◌<◌}
 use mir.Syntax.{w64}
 use mir.Val.{Fits}
-use types.Run.{OneOf}
-use denote.Enum.Declared.{tag_of}
-use mathlib.Core.Logic.{inl, inr}
 use native.Mathlib.Omega.{arith}
 use borrow.Author.Rules.{rules}
-use borrow.Author.Tests.{lt-ltb, le-ltb, le-leb, lt-leb, eq-eqb, ne_eqb}
+use borrow.Author.Tests.{lt-ltb, le-ltb, le-leb, lt-leb, ne_eqb}
 use lib.Dec.{eqb, leb, ltb}
 use lib.ListN.{length, get_or, set}
 use lib.Seq.{set_out}
 use Rattle.xml.specs.Productions.{same}
 use Rattle.chars.specs.Space.{space_end}
 use Rattle.tags.specs.Kept.{name_from}
-use Rattle.tags.specs.contracts.Item as item
 use Rattle.tags.specs.declared.Item.{Item}
 use Rattle.tags.specs.declared.Item.TheVariants.{Declaration, Instruction, Comment, Section, Reference, Text, Start, Finish}
 use Rattle.tags.specs.declared.Item.TheVariants.{Doctype, Malformed, TooLarge, Nothing}
@@ -59,7 +55,7 @@ deeper_empty l q = sym (ap (λ (x : Bool). deeper x l) q)
 pub deeper_more : (l : ℕ) {b : Bool} → b ≡ false → l + 1 ≡ deeper b l
 deeper_more l q = sym (ap (λ (x : Bool). deeper x l) q)
 
-pub ruleset by_flag = (formed_yes, formed_no, deeper_empty, deeper_more, rules)
+pub ruleset by_flag = (formed_yes, formed_no, deeper_empty, deeper_more)
 
 -- ---- `closes`
 
@@ -82,7 +78,7 @@ module _ {d starts lens : List ℕ} {o : Open} (s : Names d starts lens o) (n : 
             let z : suc l - 1 ≡ l = omega arith in
             ap (λ (k : ℕ). same n (name_from d (get_or starts k 0) (get_or lens k 0))) z
 
-pub ruleset closing = (closes_none, closes_inside, closes_same, rules)
+pub ruleset closing = (closes_none, closes_inside, closes_same)
 
 -- ---- `start` and `over`
 
@@ -102,7 +98,7 @@ module _ (level : ℕ) (rooted : Bool) where
   pub over_open : rooted && eqb level 0 ≡ false → Fault NotFormed ≡ over_by level rooted
   over_open q = sym (ap (λ (b : Bool). cond b Over (Fault NotFormed)) q)
 
-pub ruleset by_level = (start_deep, start_formed, over_sound, over_open, rules)
+pub ruleset by_level = (start_deep, start_formed, over_sound, over_open)
 
 -- ---- `place`
 
@@ -183,7 +179,7 @@ pub text_blank : (d : List ℕ) (at e level : ℕ) {k : ℕ} → level ≤ 0 →
 unfolding blank
 text_blank d at e level l s h = h ∙ rw (le-ltb 0 level l, s)
 
-pub ruleset texts = (text_any, text_blank, rules)
+pub ruleset texts = (text_any, text_blank)
 
 pub ruleset placing = (
   place_declaration,
@@ -203,20 +199,13 @@ pub ruleset placing = (
   rules,
 )
 
--- ---- an arm for the other kinds: the number of a kind is one of the arm's
+-- ---- what an arm for the other kinds knows: an item is no start tag or empty tag, or no end tag
 
-abbrev among : List ℕ → ℕ → Bool
-among [] x = false
-among (k ∷ ks) x = eqb x k || among ks x
+abbrev pub Unstarted : Item → Type 0
+Unstarted i = (n h e : ℕ) (m t : Bool) → i ≡ Start n h e m t → ⊥
 
-one_among : (ks : List ℕ) (x : ℕ) → OneOf ks x → among ks x ≡ true
-one_among [] x h = absurd h
-one_among (k ∷ []) x h = ap (λ (b : Bool). b || false) (eq-eqb x k h)
-one_among (k ∷ (l ∷ ks)) x (inl h) = ap (λ (b : Bool). b || among (l ∷ ks) x) (eq-eqb x k h)
-one_among (k ∷ (l ∷ ks)) x (inr h) = ap (λ (b : Bool). eqb x k || b) (one_among (l ∷ ks) x h) ∙ or-true (eqb x k)
-
-pub not_among : (ks : List ℕ) (x : ℕ) → among ks x ≡ false → OneOf ks x → ⊥
-not_among ks x q h = false≢true (sym q ∙ one_among ks x h)
+abbrev pub Unfinished : Item → Type 0
+Unfinished i = (n e : ℕ) → i ≡ Finish n e → ⊥
 
 -- ---- `end_of`, `len_of`, `keep`
 
@@ -226,18 +215,14 @@ end_start at q = sym (ap (end_of at) q)
 pub len_start : {i : Item} {n h e : ℕ} {m t : Bool} → i ≡ Start n h e m t → n ≡ len_of i
 len_start q = sym (ap len_of q)
 
--- all but a start tag
-abbrev unnamed : List ℕ
-unnamed = 0 ∷ 1 ∷ 2 ∷ 3 ∷ 4 ∷ 5 ∷ 7 ∷ 8 ∷ 9 ∷ 10 ∷ 11 ∷ []
-
-pub len_other : (i : Item) → OneOf unnamed (tag_of item.the_type i) → 0 ≡ len_of i
+pub len_other : (i : Item) → Unstarted i → 0 ≡ len_of i
 len_other (Declaration e) k = refl
 len_other (Instruction e) k = refl
 len_other (Comment e) k = refl
 len_other (Section e) k = refl
 len_other (Reference n e) k = refl
 len_other (Text e) k = refl
-len_other (Start n h e m t) k = absurd (not_among unnamed 6 refl k)
+len_other (Start n h e m t) k = absurd (k n h e m t refl)
 len_other (Finish n e) k = refl
 len_other Doctype k = refl
 len_other Malformed k = refl
@@ -250,7 +235,7 @@ keep_start xs l q = ap (set xs l) q
 pub keep_deep : (xs : List ℕ) (l n : ℕ) → length xs ≡ 64 → 64 ≤ l → xs ≡ set xs l n
 keep_deep xs l n e h = sym (set_out xs l n (omega arith))
 
-pub ruleset keeping = (end_start, len_start, len_other, keep_start, keep_deep, rules)
+pub ruleset keeping = (end_start, len_start, len_other, keep_start, keep_deep)
 
 -- ---- `after`
 
@@ -263,22 +248,18 @@ module _ (o : Open) where
       → record { level = record { 0 = l }; rooted = o.rooted } ≡ open_after i o
   after_finish q z = ap (λ (l : ℕ). record { level = record { 0 = l }; rooted = o.rooted }) z ∙ sym (ap (λ (i : Item). open_after i o) q)
 
-  -- all but tags
-  abbrev untagged : List ℕ
-  untagged = 0 ∷ 1 ∷ 2 ∷ 3 ∷ 4 ∷ 5 ∷ 8 ∷ 9 ∷ 10 ∷ 11 ∷ []
+  pub after_other : (i : Item) → Unstarted i → Unfinished i → o ≡ open_after i o
+  after_other (Declaration e) k l = refl
+  after_other (Instruction e) k l = refl
+  after_other (Comment e) k l = refl
+  after_other (Section e) k l = refl
+  after_other (Reference n e) k l = refl
+  after_other (Text e) k l = refl
+  after_other (Start n h e m t) k l = absurd (k n h e m t refl)
+  after_other (Finish n e) k l = absurd (l n e refl)
+  after_other Doctype k l = refl
+  after_other Malformed k l = refl
+  after_other TooLarge k l = refl
+  after_other Nothing k l = refl
 
-  pub after_other : (i : Item) → OneOf untagged (tag_of item.the_type i) → o ≡ open_after i o
-  after_other (Declaration e) k = refl
-  after_other (Instruction e) k = refl
-  after_other (Comment e) k = refl
-  after_other (Section e) k = refl
-  after_other (Reference n e) k = refl
-  after_other (Text e) k = refl
-  after_other (Start n h e m t) k = absurd (not_among untagged 6 refl k)
-  after_other (Finish n e) k = absurd (not_among untagged 7 refl k)
-  after_other Doctype k = refl
-  after_other Malformed k = refl
-  after_other TooLarge k = refl
-  after_other Nothing k = refl
-
-pub ruleset going_on = (after_start, after_finish, after_other, rules)
+pub ruleset going_on = (after_start, after_finish, after_other)

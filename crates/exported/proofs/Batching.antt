@@ -1,7 +1,6 @@
 -- The numbers of a case of the answer on a batch are those of the answer that is this case.
 -- And the rules under which the exported functions on a batch are proved.
 use mathlib.Core.Path.{◌≡◌, sym, ap, ◌∙◌}
-use borrow.Author.Rules.{rules}
 use Rattle.batch.specs.declared.BatchAnswer.{BatchAnswer}
 use Rattle.exported.specs.Batch.{batch_numbers_of}
 use Rattle.exported.specs.declared.Numbers.{Numbers}
@@ -9,4 +8,4 @@ use Rattle.exported.specs.declared.Numbers.{Numbers}
 pub batch_case : {a b : BatchAnswer} {r : Numbers} → a ≡ b → r ≡ batch_numbers_of b → r ≡ batch_numbers_of a
 batch_case h q = q ∙ sym (ap batch_numbers_of h)
 
-pub ruleset batching = (batch_case, rules)
+pub ruleset batching = (batch_case)

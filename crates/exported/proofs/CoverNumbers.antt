@@ -2,7 +2,6 @@
 -- contract of `choughbell_covers` allows are equal: what is lent to it cannot be changed by it.
 use mathlib.Core.Path.{◌≡◌, sym, ap, ◌∙◌}
 use Prim.Native.Nat.{ℕ}
-use borrow.Author.Rules.{rules}
 use Rattle.contracts.specs.One.{OneResult}
 use Rattle.covers.specs.Answer.{which_number}
 use Rattle.covers.specs.declared.Which.{Which}
@@ -20,13 +19,13 @@ pub refused_third : (n line : ℕ) (which : Which) {r : Numbers} {t : ℕ} → t
     → r ≡ record { number = n; second = line; third = t } → r ≡ refused_list n line which
 refused_third n line which {r} {t} e q = rw (← e) q
 
-pub ruleset covering = (covers_case, refused_third, rules)
+pub ruleset covering = (covers_case, refused_third)
 
 -- and those of an answer are those of what it is equal to
 pub covers_said : {a b : CoverAnswer} {r : Numbers} → a ≡ b → r ≡ covers_numbers a → r ≡ covers_numbers b
 covers_said h q = q ∙ ap covers_numbers h
 
-pub ruleset saying = (covers_said, rules)
+pub ruleset saying = (covers_said)
 
 -- ---- one answer
 

@@ -4,7 +4,6 @@ use mathlib.Core.Path.{◌≡◌, sym, ap, ◌∙◌}
 use mathlib.Core.List.{List}
 use Prim.Native.Nat.{ℕ}
 use lib.ListN.{length}
-use borrow.Author.Rules.{rules}
 use Rattle.chars.specs.Check.{check_of}
 use Rattle.chars.specs.declared.whole.Checked.{Checked}
 use Rattle.chars.specs.declared.whole.Checked.TheVariants.{All, BadAt}
@@ -39,6 +38,6 @@ module _ (d : List ℕ) {j : Judged} {r : Numbers} (e : j ≡ judge_of d) where
   pub judged_fault : {w : Why} {n o : ℕ} → j ≡ AtFault w o → n ≡ why_number w → r ≡ refusal_of n o → r ≡ judged_of (judge_of d)
   judged_fault {w} {n} {o} h m q = q ∙ ap (λ (x : ℕ). refusal_of x o) m ∙ ap judged_of (sym h ∙ e)
 
-pub ruleset judging = (judged_case, judged_fault, rules)
+pub ruleset judging = (judged_case, judged_fault)
 
-pub ruleset numbering = (check_all, check_bad, numbers_case, rules)
+pub ruleset numbering = (check_all, check_bad, numbers_case)

@@ -3,7 +3,6 @@
 use mathlib.Core.Path.{◌≡◌, refl, sym, ap, ◌∙◌}
 use mathlib.Core.List.{List}
 use Prim.Native.Nat.{ℕ}
-use borrow.Author.Rules.{rules}
 use Rattle.cutter.specs.Answer.{answer_of}
 use Rattle.cutter.specs.declared.Answer.{Answer as Full}
 use Rattle.cutter.specs.declared.Answer.TheVariants as full
@@ -15,7 +14,7 @@ use Rattle.exported.specs.declared.Numbers.{Numbers}
 pub plain_case : {a b : Answer} {r : Numbers} → a ≡ b → r ≡ plain_of b → r ≡ plain_of a
 plain_case h q = q ∙ sym (ap plain_of h)
 
-pub ruleset plainly = (plain_case, rules)
+pub ruleset plainly = (plain_case)
 
 plain_three : (a : Full) → plain_of (without a) ≡ three_of a
 plain_three (full.Written n c t) = refl

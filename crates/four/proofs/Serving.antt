@@ -4,7 +4,6 @@ use mathlib.Core.Path.{◌≡◌, refl, sym, ap, ◌∙◌}
 use mathlib.Core.Bool.{Bool, true, false, not, ◌||◌, false≢true}
 use mathlib.Core.List.{List}
 use Prim.Native.Nat.{ℕ, ◌≤◌, ◌<◌}
-use borrow.Author.Rules.{rules}
 use lib.ListN.{length, drop}
 use lib.Seq.{sets}
 use Rattle.chars.specs.Check.{check_of}
@@ -56,7 +55,7 @@ module _ (d : List ℕ) where
 pub head_readable : (d : List ℕ) {h : Head} → Headed d h → h ≡ Items → Readable d
 head_readable d v q = rw q at v
 
-pub ruleset heads = (head_long, head_other, head_char, head_items, rules)
+pub ruleset heads = (head_long, head_other, head_char, head_items)
 
 -- ---- `sound` and `by_list`
 
@@ -87,7 +86,7 @@ module _ {a : ListAnswer} where
     list_large q = sym (ap (λ (y : ListAnswer). by_list y x) q)
 
 pub ruleset listings =
-    (sound_yes, sound_long, sound_malformed, sound_large, list_sound, list_long, list_malformed, list_large, rules)
+    (sound_yes, sound_long, sound_malformed, sound_large, list_sound, list_long, list_malformed, list_large)
 
 sound_is : (a : ListAnswer) → soundness a ≡ true → a ≡ lists.Sound
 sound_is lists.Sound q = refl
@@ -160,7 +159,7 @@ module _ (d o g : List ℕ) {m : Outcome} where
           waits = λ z. (refl, sym p.judged ∙ ap judged_by q, w.1);
         }
 
-pub ruleset passing = (pass_fault, pass_inside, pass_short, pass_noted, pass_left, rules)
+pub ruleset passing = (pass_fault, pass_inside, pass_short, pass_noted, pass_left)
 
 -- ---- `serve`
 
@@ -191,7 +190,7 @@ module _ (d o g : List ℕ) (a : ListAnswer) (m : Outcome) {x : Bool} (e : x ≡
           let w = both list d o (unsound_answers a (sym e ∙ q) list d o h z) in
           record { answer = f ∙ w.0; done = λ n. w.1; waits = λ n. absurd (false≢true n) }
 
-pub ruleset services = (serve_inside, serve_sound, serve_unsound, rules)
+pub ruleset services = (serve_inside, serve_sound, serve_unsound)
 
 -- ---- a client in `measured`
 
@@ -250,9 +249,9 @@ module _ {list d t g₀ : List ℕ} {a : ListAnswer} (y : Readable d) (l : Liste
         go false z = (q.stays z).0 ∙ serving.done z
 
 -- none of four is left
-pub none_left : (a b c d : Bool) → not (a || b || c || d) ≡ true → (a ≡ false) × (b ≡ false) × (c ≡ false) × (d ≡ false)
+pub none_left : (a b c d : Bool) → (a || b || c || d) ≡ false → (a ≡ false) × (b ≡ false) × (c ≡ false) × (d ≡ false)
 none_left false false false false q = (refl, refl, refl, refl)
-none_left true b c d q = absurd (false≢true cc)
-none_left false true c d q = absurd (false≢true cc)
-none_left false false true d q = absurd (false≢true cc)
-none_left false false false true q = absurd (false≢true cc)
+none_left true b c d q = absurd cc
+none_left false true c d q = absurd cc
+none_left false false true d q = absurd cc
+none_left false false false true q = absurd cc

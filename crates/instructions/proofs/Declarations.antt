@@ -7,7 +7,6 @@ use mathlib.Core.List.{List, [], ◌∷◌}
 use mathlib.Core.Option.{Option, none, some}
 use Prim.Native.Nat.{ℕ, ◌+◌, ◌-◌, ◌≤◌, ◌<◌}
 use native.Mathlib.Omega.{arith}
-use borrow.Author.Rules.{rules}
 use borrow.Author.Tests.{ltb-true, lt-leb, eqb-true, eqb-false, not-true, not-false}
 use lib.Dec.{eqb, leb, ltb}
 use lib.ListN.{length, get_or, take, drop, length-drop}
@@ -61,7 +60,7 @@ module _ (p : Part) (b : ℕ) where
   pub standalone_class : p ≡ Standalone → false ≡ class_of p b
   standalone_class e = rw e
 
-pub ruleset classing = (letter_ranges, version_class, encoding_class, other_class, standalone_class, rules)
+pub ruleset classing = (letter_ranges, version_class, encoding_class, other_class, standalone_class)
 
 -- ---- they are ASCII
 
@@ -119,7 +118,7 @@ module _ {p : Part} {d : List ℕ} {at i : ℕ} (v : Classed p d at i) where
           inside = omega arith;
         }
 
-pub ruleset running = (class_start, class_over, class_stop, class_on, rules)
+pub ruleset running = (class_start, class_over, class_stop, class_on)
 
 -- ---- [26] VersionNum
 
@@ -143,7 +142,7 @@ module _ (d : List ℕ) (at : ℕ) {x : Bool} (e : x ≡ begins (bytes "1.") (dr
       pub version_ends : (k ≡ at + 2 → ⊥) → Answers d at (Ends k) (version_of (drop at d))
       version_ends n = version_on (run_some is_decimal d (at + 2) s version_inside n)
 
-pub ruleset versions = (version_none, version_inside, version_empty, version_ends, rules)
+pub ruleset versions = (version_none, version_inside, version_empty, version_ends)
 
 -- ---- [81] EncName
 
@@ -164,7 +163,7 @@ module _ (d : List ℕ) (at : ℕ) where
     unfolding encoding_of
     encoding_ends y s = rw (letter_starts (not-false x y)) (ends s (run_ahead is_encoding d at s (omega arith)))
 
-pub ruleset encodings = (encoding_past, encoding_none, encoding_ends, rules)
+pub ruleset encodings = (encoding_past, encoding_none, encoding_ends)
 
 -- ---- `UTF-8` in any case
 
@@ -211,7 +210,7 @@ module _ (d : List ℕ) (from past : ℕ) (l : from ≤ past) (h : past ≤ leng
       regroup : (a b c e g : Bool) → (((a && b) && c) && e) && g ≡ a && (b && (c && (e && g)))
       regroup a b c e g = simp and_assoc
 
-pub ruleset utf8ing = (utf8_other, utf8_bytes, rules)
+pub ruleset utf8ing = (utf8_other, utf8_bytes)
 
 -- ---- an EncName that is not `UTF-8`
 
@@ -234,7 +233,7 @@ module _ {d : List ℕ} {at : ℕ} {r : Reading} (a : Answers d at r (encoding_o
     pub other_ends : x ≡ false → Answers d at (Ends i) (other_of (drop at d))
     other_ends g = rw (told g) (ends (record { rest = refl; inside = ends_inside a e }) (ends_ahead a e))
 
-pub ruleset othering = (other_fault, other_utf8, other_ends, ends_ahead, ends_inside, rules)
+pub ruleset othering = (other_fault, other_utf8, other_ends, ends_ahead, ends_inside)
 
 -- ---- yes or no
 
@@ -252,7 +251,7 @@ module _ (d : List ℕ) (at : ℕ) {x : Bool} (e : x ≡ begins (bytes "yes") (d
     unfolding yes_or_no
     neither t = or_fault (text_no d at (bytes "yes") e f) refl (text_no d at (bytes "no") g t)
 
-pub ruleset choices = (yes_here, no_here, neither, rules)
+pub ruleset choices = (yes_here, no_here, neither)
 
 -- ---- what stands in the quotes, and the word, by the part
 
@@ -269,7 +268,7 @@ module _ (p : Part) (d : List ℕ) (at : ℕ) {r : Reading} where
   pub body_standalone : p ≡ Standalone → Answers d at r (yes_or_no (drop at d)) → Answers d at r (body_of p (drop at d))
   body_standalone e a = rw e a
 
-pub ruleset bodies = (body_version, body_encoding, body_other, body_standalone, rules)
+pub ruleset bodies = (body_version, body_encoding, body_other, body_standalone)
 
 module _ (p : Part) (d : List ℕ) (at : ℕ) {x : Bool} where
   pub word_version : p ≡ Version → x ≡ begins (bytes "version") (drop at d) → x ≡ true
@@ -291,7 +290,7 @@ module _ (p : Part) (d : List ℕ) (at : ℕ) {x : Bool} where
   pub word_other : (w : Part) → p ≡ w → x ≡ begins (word_of w) (drop at d) → x ≡ false → Answers d at Fault (expect (word_of p) (drop at d))
   word_other w q e t = rw q (text_no d at (word_of w) e t)
 
-pub ruleset wording = (word_version, word_encoding, word_named, word_standalone, word_other, rules)
+pub ruleset wording = (word_version, word_encoding, word_named, word_standalone, word_other)
 
 -- ---- quotes
 
@@ -346,7 +345,7 @@ module _ (f : List ℕ → Option (List ℕ)) (d : List ℕ) (at : ℕ) where
             → Answers d at r' (in_quotes f (drop at d))
         quote_ends e b = begun (then_ends a _ e b)
 
-pub ruleset quoting = (byte_answers, quote_past, quote_none, quote_fault, quote_ends, ends_inside, rules)
+pub ruleset quoting = (byte_answers, quote_past, quote_none, quote_fault, quote_ends, ends_inside)
 
 -- ---- a part
 
@@ -366,7 +365,7 @@ module _ (p : Part) {d : List ℕ} {at : ℕ} {r : Reading} (a : Answers d at r 
           → Answers d at s (part_of p (drop at d))
       part_quoted g q = then_ends a _ e (then_ends b _ f (then_ends c _ g q))
 
-pub ruleset parting = (part_space, part_word, part_eq, part_quoted, ends_inside, rules)
+pub ruleset parting = (part_space, part_word, part_eq, part_quoted, ends_inside)
 
 -- ---- a part or none
 
@@ -378,7 +377,7 @@ module _ {d : List ℕ} {at : ℕ} {r : Reading} {o : Option (List ℕ)} (a : An
   pub goes_stays : r ≡ Fault → at ≤ length d → Goes d at at (or_stay o (drop at d))
   goes_stays q l = rw (fault_none a q) (record { ahead = omega arith; stands = record { rest = refl; inside = l } })
 
-pub ruleset staying = (goes_ends, goes_stays, rules)
+pub ruleset staying = (goes_ends, goes_stays)
 
 -- ---- what stands before the encoding, and behind it
 
@@ -393,7 +392,7 @@ module _ (d : List ℕ) (at : ℕ) {x : Bool} (e : x ≡ begins (bytes "<?xml") 
     pub opening_on : {r : Reading} → Answers d (at + 5) r (part_of Version (drop (at + 5) d)) → Answers d at r (opening_of (drop at d))
     opening_on a = then_ends (text_yes d at (bytes "<?xml") e (not-false x t) (omega arith)) _ refl a
 
-pub ruleset opening = (opening_none, opening_inside, opening_on, rules)
+pub ruleset opening = (opening_none, opening_inside, opening_on)
 
 module _ {d : List ℕ} {at s : ℕ} (h : Goes d at s (or_stay (part_of Standalone (drop at d)) (drop at d))) {k : ℕ} (q : k ≡ space_end d s)
     {y : Bool} (z : y ≡ begins (bytes "?>") (drop k d)) where
@@ -408,7 +407,7 @@ module _ {d : List ℕ} {at s : ℕ} (h : Goes d at s (or_stay (part_of Standalo
   pub closing_open : y ≡ false → Answers d at Fault (closing_of (drop at d))
   closing_open c = closes (text_no d k (bytes "?>") z c)
 
-pub ruleset closing = (closing_ends, closing_open, rules)
+pub ruleset closing = (closing_ends, closing_open)
 
 -- ---- the declaration
 
@@ -465,6 +464,6 @@ module _ {d : List ℕ} {at : ℕ} {r : Reading} (a : Answers d at r (opening_of
 pub goes_inside : {d : List ℕ} {at i : ℕ} {t : List ℕ} → Goes d at i t → i ≤ length d
 goes_inside g = g.stands.inside
 
-pub ruleset declaring = (not_declared, declared_ends, goes_inside, ends_inside, rules)
+pub ruleset declaring = (not_declared, declared_ends, goes_inside, ends_inside)
 
-pub ruleset telling = (other_unopened, other_unset, other_unclosed, other_named, ends_inside, rules)
+pub ruleset telling = (other_unopened, other_unset, other_unclosed, other_named, ends_inside)

@@ -6,7 +6,6 @@ use mathlib.Core.List.{List, [], ◌∷◌}
 use mathlib.Core.Option.{none, some}
 use Prim.Native.Nat.{ℕ, ◌+◌, ◌-◌, ◌≤◌, ◌<◌}
 use native.Mathlib.Omega.{arith}
-use borrow.Author.Rules.{rules}
 use borrow.Author.Tests.{not-true, not-false}
 use lib.ListN.{length, get_or, take, drop, length-drop}
 use lib.Seq.{length-take-le}
@@ -51,7 +50,7 @@ module _ (d : List ℕ) (from to : ℕ) (l : from ≤ to) (h : to ≤ length d) 
       and_assoc x m k
       ∙ rw (n, drop_step d from (omega arith), drop_step d (from + 1) (omega arith), y, drop_step d (from + 2) (omega arith), p, q, r)
 
-pub ruleset xmling = (xml_other, xml_bytes, rules)
+pub ruleset xmling = (xml_other, xml_bytes)
 
 -- ---- after the target
 
@@ -91,7 +90,7 @@ module _ (d : List ℕ) (at : ℕ) {x : Bool} (e : x ≡ begins (bytes "?>") (dr
         pub end_never : z ≡ false → Answers d at Fault (instruction_end (drop at d))
         end_never t = sought (text_no d k (bytes "?>") g t)
 
-pub ruleset ending = (end_here, end_past, end_other, end_found, end_never, rules)
+pub ruleset ending = (end_here, end_past, end_other, end_found, end_never)
 
 -- ---- the instruction
 
@@ -142,4 +141,4 @@ module _ (d : List ℕ) (at : ℕ) {x : Bool} (e : x ≡ begins (bytes "<?") (dr
               found : Answers d (at + 2) (Ends i) (target_of (drop (at + 2) d))
               found = rw (target g) (ends (record { rest = refl; inside = target_inside }) target_ahead)
 
-pub ruleset instructing = (not_opened, opened_inside, no_target, target_ahead, target_inside, target_reserved, target_free, rules)
+pub ruleset instructing = (not_opened, opened_inside, no_target, target_ahead, target_inside, target_reserved, target_free)

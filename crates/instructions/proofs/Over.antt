@@ -5,7 +5,6 @@ use mathlib.Core.Bool.{Bool, true, false, ◌||◌, or-false}
 use mathlib.Core.List.{List, [], ◌∷◌}
 use Prim.Native.Nat.{ℕ, ◌+◌, ◌≤◌}
 use native.Mathlib.Omega.{arith}
-use borrow.Author.Rules.{rules}
 use lib.Dec.{eqb}
 use lib.ListN.{length, drop, length-drop}
 use Rattle.xml.specs.Notation.{among}
@@ -29,7 +28,7 @@ use Rattle.instructions.proofs.Callees.{space_ahead, space_stands}
 pub one_of_lem : (b x y : ℕ) → eqb b x || eqb b y ≡ among (x ∷ y ∷ []) b
 one_of_lem b x y = simp or-false
 
-pub ruleset choosing = (one_of_lem, rules)
+pub ruleset choosing = (one_of_lem)
 
 -- ---- one character or more of a class
 
@@ -62,7 +61,7 @@ module _ (d : List ℕ) (at : ℕ) {r : ℕ} (e : r ≡ space_end d at) (l : at 
   unfolding skip space_of
   space_some n = run_some is_space d at (space_stands d at e l) l n
 
-pub ruleset spacing = (space_none, space_some, rules)
+pub ruleset spacing = (space_none, space_some)
 
 -- ---- [25] Eq
 
@@ -87,7 +86,7 @@ module _ (d : List ℕ) (at : ℕ) {k : ℕ} (e : k ≡ space_end d at) (l : at 
 pub space_inside : (d : List ℕ) (at : ℕ) {r : ℕ} → r ≡ space_end d at → at ≤ length d → r ≤ length d
 space_inside d at e l = (space_stands d at e l).inside
 
-pub ruleset equals = (byte_answers, eq_fault, eq_ends, space_inside, ends_inside, rules)
+pub ruleset equals = (byte_answers, eq_fault, eq_ends, space_inside, ends_inside)
 
 -- ---- a text of two bytes
 

@@ -25,7 +25,7 @@ use Rattle.readers.proofs.Tags.{tag_lengths, end_tag_lengths}
 use Rattle.references.specs.Say.{saying_at}
 use Rattle.tags.specs.Tag.{start_placed, start_by, tag_at, finish_by, end_tag_at}
 use Rattle.tags.specs.declared.Item.{Item}
-use Rattle.tags.specs.declared.Item.TheVariants.{Declaration, Instruction, Comment, Section, Reference, Text, Finish, TooLarge}
+use Rattle.tags.specs.declared.Item.TheVariants.{Declaration, Instruction, Comment, Section, Text, Finish, TooLarge}
 use Rattle.items.specs.Item.{Kind, declaration, instruction, comment, section, doctype, finish, start, reference, text, nothing}
 use Rattle.items.specs.Item.{declares, kind_of, item_by, reference_item, item_of, item_at}
 use Rattle.items.specs.Inside.{Ahead, Inside}

@@ -10,7 +10,6 @@ use native.Mathlib.Nat.{eq-or-lt_of_le}
 use native.Mathlib.Omega.{arith}
 use mir.Syntax.{w64}
 use mir.Val.{Fits}
-use borrow.Author.Rules.{rules}
 use borrow.Author.Tests.{ne_eqb, not-true, not-false}
 use lib.ListN.{length, get_or, drop}
 use lib.Seq.{drop-drop}
@@ -134,7 +133,7 @@ module _ (d : List ℕ) (at : ℕ) (first : Bool) where
 pub declared_inside : (d : List ℕ) (at : ℕ) {b : Bool} → b ≡ begins (bytes "<?xml") (drop at d) → not b ≡ false → at ≤ length d
 declared_inside d at {b} t q = let z = text_inside d at (bytes "<?xml") t (not-false b q) (omega arith) in omega arith
 
-pub ruleset declaring = (declared_inside, declared_late, declared_none, declared_short, declared_place, declared_add, declared_space, rules)
+pub ruleset declaring = (declared_inside, declared_late, declared_none, declared_short, declared_place, declared_add, declared_space)
 
 -- ---- a reading as an item
 
@@ -245,9 +244,9 @@ module _ (first : Bool) (d : List ℕ) (at : ℕ) (l : at + 1 < length d) (e : g
         marked_other x h =
             h ∙ kinded first d at two (kind_other first (drop (at + 1 + 1) d) no_comment no_section (asked (bytes "<!DOCTYPE") t'' x))
 
-pub ruleset querying = (queried_declared, queried_undeclared, queried_instruction, queried_fault, rules)
+pub ruleset querying = (queried_declared, queried_undeclared, queried_instruction, queried_fault)
 
-pub ruleset marking = (marked_comment, marked_fault, marked_section, marked_open, marked_doctype, marked_other, rules)
+pub ruleset marking = (marked_comment, marked_fault, marked_section, marked_open, marked_doctype, marked_other)
 
 -- ---- `markup`
 
@@ -274,7 +273,7 @@ module _ (first : Bool) (d : List ℕ) (at : ℕ) (l : at < length d) (e : get_o
     pub markup_add : length d < 2 ^ 64 → Fits w64 (at + 1)
     markup_add h = record { fits = omega arith }
 
-pub ruleset marked_up = (markup_alone, markup_next, markup_finish, markup_start, markup_add, rules)
+pub ruleset marked_up = (markup_alone, markup_next, markup_finish, markup_start, markup_add)
 
 -- ---- `content` and `item`
 
@@ -303,4 +302,4 @@ module _ (first : Bool) (d : List ℕ) (at : ℕ) (l : at < length d) where
 pub item_none : (first : Bool) (d : List ℕ) (at : ℕ) → length d ≤ at → Nothing ≡ item_at first d at
 item_none first d at l = kinded first d at (drop_end d at l) (kind_nothing first)
 
-pub ruleset contents = (content_reference, content_unknown, content_text, content_fault, item_none, rules)
+pub ruleset contents = (content_reference, content_unknown, content_text, content_fault, item_none)

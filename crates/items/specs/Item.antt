@@ -14,8 +14,8 @@ use Rattle.references.specs.declared.reference.Saying.{Saying}
 use Rattle.references.specs.declared.reference.Saying.TheVariants.{Says, Fault as NoReference}
 use Rattle.tags.specs.Tag.{tag_at, end_tag_at}
 use Rattle.tags.specs.declared.Item.{Item}
-use Rattle.tags.specs.declared.Item.TheVariants.{Declaration, Instruction, Comment, Section, Reference, Text, Start, Finish}
-use Rattle.tags.specs.declared.Item.TheVariants.{Doctype, Malformed, TooLarge, Nothing}
+use Rattle.tags.specs.declared.Item.TheVariants.{Declaration, Instruction, Comment, Section, Reference, Text}
+use Rattle.tags.specs.declared.Item.TheVariants.{Doctype, Malformed, Nothing}
 
 -- ---- the kinds, told by their first bytes
 

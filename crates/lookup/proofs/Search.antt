@@ -5,7 +5,6 @@ use mathlib.Core.Bool.{Bool, true, false}
 use mathlib.Core.List.{List, [], ◌∷◌, map}
 use Prim.Native.Nat.{ℕ, zero, suc, ◌+◌, ◌-◌, ◌*◌, ◌%◌, ◌≤◌, ◌<◌}
 use native.Mathlib.Omega.{arith}
-use borrow.Author.Rules.{rules}
 use lib.ListN.{length, take, drop, get_or, length-map, length-drop}
 use lib.Seq.{length-take-le}
 use Rattle.xml.specs.Character.{begins}
@@ -31,7 +30,7 @@ module _ (d : List ℕ) (a n : ℕ) (m : List ℕ) where
   pub compare_bytes : n ≡ length m → {b : Bool} → b ≡ begins m (drop a d) → b ≡ same (take n (drop a d)) m
   compare_bytes e t = t ∙ begins-same m (drop a d) ∙ ap (λ (k : ℕ). same (take k (drop a d)) m) (sym e)
 
-pub ruleset comparing = (compare_length, compare_bytes, rules)
+pub ruleset comparing = (compare_length, compare_bytes)
 
 -- ---- `hash`
 
@@ -53,7 +52,7 @@ module _ {n : List ℕ} {h i : ℕ} (v : Hashing n h i) where
   pub hash_end : length n ≤ i → h ≡ hash_of n
   hash_end l = sym (rw (drop_end n i l)) ∙ v.same
 
-pub ruleset hashes = (hash_start, hash_on, hash_end, rules)
+pub ruleset hashes = (hash_start, hash_on, hash_end)
 
 -- ---- tables of names
 
@@ -186,4 +185,4 @@ find_end {next = next} {n = n} {k = k} v l =
           sym (ap (chain ns next n (suc w.bound)) z) ∙ w.goes (suc w.bound) (omega arith);
     }
 
-pub ruleset finding = (find_start, room_at, room_len, room_next, find_in, find_less, find_end, rules)
+pub ruleset finding = (find_start, room_at, room_len, room_next, find_in, find_less, find_end)

@@ -2,11 +2,10 @@
 use mathlib.Core.Path.{◌≡◌, refl, sym, ap, ap₂, ◌∙◌}
 use mathlib.Core.Bool.{Bool, true, false}
 use mathlib.Core.List.{List, [], ◌∷◌, ◌++◌}
-use Prim.Native.Nat.{ℕ, zero, suc, ◌+◌, ◌≤◌, ◌<◌}
+use Prim.Native.Nat.{ℕ, suc, ◌+◌, ◌≤◌, ◌<◌}
 use native.Mathlib.Omega.{arith}
-use borrow.Author.Rules.{rules}
 use borrow.Author.Tests.{eqb-true, eqb-false}
-use lib.Bits.{bit_and, bit_or, bit_xor, and_le_l, and_le_r, or_add_and, xor_add_and, xor_self}
+use lib.Bits.{bit_or, bit_xor, and_le_l, and_le_r, or_add_and, xor_add_and, xor_self}
 use lib.Dec.{eqb}
 use lib.ListN.{length, take, get_or}
 use lib.Seq.{take-suc, take_all}
@@ -62,4 +61,4 @@ module _ {a b : List ℕ} {unlike p : ℕ} (v : Alike a b unlike p) (la : length
       go true q = sym (ap (same a) (sym (all (eqb-true unlike 0 q))) ∙ same_refl a)
       go false q = sym (same_other a b (v.some (eqb-false unlike 0 q)))
 
-pub ruleset liking = (alike_start, alike_more, alike_end, rules)
+pub ruleset liking = (alike_start, alike_more, alike_end)

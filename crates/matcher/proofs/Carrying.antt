@@ -7,7 +7,6 @@ use mathlib.Core.List.{List}
 use Prim.Native.Nat.{ℕ, zero, suc, ◌+◌, ◌*◌, ◌≤◌, ◌<◌}
 use native.Mathlib.Numerals.{add-one}
 use native.Mathlib.Omega.{arith}
-use borrow.Author.Rules.{rules}
 use lib.Bits.{bit_and, bit_or}
 use lib.Count.{ones, ones-le}
 use lib.ListN.{get_or, set, replicate}
@@ -39,7 +38,7 @@ pub carry_end : (m : MatchState) (f : Fit) {bits : List ℕ} {p : ℕ}
 unfolding deeper_of
 carry_end m f v l = rw (fill_end v.filled l)
 
-pub ruleset carrying = (carry_start, carry_more, carry_end, rules)
+pub ruleset carrying = (carry_start, carry_more, carry_end)
 
 -- ---- `verdict_on`
 
@@ -96,7 +95,7 @@ module _ (m : MatchState) (f : Fit) {selected marked p : ℕ}
   pub join_none : marked ≡ 0 → selected ≡ 0 → Unselected ≡ verdict_by m f
   join_none e h = whole (nonzero_zero marked e) (nonzero_zero selected h)
 
-pub ruleset joining = (join_start, join_more, join_marked, join_selected, join_none, rules)
+pub ruleset joining = (join_start, join_more, join_marked, join_selected, join_none)
 
 -- ---- `tests_on`
 
@@ -129,4 +128,4 @@ sum_end m f {p = p} v l =
 pub sum_few : {state passes stays goes : List ℕ} {tests p : ℕ} → Summing state passes stays goes tests p → tests ≤ 512
 sum_few v = omega (arith, v.few, v.p_in)
 
-pub ruleset summing = (sum_start, sum_more, sum_end, sum_few, rules)
+pub ruleset summing = (sum_start, sum_more, sum_end, sum_few)

@@ -51,4 +51,5 @@ module _ {A : Type 0} (Fits : Step → A → Type 0) (xs : List A) where
   reach_zero ss s r = let z = at_positive (reach_last ss s r).2.there in omega arith
 
   pub reach_none : {p : ℕ} → Reaches Fits xs [] p → p ≡ 0
+  reach_none {p = p} (_ ∷ _, x) = elim x [ ]
   reach_none ([], all) = refl

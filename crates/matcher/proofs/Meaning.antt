@@ -36,6 +36,7 @@ module _ {A : Type 0} (P : A → Type 0) (f : A → Bool) (same : (x : A) → P 
       go false q e rest = later (rest e)
 
   true_some : (xs : List A) → Some P xs → some f xs ≡ true
+  true_some [] x' = elim x' [ ]
   true_some (x ∷ xs) (this h) = or_left (f x) (some f xs) ((same x).0 h)
   true_some (x ∷ xs) (later h) = or_right (f x) (some f xs) (true_some xs h)
 

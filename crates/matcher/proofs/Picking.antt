@@ -7,7 +7,6 @@ use Prim.Native.Nat.{ℕ, zero, suc, ◌+◌, ◌-◌, ◌/◌, ◌%◌, ◌^◌
 use native.Mathlib.Nat.{pos_of_ne-zero, two-pow-succ}
 use native.Mathlib.Numerals.{add-one}
 use native.Mathlib.Omega.{arith}
-use borrow.Author.Rules.{rules}
 use borrow.Author.Tests.{eq-eqb, ne_eqb}
 use lib.ListN.{length, drop, get_or}
 use lib.Seq.{drop-cons}
@@ -96,4 +95,4 @@ module _ (f : Fit) {bits left p : ℕ} (v : Picking f.marks bits left p) where
       let none : some_set f.marks bits ≡ false = v.rest ∙ ap (some_set (drop p f.marks)) e ∙ some_unset (drop p f.marks) in
       sym (ap₂ decided none (nonzero_not bits n))
 
-pub ruleset picking = (pick_start, pick_none, pick_number, bits_less, pick_unset, pick_unmarked, pick_marked, pick_end, rules)
+pub ruleset picking = (pick_start, pick_none, pick_number, bits_less, pick_unset, pick_unmarked, pick_marked, pick_end)

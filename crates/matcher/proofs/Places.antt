@@ -86,6 +86,7 @@ module _ {A : Type 0} (Fits : Step → A → Type 0) (xs : List A) where
   -- a step stands: it has not moved, or it has gone below
   from_moves : (C : Type 0) (k : ℕ) (s : Step) (ss : List Step)
       → ((h : Stands Fits xs k s k) → stays s.kind ≡ true → 0 < k → From k ss → C) → (Lower k s ss → C) → From k (s ∷ ss) → C
+  from_moves C k s ss stay go ([], x) = elim x [ ]
   from_moves C k s ss stay go (p ∷ ps, next h l) = step p h ((below_moves s.kind k p).0 h.below) (ps, l)
     where
       step : (p : ℕ) → Stands Fits xs k s p → Moves (stays s.kind) (goes s.kind) (far s.kind) k p → From p ss → C

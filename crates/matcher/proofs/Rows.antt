@@ -5,7 +5,6 @@ use mathlib.Core.List.{List}
 use Prim.Native.Nat.{ℕ, zero, suc, ◌+◌, ◌≤◌, ◌<◌}
 use native.Mathlib.Nat.{add-zero, add-suc}
 use native.Mathlib.Omega.{arith}
-use borrow.Author.Rules.{rules}
 use lib.ListN.{length, get_or, take, drop, set, replicate}
 use lib.Seq.{drop-cons}
 use Rattle.compiled.specs.Built.{listed}
@@ -36,4 +35,4 @@ module _ {t : List ℕ} {from : ℕ} {bits : List ℕ} {p : ℕ} (v : Copying t 
       ∙ part_listed t from 0 32 (let y = v.inside in omega arith)
       ∙ ap (λ (i : ℕ). take 32 (drop i t)) (add-zero from)
 
-pub ruleset copying = (copy_start, copy_more, copy_end, rules)
+pub ruleset copying = (copy_start, copy_more, copy_end)

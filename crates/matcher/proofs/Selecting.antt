@@ -6,7 +6,6 @@ use mathlib.Core.List.{List}
 use Prim.Native.Nat.{ℕ, suc, ◌+◌, ◌-◌, ◌*◌, ◌^◌, ◌≤◌, ◌<◌}
 use native.Mathlib.Nat.{pow-le-pow_right}
 use native.Mathlib.Omega.{arith}
-use borrow.Author.Rules.{rules}
 use lib.Bits.{bit_and}
 use lib.ListN.{length, get_or}
 use Rattle.compiled.specs.Bits.{bit, bits_of}
@@ -26,7 +25,7 @@ lowest_unset n e = ap bit (sym (nonzero_zero n e))
 pub lowest_set : (n : ℕ) → (n ≡ 0 → ⊥) → 1 ≡ bit (nonzero n)
 lowest_set n h = ap bit (sym (nonzero_not n h))
 
-pub ruleset lowest_bit = (lowest_unset, lowest_set, rules)
+pub ruleset lowest_bit = (lowest_unset, lowest_set)
 
 -- ---- `selecting`
 
@@ -81,4 +80,4 @@ select_end m f {p} v l =
     let z : p ≡ 0 = omega arith in
     v.bits_are ∙ ap (λ (q : ℕ). bits_of (listed (selects_at m.bits f.passes f.stays f.goes f.lasts) q (32 - q))) z
 
-pub ruleset selecting = (select_start, select_number, select_below, select_more, select_end, rules)
+pub ruleset selecting = (select_start, select_number, select_below, select_more, select_end)

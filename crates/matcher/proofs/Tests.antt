@@ -5,10 +5,10 @@ use mathlib.Core.Path.{◌≡◌, refl, sym, ap, ap₂, ◌∙◌, subst}
 use mathlib.Core.Bool.{Bool, true, false, false≢true}
 use mathlib.Core.List.{List, [], ◌∷◌, ◌++◌, map}
 use mathlib.Core.Logic.{◌↔◌}
-use Prim.Native.Nat.{ℕ, zero, suc, ◌+◌, ◌*◌, ◌/◌, ◌%◌, ◌^◌, ◌≤◌, ◌<◌}
+use Prim.Native.Nat.{ℕ, zero, suc, ◌+◌, ◌/◌, ◌%◌, ◌^◌, ◌≤◌, ◌<◌}
 use native.Mathlib.Nat.{zero-add, add_assoc, pow-zero, two-pow-succ}
 use native.Mathlib.Omega.{arith}
-use lib.Bits.{bit_or, and_zero_r}
+use lib.Bits.{and_zero_r}
 use lib.Count.{ones, ones_step}
 use lib.ListN.{length, length-append}
 use Rattle.paths.specs.Path.{Step, Path, All, none as none_left, more}
@@ -16,7 +16,7 @@ use Rattle.compiled.specs.Kinds.{stays, goes}
 use Rattle.compiled.specs.Bits.{bit, bits_of, fit_of}
 use Rattle.matcher.specs.Select.{PassesName}
 use Rattle.matcher.specs.Test.{passes_name}
-use Rattle.matcher.specs.Tried.{Counted, none, this, other, Placing, placings, steps_of, TriedAt, Tried, NameTests}
+use Rattle.matcher.specs.Tried.{Counted, none, this, other, Placing, placings, Tried, NameTests}
 use Rattle.matcher.specs.Picked.{odd}
 use Rattle.matcher.specs.Fit.{fit_for}
 use Rattle.matcher.specs.State.{tried_of, tests_at, summed, tests_by, state_of}

@@ -4,7 +4,6 @@ use mathlib.Core.Path.{◌≡◌, refl, sym, ap, ◌∙◌}
 use mathlib.Core.List.{List, [], ◌∷◌, ◌++◌, append_assoc, append-nil}
 use Prim.Native.Nat.{ℕ, zero, suc, ◌+◌, ◌-◌, ◌*◌, ◌≤◌, ◌<◌}
 use native.Mathlib.Omega.{arith}
-use borrow.Author.Rules.{rules}
 use mir.Syntax.{w64}
 use mir.Val.{Fits}
 use lib.ListN.{length, take, drop, get_or, length-append, length-drop}
@@ -90,4 +89,4 @@ module _ {d starts lens o o₁ : List ℕ} {at top level end : ℕ} (v : Closing
       = sym (append-nil v.done) ∙ rw (z, t) at v.whole in
       rw e at v.wrote
 
-pub ruleset closing = (close_start, close_level, close_inside, close_fits, close_room, close_step, close_whole, rules)
+pub ruleset closing = (close_start, close_level, close_inside, close_fits, close_room, close_step, close_whole)

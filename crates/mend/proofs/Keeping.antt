@@ -5,7 +5,6 @@ use mathlib.Core.Bool.{Bool, true, false, cond, not, ◌&&◌, ◌||◌, false�
 use mathlib.Core.List.{List}
 use Prim.Native.Nat.{ℕ, zero, suc, ◌+◌, ◌-◌, ◌^◌, ◌≤◌, ◌<◌}
 use native.Mathlib.Omega.{arith}
-use borrow.Author.Rules.{rules}
 use borrow.Author.Tests.{lt-ltb, ltb-true}
 use lib.Dec.{leb, ltb}
 use lib.ListN.{length, set, replicate}
@@ -31,7 +30,7 @@ use Rattle.mend.specs.Mended.{mended_by}
 use Rattle.mend.specs.Answer.{by_root, by_room, answer_by, after}
 use Rattle.mend.specs.declared.Answer.{Answer}
 use Rattle.mend.specs.declared.Answer.TheVariants.{NoRoot}
-use Rattle.mend.proofs.Laying.{kept_here, not_false}
+use Rattle.mend.proofs.Laying.{kept_here}
 
 -- ---- an item and a level
 
@@ -264,4 +263,4 @@ module _ {d starts lens : List ℕ} {o : Open} {at : ℕ} {first : Bool} (v : Ke
         )
 
 pub ruleset keeping =
-    (not_false, keep_start, keep_names, keep_deep, keep_within, keep_inside, keep_fits, keep_less, keep_on, rules)
+    (keep_start, keep_names, keep_deep, keep_within, keep_inside, keep_fits, keep_less, keep_on)

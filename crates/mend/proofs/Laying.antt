@@ -5,7 +5,6 @@ use mathlib.Core.Bool.{Bool, true, false, not, false≢true}
 use mathlib.Core.List.{List, ◌++◌}
 use Prim.Native.Nat.{ℕ, ◌-◌, ◌≤◌, ◌<◌}
 use native.Mathlib.Omega.{arith}
-use borrow.Author.Rules.{rules}
 use borrow.Author.Tests.{lt-ltb, le-ltb}
 use lib.ListN.{length, take, drop, length-append}
 use lib.Seq.{length-take-le}
@@ -20,10 +19,6 @@ use Rattle.mend.specs.Answer.{answer_by}
 use Rattle.mend.specs.declared.Answer.TheVariants.{Mended, NoRoot, Short}
 
 -- a test that is turned round
-pub not_true : (b : Bool) → not b ≡ true → b ≡ false
-not_true true q = absurd (false≢true q)
-not_true false q = refl
-
 pub not_false : (b : Bool) → not b ≡ false → b ≡ true
 not_false true q = refl
 not_false false q = absurd (false≢true (sym q))
@@ -61,4 +56,4 @@ module _ (d starts lens : List ℕ) (x : Open) (at : ℕ) where
         ∙ laid_whole (mended_by d kept_here) o (omega (arith, size))
         ∙ ap (λ (k : ℕ). mended_by d kept_here ++ drop k o) size
 
-pub ruleset laying = (not_true, not_false, laid_none, laid_short, laid_mended, laid_bytes, rules)
+pub ruleset laying = (not_false, laid_none, laid_short, laid_mended, laid_bytes)

@@ -1,4 +1,4 @@
--- Laws: what the code asks of an item and of the characters; end tags laid one after another; the mended document in a buffer; item by item
+-- Laws: what the code asks of the characters; end tags laid one after another; the mended document in a buffer; item by item
 -- up to the first fault; the answer; one answer. Worked examples are in `mended`.
 pub mod Asking
 pub mod Closing

@@ -4,7 +4,6 @@ use mathlib.Core.Bool.{Bool, true, false}
 use mathlib.Core.List.{List}
 use Prim.Native.Nat.{ℕ, ◌-◌, ◌≤◌, ◌<◌}
 use native.Mathlib.Omega.{arith}
-use borrow.Author.Rules.{rules}
 use borrow.Author.Tests.{lt-ltb, le-ltb}
 use lib.ListN.{length, take, drop}
 use lib.Seq.{length-take-le}
@@ -61,4 +60,4 @@ module _ (d o : List ℕ) where
 pub mend_small : (d : List ℕ) → length d ≤ 16777216 → (n : ℕ) → n ≤ length d → length (lent d n) ≤ 16777216
 mend_small d l n h = omega (arith, ap length (front_lent n d), length-take-le n d h)
 
-pub ruleset mending = (both, mend_long, mend_other, mend_rest, mend_small, rules)
+pub ruleset mending = (both, mend_long, mend_other, mend_rest, mend_small)

@@ -4,9 +4,8 @@ use mathlib.Core.Bool.{Bool, true, false, cond, ◌&&◌, ◌||◌, false≢true
 use mathlib.Core.List.{List, [], ◌∷◌, ◌++◌}
 use mathlib.Core.Logic.{◌⊎◌, inl, inr}
 use mathlib.Core.Option.{Option, none, some, none-ne-some, some-injective}
-use Prim.Native.Nat.{ℕ, suc, ◌+◌, ◌-◌, ◌≤◌, ◌<◌}
+use Prim.Native.Nat.{ℕ, suc, ◌+◌, ◌-◌, ◌≤◌}
 use native.Mathlib.Omega.{arith}
-use borrow.Author.Rules.{rules}
 use borrow.Author.Tests.{eqb-true, eq-eqb, ne_eqb}
 use lib.Dec.{eqb, lit<}
 use lib.ListN.{length, drop, length-drop}
@@ -75,7 +74,7 @@ module _ (t : List ℕ) (k c : ℕ) {r : Sequence} (q : r ≡ sequence_at t k) w
   put_bad s z =
       text_no t k (utf8 c) (sym (begins_not c (drop k t) s (λ h. none-ne-some c (sym (bad_is t k q z) ∙ h)))) refl
 
-pub ruleset putting = (put_same, put_other, put_bad, rules)
+pub ruleset putting = (put_same, put_other, put_bad)
 
 -- ---- the same texts
 
@@ -139,7 +138,7 @@ module _ {c : ℕ} where
   unfolding plain_of char_of
   plain_other p q r = rw (ne_eqb c 0xD r, ne_eqb c 0x9 p, ne_eqb c 0xA q)
 
-pub ruleset plaining = (plain_tab, plain_lf, plain_cr, plain_other, rules)
+pub ruleset plaining = (plain_tab, plain_lf, plain_cr, plain_other)
 
 pub plain_scalar : (c : ℕ) → is_scalar c ≡ true → is_scalar (plain_of c) ≡ true
 unfolding plain_of char_of
@@ -159,7 +158,7 @@ joins_yes c e = rw e
 pub joins_no : (c : ℕ) {after : Bool} → after ≡ false → false ≡ after && eqb c 0xA
 joins_no c e = rw e
 
-pub ruleset joining = (joins_yes, joins_no, rules)
+pub ruleset joining = (joins_yes, joins_no)
 
 -- ---- the quotes
 
@@ -170,4 +169,4 @@ module _ (q : ℕ) where
   pub quotes_single : (q ≡ 0x22 → ⊥) → where_of Single ≡ quotes_of q
   quotes_single n = rw (ne_eqb q 0x22 n)
 
-pub ruleset quoting = (quotes_double, quotes_single, rules)
+pub ruleset quoting = (quotes_double, quotes_single)

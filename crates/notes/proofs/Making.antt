@@ -34,7 +34,7 @@ module _ (g : List ℕ) (k w : ℕ) where
   pub note_in : {v : ℕ} → v ≡ w → set g k v ≡ set g k w
   note_in e = rw e
 
-pub ruleset noting = (note_room, note_full, note_out, note_in, rules)
+pub ruleset noting = (note_room, note_full, note_out, note_in)
 
 -- ---- `ends_at`
 
@@ -57,7 +57,7 @@ module _ (g : List ℕ) (k at : ℕ) where
     unfolding joins
     ends_part q ea en = rw (ea, en, ne_eqb k 0 z, le-ltb (length g) k l, eq-eqb (kind_of (get_or g (k - 1) 0)) 0 q)
 
-pub ruleset ending = (ends_none, ends_full, ends_other, ends_part, rules)
+pub ruleset ending = (ends_none, ends_full, ends_other, ends_part)
 
 -- ---- `extend`
 

@@ -140,4 +140,4 @@ module _ {d g o o₁ : List ℕ} {noted k len : ℕ} (v : Replaying d g o noted 
       let q : k ≡ noted = omega (arith, v.before) in
       rw q at v.wrote
 
-pub ruleset replaying = (replay_start, replay_index, replay_near, replay_inside, replay_step, replay_whole, rules)
+pub ruleset replaying = (replay_start, replay_index, replay_near, replay_inside, replay_step, replay_whole)

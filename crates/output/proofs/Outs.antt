@@ -1,24 +1,21 @@
 -- The ways out of the steps, as the code has them: `silent`, `finish`, `start`, `tag_step`, `other_step`.
 -- Each hands the law of its way what the code knows of the bytes and of the numbers.
+use Rattle.document.proofs.Placing.{Unfinished}
 use mathlib.Core.Path.{◌≡◌, refl, sym, ◌∙◌}
 use mathlib.Core.Bool.{Bool, true, false, false≢true}
-use mathlib.Core.List.{List, [], ◌∷◌}
+use mathlib.Core.List.{List, []}
 use mathlib.Core.Logic.{◌⊎◌, inl, inr, ⊎_elim}
 use Prim.Native.Nat.{ℕ, zero, suc, ◌+◌, ◌-◌, ◌≤◌, ◌<◌}
 use native.Mathlib.Omega.{arith}
 use borrow.Author.Rules.{rules}
 use lib.ListN.{length, get_or}
-use types.Run.{OneOf}
-use denote.Enum.Declared.{tag_of}
 use Rattle.xml.specs.Forest.{start_tag, end_tag}
 use Rattle.items.specs.Inside.{Inside}
-use Rattle.tags.specs.contracts.Item as item
 use Rattle.tags.specs.declared.Item.{Item}
 use Rattle.tags.specs.declared.Item.TheVariants.{Declaration, Instruction, Comment, Section, Reference, Text, Start, Finish}
 use Rattle.tags.specs.declared.Item.TheVariants.{Doctype, Malformed, TooLarge, Nothing}
 use Rattle.document.specs.Place.{end_of}
 use Rattle.document.specs.Levels.{deeper}
-use Rattle.document.proofs.Placing.{not_among}
 use Rattle.matcher.specs.declared.Verdict.{Verdict}
 use Rattle.matcher.specs.declared.Verdict.TheVariants.{Unselected}
 use Rattle.trees.specs.Grown.{part}
@@ -155,13 +152,13 @@ module _ {d starts lens : List ℕ} (level : ℕ) (p : Placed d starts lens (lev
   pub start_inside : get_or starts level 0 + get_or lens level 0 ≤ length d
   start_inside = name_inside p small (omega arith)
 
-  pub start_bare : {o g o' g' head raw : List ℕ} {reached kept at e len count m r m' : ℕ} {v : Verdict} → at ≤ e → reached ≤ level
+  pub start_bare : (head : List ℕ) {o g o' g' raw : List ℕ} {reached kept at e len count m r m' : ℕ} {v : Verdict} → at ≤ e → reached ≤ level
       → kept ≡ 0 → v ≡ Unselected → level ≡ 0 → Inked d o g len m (start_tag (lent d starts lens level)) r m' o' g'
       → Moved d starts lens level reached kept at len count m o g (on_start v (name_at d starts lens level) head raw) 1 (level + 1) 1 0 e r
       count m' o' g'
-  start_bare l h k e z w =
+  start_bare head l h k e z w =
       let q = lent_is d starts lens level in
-      start_root l h k e z (rw q at w) (rw q at (lent_long p small {i = level} (omega arith)))
+      start_root l h head k e z (rw q at w) (rw q at (lent_long p small {i = level} (omega arith)))
 
 pub chain_near : {len a : ℕ} → len < 144115188075855872 → a ≤ len + 1073741952 → a < 288230376151711744
 chain_near near far = omega arith
@@ -238,7 +235,7 @@ entry_behind kept at (inl z) b l = omega (arith, z)
 entry_behind zero at (inr z) b l = omega (arith, z)
 entry_behind (suc from) at (inr z) b l = omega (arith, z)
 
-module _ {d starts lens o g o₁ g₁ : List ℕ} {level at e : ℕ} {run next : Run} {v : Verdict} {n h r : List ℕ}
+module _ {d starts lens o g o₁ g₁ : List ℕ} {level at e : ℕ} {run next : Run} (v : Verdict) {n : List ℕ} (h : List ℕ) {r : List ℕ}
     (m : Moves d starts lens level at run o g (on_start v n h r) 1 (level + 1) e next o₁ g₁) where
   pub tag_behind : {b : ℕ} → run.kept ≤ at + 1 → at ≤ b → b ≤ e → next.kept ≤ e + 1
   tag_behind k l l' = entry_behind run.kept at m.entry k (omega arith)
@@ -275,7 +272,7 @@ module _ {d starts lens o g o₁ g₁ : List ℕ} {level at e : ℕ} {run next :
         room = f'.room ∙ m.room;
       })
 
-pub ruleset tagging = (ready_first, ready_then, tag_behind, tag_opens, tag_ends, rules)
+pub ruleset tagging = (ready_first, ready_then, tag_behind, tag_opens, tag_ends)
 
 -- ---- `other_step`
 
@@ -307,15 +304,12 @@ module _ (d : List ℕ) (at : ℕ) (i : Item) (e : ℕ) (h : Inside d at i) wher
   finish_to q = (finish_places q).1
 
 -- all but end tags
-abbrev unfinished : List ℕ
-unfinished = 0 ∷ 1 ∷ 2 ∷ 3 ∷ 4 ∷ 5 ∷ 6 ∷ 8 ∷ 9 ∷ 10 ∷ 11 ∷ []
-
 module _ {d starts lens o g : List ℕ} {level : ℕ} (at : ℕ) {run : Run} (h : run.reached.0 ≤ level) where
-  pub other_step : (i : Item) → OneOf unfinished (tag_of item.the_type i) → Inside d at i → at ≤ length d
+  pub other_step : (i : Item) → Unfinished i → Inside d at i → at ≤ length d
       → Moves d starts lens level at run o g (on_other d at i) 1 (level_after i level) (end_of at i) run o g
   other_step i k n l = go i k (end_ahead d at i n l).0
     where
-      go : (i : Item) → OneOf unfinished (tag_of item.the_type i) → at ≤ end_of at i
+      go : (i : Item) → Unfinished i → at ≤ end_of at i
           → Moves d starts lens level at run o g (on_other d at i) 1 (level_after i level) (end_of at i) run o g
       go (Declaration e) k l = aside_step h l
       go (Instruction e) k l = aside_step h l
@@ -324,7 +318,7 @@ module _ {d starts lens o g : List ℕ} {level : ℕ} (at : ℕ) {run : Run} (h 
       go (Reference n e) k l = aside_step h l
       go (Text e) k l = aside_step h l
       go (Start n b e u t) k l = aside_step h l
-      go (Finish n e) k l = absurd (not_among unfinished 7 refl k)
+      go (Finish n e) k l = absurd (k n e refl)
       go Doctype k l = aside_step h l
       go Malformed k l = aside_step h l
       go TooLarge k l = aside_step h l
@@ -335,4 +329,4 @@ module _ {d starts lens o g : List ℕ} {level : ℕ} (at : ℕ) {run : Run} (h 
       → Moves d starts lens level at run o g (on_other d at i) 1 (level_after i level) (end_of at i) r o' g'
   finish_step i n e q m = rw q m
 
-pub ruleset others = (ready_first, finish_from, finish_to, other_step, finish_step, rules)
+pub ruleset others = (ready_first, finish_from, finish_to, other_step, finish_step)

@@ -336,10 +336,10 @@ module _ {d starts lens o g : List ℕ} {level reached kept at len count m : ℕ
 -- ---- a start
 
 module _ {d starts lens o g : List ℕ} {level reached kept at len count m : ℕ} {e : ℕ} (l : at ≤ e) (h : reached ≤ level) where
-  pub start_kept : {v : Verdict} {head : List ℕ} {n : ℕ} → (kept ≡ 0 → ⊥) → n ≡ one v → n ≤ 1
+  pub start_kept : (v : Verdict) (head : List ℕ) {n : ℕ} → (kept ≡ 0 → ⊥) → n ≡ one v → n ≤ 1
       → Moved d starts lens level reached kept at len count m o g
       (on_start v (name_at d starts lens level) head (part d at e)) 1 (level + 1) reached kept e len (count + n) m o g
-  start_kept {v} {head} {n} ek en b =
+  start_kept v head {n} ek en b =
       record {
         moves = go;
         entry = same_entry kept at;
@@ -369,11 +369,11 @@ module _ {d starts lens o g : List ℕ} {level reached kept at len count m : ℕ
             notes = t.notes;
           })
 
-  pub start_marked : {v : Verdict} {head o' g' : List ℕ} {r m' : ℕ} → kept ≡ 0 → v ≡ Marked
+  pub start_marked : {v : Verdict} (head : List ℕ) {o' g' : List ℕ} {r m' : ℕ} → kept ≡ 0 → v ≡ Marked
       → Inked d o g len m (chain (span (name_at d starts lens) reached (level - reached))) r m' o' g' → r ≤ len + 1073741952
       → Moved d starts lens level reached kept at len count m o g
       (on_start v (name_at d starts lens level) head (part d at e)) 1 (level + 1) level (at + 1) e r (count + 1) m' o' g'
-  start_marked {v} {head} {o'} {g'} {r} {m'} ek ev u ua =
+  start_marked {v} head {o'} {g'} {r} {m'} ek ev u ua =
       record {
         moves = go;
         entry = begun_entry at ek;
@@ -407,12 +407,12 @@ module _ {d starts lens o g : List ℕ} {level reached kept at len count m : ℕ
             notes = stood_more t.notes u.noted;
           })
 
-  pub start_selected : {v : Verdict} {head raw o₁ g₁ o' g' : List ℕ} {a b r m' : ℕ} → kept ≡ 0 → v ≡ Selected
+  pub start_selected : {v : Verdict} (head : List ℕ) {raw o₁ g₁ o' g' : List ℕ} {a b r m' : ℕ} → kept ≡ 0 → v ≡ Selected
       → Inked d o g len m (chain (span (name_at d starts lens) reached (level - reached))) a b o₁ g₁ → a ≤ len + 1073741952
       → Inked d o₁ g₁ a b (head ++ (62 ∷ [])) r m' o' g' → length head ≤ 16777216
       → Moved d starts lens level reached kept at len count m o g
       (on_start v (name_at d starts lens level) head raw) 1 (level + 1) (level + 1) 0 e r (count + 1) m' o' g'
-  start_selected {v} {head} {raw} {o₁} {g₁} {o'} {g'} {a} {b} {r} {m'} ek ev u ua w s =
+  start_selected {v} head {raw} {o₁} {g₁} {o'} {g'} {a} {b} {r} {m'} ek ev u ua w s =
       record {
         moves = go;
         entry = inl refl;
@@ -446,11 +446,11 @@ module _ {d starts lens o g : List ℕ} {level reached kept at len count m : ℕ
             notes = stood_more t.notes (noted_more u.noted w.noted);
           })
 
-  pub start_root : {v : Verdict} {head raw o' g' : List ℕ} {r m' : ℕ} → kept ≡ 0 → v ≡ Unselected → level ≡ 0
+  pub start_root : {v : Verdict} (head : List ℕ) {raw o' g' : List ℕ} {r m' : ℕ} → kept ≡ 0 → v ≡ Unselected → level ≡ 0
       → Inked d o g len m (start_tag (name_at d starts lens level)) r m' o' g' → length (name_at d starts lens level) ≤ 16777216
       → Moved d starts lens level reached kept at len count m o g
       (on_start v (name_at d starts lens level) head raw) 1 (level + 1) 1 0 e r count m' o' g'
-  start_root {v} {head} {raw} {o'} {g'} {r} {m'} ek ev z w b =
+  start_root {v} head {raw} {o'} {g'} {r} {m'} ek ev z w b =
       record {
         moves = go;
         entry = inl refl;
@@ -481,10 +481,10 @@ module _ {d starts lens o g : List ℕ} {level reached kept at len count m : ℕ
             notes = stood_more t.notes w.noted;
           })
 
-  pub start_waits : {v : Verdict} {head raw : List ℕ} → kept ≡ 0 → v ≡ Unselected → (level ≡ 0 → ⊥)
+  pub start_waits : {v : Verdict} (head : List ℕ) {raw : List ℕ} → kept ≡ 0 → v ≡ Unselected → (level ≡ 0 → ⊥)
       → Moved d starts lens level reached kept at len count m o g
       (on_start v (name_at d starts lens level) head raw) 1 (level + 1) reached kept e len count m o g
-  start_waits {v} {head} {raw} ek ev z =
+  start_waits {v} head {raw} ek ev z =
       record {
         moves = go;
         entry = same_entry kept at;

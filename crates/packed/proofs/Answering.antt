@@ -1,13 +1,12 @@
 -- The answers and what stands in the buffers afterwards. In order: two texts compared; the writer; whether an input is the packed form of a
 -- text; the reader; and the two round trips of whole calls.
 use mathlib.Core.Path.{◌≡◌, refl, sym, ap, ◌∙◌}
-use mathlib.Core.Bool.{Bool, true, false, not, ◌&&◌, and-false}
+use mathlib.Core.Bool.{Bool, true, false, ◌&&◌, and-false}
 use mathlib.Core.List.{List, ◌++◌}
 use mathlib.Core.Option.{none, some}
-use Prim.Native.Nat.{ℕ, ◌+◌, ◌-◌, ◌≤◌, ◌<◌}
+use Prim.Native.Nat.{ℕ, ◌-◌, ◌≤◌, ◌<◌}
 use native.Mathlib.Omega.{arith}
-use borrow.Author.Rules.{rules}
-use borrow.Author.Tests.{eq-eqb, ne_eqb, lt-ltb, le-ltb, not-true, not-false}
+use borrow.Author.Tests.{eq-eqb, ne_eqb, lt-ltb, le-ltb}
 use lib.Dec.{eqb}
 use lib.ListN.{length, take, drop, length-append}
 use lib.Seq.{take-append_seam}
@@ -43,7 +42,7 @@ module _ (a b : List ℕ) where
           sym (rw (eq-eqb (length a) (length b) (omega arith)))
       go false e = sym (and-false (eqb (length a) (length b)))
 
-pub ruleset equating = (equal_long, equal_bytes, rules)
+pub ruleset equating = (equal_long, equal_bytes)
 
 -- ---- room
 
@@ -197,12 +196,12 @@ module _ (d o : List ℕ) where
       packs_is : packs d (spelled d) ≡ x
       packs_is = sym (e ∙ ap (packs d) (text_taken l w i))
 
-      pub unpack_none : not x ≡ true → (NotPacked ≡ unpack_answer d (length o)) × (o ≡ unpack_bytes d o)
-      unpack_none h = by_none (no_text (packs_is ∙ not-true x h))
+      pub unpack_none : x ≡ false → (NotPacked ≡ unpack_answer d (length o)) × (o ≡ unpack_bytes d o)
+      unpack_none h = by_none (no_text (packs_is ∙ h))
 
-      module _ (h : not x ≡ false) where
+      module _ (h : x ≡ true) where
         found : text_of d ≡ some (spelled d)
-        found = the_text (packs_is ∙ not-false x h)
+        found = the_text (packs_is ∙ h)
 
         text_size : n ≡ length (spelled d)
         text_size = omega (arith, w.long)

@@ -6,7 +6,6 @@ use mathlib.Core.List.{List, [], ◌∷◌, ◌++◌, append_assoc, append-nil}
 use mathlib.Core.Option.{Option, none, some, none-ne-some, some-injective}
 use Prim.Native.Nat.{ℕ, ◌+◌, ◌-◌, ◌*◌, ◌/◌, ◌%◌, ◌≤◌, ◌<◌}
 use native.Mathlib.Omega.{arith}
-use borrow.Author.Rules.{rules}
 use borrow.Author.Tests.{leb-true, ne_eqb}
 use lib.Dec.{leb}
 use lib.ListN.{length, take, drop, length-append, length-drop, drop_of_length-le}
@@ -45,7 +44,7 @@ module _ (len size : ℕ) where
   pub test_long_some : (len ≡ 0 → ⊥) → len ≤ 255 → size ≤ 255 → (2 + len + size ≡ test_length len size) × (2 + len + size ≤ 512)
   test_long_some h i j = (rw (ne_eqb len 0 h), omega arith)
 
-pub ruleset test_long = (test_long_none, test_long_some, rules)
+pub ruleset test_long = (test_long_none, test_long_some)
 
 module _ (d : List ℕ) (name len value size : ℕ) {o o₁ : List ℕ} {to a : ℕ} (w : Wrote o to (len ∷ []) a o₁) where
   pub placed_none : len ≡ 0 → Wrote o to (pack_placed d name len value size) a o₁
@@ -59,7 +58,7 @@ module _ (d : List ℕ) (name len value size : ℕ) {o o₁ : List ℕ} {to a : 
       let j : f - value ≡ size = omega arith in
       rw (ne_eqb len 0 h) (wrote_more w (wrote_more (rw i at x) (wrote_more y (rw j at z))))
 
-pub ruleset placing = (placed_none, placed_some, rules)
+pub ruleset placing = (placed_none, placed_some)
 
 -- ---- before the steps
 
@@ -68,7 +67,7 @@ pub head_laid : {o o₁ o₂ o₃ o₄ : List ℕ} {to a b c r k count : ℕ} (n
     → Wrote o to (pack_head n m count) r o₄
 head_laid n m p q e s t = wrote_more p (wrote_more q (wrote_more (rw e at s) t))
 
-pub ruleset heading = (head_laid, rules)
+pub ruleset heading = (head_laid)
 
 -- ---- the steps
 
@@ -201,7 +200,7 @@ module _ {d o o₁ : List ℕ} {from to count at place : ℕ} (v : Stepped d fro
         near = v.near;
       }
 
-pub ruleset stepping = (stepped_start, step_inside, step_small, stepped_less, stepped_on, stepped_done, rules)
+pub ruleset stepping = (stepped_start, step_inside, step_small, stepped_less, stepped_on, stepped_done)
 
 -- ---- a line
 
@@ -408,4 +407,4 @@ pub list_laid : (d : List ℕ) {o o₁ o₂ : List ℕ} {a r : ℕ} → Wrote o 
 unfolding pack_of pack_list
 list_laid d {a = a} v w = let e : 1 ≡ a = omega (arith, v.long) in wrote_more v (rw e at w)
 
-pub ruleset listing = (list_start, list_line, list_less, list_on, list_done, rules)
+pub ruleset listing = (list_start, list_line, list_less, list_on, list_done)

@@ -4,7 +4,6 @@ use mathlib.Core.Path.{◌≡◌, refl, sym, ap, ◌∙◌}
 use mathlib.Core.List.{List, [], ◌∷◌, ◌++◌, append_assoc, append-nil}
 use Prim.Native.Nat.{ℕ, zero, suc, ◌+◌, ◌-◌, ◌*◌, ◌≤◌, ◌<◌}
 use native.Mathlib.Omega.{arith}
-use borrow.Author.Rules.{rules}
 use borrow.Author.Tests.{ne_eqb}
 use lib.ListN.{length, take, drop, get_or, length-take, length-drop, drop_of_length-le, get_or-eq_default}
 use lib.Seq.{take-nil, take_all, drop-drop, get_or-drop}
@@ -27,7 +26,7 @@ byte_past d at l = record { is = sym (get_or-eq_default d 0 l); small = omega ar
 pub byte_here : (d : List ℕ) (at : ℕ) → get_or d at 0 < 256 → ByteAt d at (get_or d at 0)
 byte_here d at l = record { is = refl; small = omega arith }
 
-pub ruleset bytes_at = (byte_past, byte_here, rules)
+pub ruleset bytes_at = (byte_past, byte_here)
 
 -- the byte at k behind the place at, of what stands there
 byte_behind : (d : List ℕ) (at k n : ℕ) {p : ℕ} → at + k ≡ p → ByteAt d p n → get_or (drop at d) k 0 ≡ n
@@ -56,7 +55,7 @@ module _ {o o' : List ℕ} {to r : ℕ} (d : List ℕ) (at n : ℕ) where
   pub part_whole : {e : ℕ} → e ≡ at + n → Wrote o to (take (e - at) (drop at d)) r o' → Lays n o to (take n (drop at d)) r o'
   part_whole {e} q w = let z : e - at ≡ n = omega arith in lays_part n (drop at d) (rw z at w)
 
-pub ruleset parts = (part_past, part_short, part_whole, rules)
+pub ruleset parts = (part_past, part_short, part_whole)
 
 -- ---- a step
 
@@ -79,7 +78,7 @@ module _ {k : ℕ} where
       unfolding kind_of
       kind_other c = rw (ne_eqb k 0 a, ne_eqb k 1 b, ne_eqb k 2 c)
 
-pub ruleset kinds = (kind_child, kind_descendant, kind_self, kind_other, rules)
+pub ruleset kinds = (kind_child, kind_descendant, kind_self, kind_other)
 
 kind_short : (k : Kind) → length (print_kind k) ≤ 21
 kind_short Child = omega arith
@@ -103,7 +102,7 @@ module _ {o o' : List ℕ} {to r : ℕ} where
   pub end_plain : {m : ℕ} → (m ≡ 1 → ⊥) → Wrote o to (bytes "\n") r o' → Lays 3 o to (spell_end m) r o'
   end_plain {m} e w = rw (ne_eqb m 1 e) (record { laid = w; low = omega (arith, w.long) })
 
-pub ruleset small = (kind_laid, name_star, name_some, end_marked, end_plain, rules)
+pub ruleset small = (kind_laid, name_star, name_some, end_marked, end_plain)
 
 pub step_spelled : {d o o₁ o₂ : List ℕ} {at to b n a e : ℕ} {k : Kind} → ByteAt d at b → ByteAt d (at + 1) n → k ≡ kind_of b
     → Lays 21 o to (print_kind k) a o₁ → Lays 255 o₁ a (spell_name n (drop (at + 2) d)) e o₂
@@ -120,7 +119,7 @@ step_spelled {d} {at = at} {b = b} {n} x y q w v =
       low = omega (arith, w.low, v.low);
     }
 
-pub ruleset stepping = (step_spelled, rules)
+pub ruleset stepping = (step_spelled)
 
 -- ---- so many steps
 
@@ -211,7 +210,7 @@ module _ {d o o₁ : List ℕ} {from count to left at place : ℕ} (v : Stepping
         low = omega arith;
       }
 
-pub ruleset steps_spelled = (steps_start, steps_on, steps_done, rules)
+pub ruleset steps_spelled = (steps_start, steps_on, steps_done)
 
 -- ---- a test
 
@@ -256,7 +255,7 @@ test_some {d} {at = at} {n = n} {m} x h y w =
       low = w.low;
     }
 
-pub ruleset testing = (test_none, tested_laid, test_some, rules)
+pub ruleset testing = (test_none, tested_laid, test_some)
 
 -- ---- a line
 
@@ -286,7 +285,7 @@ line_spelled {d} {at = at} {mark = mark} {count} {s = s} x y p q r =
       low = omega arith;
     }
 
-pub ruleset lining = (line_spelled, rules)
+pub ruleset lining = (line_spelled)
 
 -- ---- all lines
 
@@ -356,4 +355,4 @@ module _ {d o o₁ : List ℕ} {left at to : ℕ} (v : Spelling d o left at to o
   pub spell_end_lem : length d ≤ at → Wrote o 0 (spelled d) to o₁
   spell_end_lem l = whole (ap (spell_lines left) (drop_of_length-le d l) ∙ lines_none left)
 
-pub ruleset spelling = (spell_start, spell_on, spell_all, spell_end_lem, rules)
+pub ruleset spelling = (spell_start, spell_on, spell_all, spell_end_lem)

@@ -4,7 +4,6 @@ use mathlib.Core.Path.{◌≡◌, sym, ◌∙◌}
 use mathlib.Core.Bool.{Bool, false}
 use mathlib.Core.List.{List}
 use Prim.Native.Nat.{ℕ, ◌+◌, ◌-◌}
-use borrow.Author.Rules.{rules}
 use lib.ListN.{take, drop}
 use Rattle.paths.specs.Judge.{list_paths}
 use Rattle.attributes.specs.Held.{attributes_in}
@@ -36,4 +35,4 @@ module _ (list d : List ℕ) (at n h : ℕ) (m : MatchState) (f : Fit) where
       → Judges w
   judged_tested eg ek ej ew = tested (rw eg at (rw (rw ek at ej) at ew))
 
-pub ruleset judging = (judged_unselected, judged_untested, judged_tested, rules)
+pub ruleset judging = (judged_unselected, judged_untested, judged_tested)

@@ -1,5 +1,6 @@
 -- The pass over the items. The invariant: the code's state stands for an engine from which the rest of the pass comes to what it comes to
 -- from the start; the scan of the document does too. Then a law for each way on and each way out.
+use Rattle.document.proofs.Placing.{Unstarted}
 use mathlib.Core.Path.{◌≡◌, refl, sym, ap, ap₂, ◌∙◌}
 use mathlib.Core.Bool.{Bool, true, false, cond, not, true≢false}
 use mathlib.Core.List.{List, [], ◌∷◌, ◌++◌}
@@ -8,8 +9,6 @@ use Prim.Native.Nat.{ℕ, zero, suc, ◌+◌, ◌-◌, ◌*◌, ◌≤◌, ◌<�
 use native.Mathlib.Nat.{zero-add, eq-or-lt_of_le}
 use native.Mathlib.Omega.{arith}
 use borrow.Author.Tests.{eqb-true, eqb-false}
-use types.Run.{OneOf}
-use denote.Enum.Declared.{tag_of as kind_of}
 use mir.Syntax.{w64}
 use mir.Val.{Fits}
 use lib.Dec.{eqb}
@@ -18,7 +17,6 @@ use lib.Seq.{sets, set-get_or, get_or-set_same, get_or-set_other}
 use Rattle.paths.specs.Path.{Path}
 use Rattle.paths.specs.Judge.{list_answer, list_paths}
 use Rattle.paths.specs.declared.ListAnswer.TheVariants.{Sound as SoundList}
-use Rattle.tags.specs.contracts.Item as item
 use Rattle.items.specs.Inside.{Inside}
 use Rattle.items.specs.Item.{item_at}
 use Rattle.tags.specs.Kept.{name_from}
@@ -34,7 +32,6 @@ use Rattle.document.specs.declared.Placement.TheVariants.{Fine, Fault as Faulty,
 use Rattle.document.specs.declared.Why.{Why}
 use Rattle.document.specs.declared.judge.Judged.TheVariants.{Sound}
 use Rattle.document.proofs.After.{start_room}
-use Rattle.document.proofs.Placing.{not_among}
 use Rattle.document.proofs.Judging.{Judging, judge_start, judge_fault, judge_over, judge_on, fine_ahead, scan_inside, scan_less, scan_on}
 use Rattle.attributes.specs.Attribute.{Attribute}
 use Rattle.attributes.specs.Held.{attributes_in, attributes_of}
@@ -70,7 +67,7 @@ use Rattle.passes.specs.Passed.{PassedBy}
 use Rattle.passes.specs.declared.Outcome.TheVariants.{Fine as Ended, Fault}
 use Rattle.quick.proofs.Opened.{start_named}
 use Rattle.passes.proofs.Telling.{opens_none, opens_kept, opens_more}
-use Rattle.passes.proofs.Rests.{Rest, untagged, rest_start, rest_over, sum_over, rest_tag, rest_other}
+use Rattle.passes.proofs.Rests.{Rest, rest_start, rest_over, sum_over, rest_tag, rest_other}
 use Rattle.passes.proofs.States.{none, above, Held, Stored, name_here, span_below, held_start, held_kept, held_deeper, held_same}
 use Rattle.passes.proofs.States.{parent_is, stored_long}
 
@@ -121,10 +118,10 @@ not-not false e = absurd (true≢false e)
 pub known_there : {counts : Bool} {tb : List ℕ} (memo : List Known)
     → ((i : ℕ) → i < length memo → Recalls counts tb (get_or memo i blank))
     → (slot : ℕ) → slot < length memo → {k : ℕ} → k ≤ 512 → (m : MatchState)
-    → {b : Bool} → b ≡ is_of (get_or memo slot blank) k m → not b ≡ false → {memo' : List Known} → memo' ≡ memo
+    → {b : Bool} → b ≡ is_of (get_or memo slot blank) k m → b ≡ true → {memo' : List Known} → memo' ≡ memo
     → Remembered counts tb k m memo slot memo'
 known_there memo v slot l few m {b} s y e =
-    let w = recalled (v slot l) few m s (not-not b y) in
+    let w = recalled (v slot l) few m s y in
     rw e (sym (set-get_or memo slot blank), w.0, w.1, refl)
 
 pub known_stored : (counts : Bool) (tb : List ℕ) (k : ℕ) (m : MatchState) (memo : List Known) (slot : ℕ) → slot < length memo → {y : Known}
@@ -342,14 +339,14 @@ placed_more {d} {starts} {lens} {opened} s a n h l =
         ⊎_elim (λ (q : i ≡ opened.level.0). rw q here) (λ (q : i < opened.level.0). k.inside i q) (eq-or-lt_of_le le)
 
 -- the level after an item that is no start tag and no empty tag, and what is open then
-pub level_other : (i : Item) (o : Open) → OneOf untagged (kind_of item.the_type i) → level_after i o.level.0 ≡ (open_after i o).level.0
+pub level_other : (i : Item) (o : Open) → Unstarted i → level_after i o.level.0 ≡ (open_after i o).level.0
 level_other (Declaration e) o k = refl
 level_other (Instruction e) o k = refl
 level_other (Comment e) o k = refl
 level_other (Section e) o k = refl
 level_other (Reference n e) o k = refl
 level_other (Text e) o k = refl
-level_other (Start n h e m t) o k = absurd (not_among untagged 6 refl k)
+level_other (Start n h e m t) o k = absurd (k n h e m t refl)
 level_other (Finish n e) o k = refl
 level_other Doctype o k = refl
 level_other Malformed o k = refl
@@ -362,7 +359,7 @@ closed_less d starts lens (suc l) =
     let z : suc l - 1 ≡ l = omega arith in
     ap (names_of d starts lens) z
 
-pub opened_past : (d starts lens : List ℕ) (at : ℕ) (o : Open) (i : Item) → OneOf untagged (kind_of item.the_type i)
+pub opened_past : (d starts lens : List ℕ) (at : ℕ) (o : Open) (i : Item) → Unstarted i
     → opened_of d starts lens (open_after i o) ≡ after_item d at i (opened_of d starts lens o)
 opened_past d starts lens at o (Declaration e) k = refl
 opened_past d starts lens at o (Instruction e) k = refl
@@ -370,7 +367,7 @@ opened_past d starts lens at o (Comment e) k = refl
 opened_past d starts lens at o (Section e) k = refl
 opened_past d starts lens at o (Reference n e) k = refl
 opened_past d starts lens at o (Text e) k = refl
-opened_past d starts lens at o (Start n h e m t) k = absurd (not_among untagged 6 refl k)
+opened_past d starts lens at o (Start n h e m t) k = absurd (k n h e m t refl)
 opened_past d starts lens at o (Finish n e) k =
     ap (λ (ns : List (List ℕ)). record { names = ns; rooted = o.rooted }) (closed_less d starts lens o.level.0)
 opened_past d starts lens at o Doctype k = refl
@@ -429,7 +426,7 @@ module _ {counts : Bool} {list tb d o₀ g₀ : List ℕ} {states : List MatchSt
       let s = v.judging.names in
       record { deep = s.deep; starts_long = s.starts_long; lens_long = s.lens_long; inside = s.inside }
 
-  pub pass_other : OneOf untagged (kind_of item.the_type i) → {run' : Run} {o' g' : List ℕ}
+  pub pass_other : Unstarted i → {run' : Run} {o' g' : List ℕ}
       → Moves d starts lens opened.level.0 at run o g (on_other d at i) 1 (level_after i opened.level.0) (end_of at i) run' o' g'
       → {opened' : Open} → opened' ≡ open_after i opened → {n : ℕ} → n ≡ end_of at i
       → Passing counts list tb d o₀ g₀ states memo slots starts lens opened' run' n false tests o' g'

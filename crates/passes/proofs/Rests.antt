@@ -1,16 +1,14 @@
 -- What is left of a pass: from a place on, the engine comes to what it comes to from the start, and so does a sum over the elements. And
 -- what they do at one item: a tag; any other item; at the end nothing is left.
+use Rattle.document.proofs.Placing.{Unstarted}
 use mathlib.Core.Path.{◌≡◌, refl, sym, ap, ◌∙◌}
 use mathlib.Core.Bool.{Bool, true, false, cond}
 use mathlib.Core.List.{List, [], ◌∷◌, ◌++◌}
 use Prim.Native.Nat.{ℕ, zero, suc, ◌+◌, ◌-◌, ◌≤◌, ◌<◌}
 use native.Mathlib.Nat.{zero-add}
 use native.Mathlib.Omega.{arith}
-use types.Run.{OneOf}
-use denote.Enum.Declared.{tag_of as kind_of}
 use lib.ListN.{length}
 use Rattle.xml.specs.Forest.{Name}
-use Rattle.tags.specs.contracts.Item as item
 use Rattle.tags.specs.Kept.{name_from}
 use Rattle.items.specs.Item.{item_at}
 use Rattle.tags.specs.declared.Item.{Item}
@@ -19,7 +17,6 @@ use Rattle.tags.specs.declared.Item.TheVariants.{Doctype, Malformed, TooLarge, N
 use Rattle.document.specs.Place.{Opened, placement, end_of}
 use Rattle.document.specs.Judge.{start_of}
 use Rattle.document.specs.declared.Placement.TheVariants.{Fine, Over}
-use Rattle.document.proofs.Placing.{not_among}
 use Rattle.notes.proofs.Making.{part_join}
 use Rattle.trees.specs.Cut.{Judge, on}
 use Rattle.trees.specs.Grown.{Token, part, tag_of, item_tokens, tokens_from, tokens_of}
@@ -50,10 +47,6 @@ tokens_step k d at first e = rw e
 less : (n k : ℕ) → n < k → (j : ℕ) × (k ≡ suc j)
 less n zero l = absurd (omega arith)
 less n (suc j) l = (j, refl)
-
--- all but start tags and empty tags
-abbrev pub untagged : List ℕ
-untagged = 0 ∷ 1 ∷ 2 ∷ 3 ∷ 4 ∷ 5 ∷ 7 ∷ 8 ∷ 9 ∷ 10 ∷ 11 ∷ []
 
 -- what the engine makes of an item is what it makes of the item's tokens; the sum follows
 abbrev pub Makes : Judge → List ℕ → ℕ → Item → Engine → Engine → Type 0
@@ -145,7 +138,7 @@ rest_tag {v} {f} {d} {at} {x = x} {s} r {n} {h} {e} {m} {t} q l k g =
 -- ---- any other item
 
 module _ (d : List ℕ) (at : ℕ) (s : Opened) (x : Engine) where
-  pub other_makes : (v : Judge) (i : Item) → placement d at i s ≡ Fine → OneOf untagged (kind_of item.the_type i)
+  pub other_makes : (v : Judge) (i : Item) → placement d at i s ≡ Fine → Unstarted i
       → Makes v d at i x (on_other d at i x)
   other_makes v (Declaration e) z k ts = refl
   other_makes v (Instruction e) z k ts = refl
@@ -153,7 +146,7 @@ module _ (d : List ℕ) (at : ℕ) (s : Opened) (x : Engine) where
   other_makes v (Section e) z k ts = refl
   other_makes v (Reference n e) z k ts = refl
   other_makes v (Text e) z k ts = refl
-  other_makes v (Start n h e m t) z k ts = absurd (not_among untagged 6 refl k)
+  other_makes v (Start n h e m t) z k ts = absurd (k n h e m t refl)
   other_makes v (Finish n e) z k ts = refl
   other_makes v Doctype z k ts = cc
   other_makes v Malformed z k ts = cc
@@ -164,7 +157,7 @@ module _ (d : List ℕ) (at : ℕ) (s : Opened) (x : Engine) where
     stay : (y : Engine) {up : List Name} (ts : List Token) → open_of y ≡ up → t + tallied f ts up ≡ t + tallied f ts (open_of y)
     stay y ts e = ap (λ (ns : List Name). t + tallied f ts ns) (sym e)
 
-    pub other_sums : (i : Item) → placement d at i s ≡ Fine → OneOf untagged (kind_of item.the_type i)
+    pub other_sums : (i : Item) → placement d at i s ≡ Fine → Unstarted i
         → Sums f d at i x t (on_other d at i x) t
     other_sums (Declaration e) z k ts = stay (on_aside (part d at e) x) ts (open_aside (part d at e) x)
     other_sums (Instruction e) z k ts = stay (on_aside (part d at e) x) ts (open_aside (part d at e) x)
@@ -172,7 +165,7 @@ module _ (d : List ℕ) (at : ℕ) (s : Opened) (x : Engine) where
     other_sums (Section e) z k ts = stay (on_aside (part d at e) x) ts (open_aside (part d at e) x)
     other_sums (Reference n e) z k ts = stay (on_aside (part d at e) x) ts (open_aside (part d at e) x)
     other_sums (Text e) z k ts = stay (on_aside (part d at e) x) ts (open_aside (part d at e) x)
-    other_sums (Start n h e m t) z k ts = absurd (not_among untagged 6 refl k)
+    other_sums (Start n h e m t) z k ts = absurd (k n h e m t refl)
     other_sums (Finish n e) z k ts = stay (on_finish (part d at e) x) ts (open_finish (part d at e) x)
     other_sums Doctype z k ts = cc
     other_sums Malformed z k ts = cc
@@ -180,7 +173,7 @@ module _ (d : List ℕ) (at : ℕ) (s : Opened) (x : Engine) where
     other_sums Nothing z k ts = over_fine s z
 
 pub rest_other : {v : Judge} {f : List Name → ℕ} {d : List ℕ} {at : ℕ} {first : Bool} {x : Engine} {t : ℕ} → Rest v f d at first x t
-    → {i : Item} → i ≡ item_at first d at → (s : Opened) → placement d at i s ≡ Fine → OneOf untagged (kind_of item.the_type i)
+    → {i : Item} → i ≡ item_at first d at → (s : Opened) → placement d at i s ≡ Fine → Unstarted i
     → at < end_of at i → end_of at i ≤ length d → Rest v f d (end_of at i) false (on_other d at i x) t
 rest_other {v} {f} {d} {at} {x = x} {t} r {i} q s z k l g =
     rest_on r q (other_makes d at s x v i z k) (other_sums d at s x f t i z k) l g

@@ -7,14 +7,12 @@ use mathlib.Core.Logic.{⊎_elim}
 use Prim.Native.Nat.{ℕ, zero, suc, ◌+◌, ◌-◌, ◌≤◌, ◌<◌}
 use native.Mathlib.Nat.{eq-or-lt_of_le}
 use native.Mathlib.Omega.{arith}
-use borrow.Author.Rules.{rules}
 use borrow.Author.Tests.{ne_eqb, not-true}
 use mir.Syntax.{w64}
 use mir.Val.{Fits}
 use lib.Dec.{eqb}
 use lib.ListN.{length, get_or, set, drop}
 use lib.Seq.{get_or-set_same, get_or-set_other}
-use types.Run.{OneOf}
 use denote.Enum.Declared.{tag_of}
 use Rattle.xml.specs.Productions.{same as same_bytes}
 use Rattle.xml.proofs.Same.{same_refl}
@@ -36,7 +34,7 @@ use Rattle.document.specs.Place.{Opened, blank, placement}
 use Rattle.document.specs.Levels.{Names, opened_of, start_by}
 use Rattle.document.specs.declared.Open.{Open}
 use Rattle.document.specs.declared.Placement.TheVariants.{Fine}
-use Rattle.document.proofs.Placing.{formed_yes, closes_same, start_formed, place_text, place_start, place_finish, text_any, not_among}
+use Rattle.document.proofs.Placing.{formed_yes, closes_same, start_formed, place_text, place_start, place_finish, text_any}
 use Rattle.plain.proofs.Texts.{texting_start, texting_markup}
 use Rattle.quick.specs.End.{closes_here, NamedAt}
 use Rattle.quick.proofs.Told.{answer_item, answer_name}
@@ -106,7 +104,7 @@ module _ {d starts lens : List ℕ} {o : Open} (s : Names d starts lens o) (z : 
       (place_start d starts lens o at {n = k} {h = h} {e = e} {m = m} {t = twice} refl (fine o.rooted (not-true twice t)))
 
 pub ruleset usual_tags =
-    (nothing_told, open_index, open_inside, closing_fits, usual_finish, next_inside, next_fits, usual_start, rules)
+    (nothing_told, open_index, open_inside, closing_fits, usual_finish, next_inside, next_fits, usual_start)
 
 -- ---- `usual`
 
@@ -129,35 +127,29 @@ pub usual_words : (d starts lens : List ℕ) (o : Open) (at : ℕ) → (o.level.
 usual_words d starts lens o at z l n m t h q =
     usual_text d starts lens o at z l n m (texting_markup (texting_start d at (t.is h)) h q) refl
 
-pub ruleset usuals = (nothing_told, before_end, usual_text, usual_words, rules)
+pub ruleset usuals = (nothing_told, before_end, usual_text, usual_words)
 
 -- ---- `next_item`
 
 -- all but nothing
-abbrev pub tellable : List ℕ
-tellable = 0 ∷ 1 ∷ 2 ∷ 3 ∷ 4 ∷ 5 ∷ 6 ∷ 7 ∷ 8 ∷ 9 ∷ 10 ∷ []
-
-module _ {d : List ℕ} {at : ℕ} {s : Opened} {r : Item} (u : Usual d at s r) (k : OneOf tellable (tag_of item.the_type r)) where
-  told_both : (r ≡ Nothing → ⊥) → ((first : Bool) → r ≡ item_at first d at) × (Fine ≡ placement d at r s)
-  told_both n = go u
+module _ {d : List ℕ} {at : ℕ} {s : Opened} {r : Item} (u : Usual d at s r) (k : r ≡ Nothing → ⊥) where
+  told_both : ((first : Bool) → r ≡ item_at first d at) × (Fine ≡ placement d at r s)
+  told_both = go u
     where
       go : Usual d at s r → ((first : Bool) → r ≡ item_at first d at) × (Fine ≡ placement d at r s)
-      go (untold e) = absurd (n e)
+      go (untold e) = absurd (k e)
       go (told f p) = (f, p)
 
-  something : r ≡ Nothing → ⊥
-  something e = not_among tellable 11 refl (rw e at k)
-
   pub told_item : (first : Bool) → r ≡ item_at first d at
-  told_item first = (told_both something).0 first
+  told_item first = told_both.0 first
 
   pub told_placed : Fine ≡ placement d at r s
-  told_placed = (told_both something).1
+  told_placed = told_both.1
 
 pub read_inside : (first : Bool) (d : List ℕ) (at : ℕ) {i : Item} → i ≡ item_at first d at → Inside d at i
 read_inside first d at e = rw e (item_inside first d at)
 
-pub ruleset next = (told_item, told_placed, read_inside, rules)
+pub ruleset next = (told_item, told_placed, read_inside)
 
 -- ---- the names of the open elements
 

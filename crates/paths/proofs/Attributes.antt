@@ -2,11 +2,10 @@
 -- character that can't stand in one; the places of a test.
 use mathlib.Core.Path.{◌≡◌, refl, sym, ap, ◌∙◌}
 use mathlib.Core.Bool.{Bool, true, false, cond, not, ◌&&◌, ◌||◌, and-true, and-false, false≢true}
-use mathlib.Core.List.{List, [], ◌∷◌, ◌++◌, append_assoc}
+use mathlib.Core.List.{List, ◌++◌, append_assoc}
 use mathlib.Core.Option.{Option, none, some, none-ne-some, some-injective}
 use Prim.Native.Nat.{ℕ, ◌+◌, ◌-◌, ◌≤◌, ◌<◌}
 use native.Mathlib.Omega.{arith}
-use borrow.Author.Rules.{rules}
 use borrow.Author.Tests.{lt-leb, le-leb, not-true, not-false}
 use lib.Dec.{eqb}
 use lib.ListN.{length, take, drop, length-append, length-drop}
@@ -17,7 +16,7 @@ use Rattle.xml.specs.Productions.{Name, is_char, is_name, is_name_start, is_name
 use Rattle.xml.specs.Language.{Language}
 use Rattle.xml.proofs.Character.{begins_split}
 use Rattle.xml.proofs.Language.{reads_language, language_reads}
-use Rattle.xml.proofs.Run.{starts_low, run_reads, run_only, run_drop, run_length}
+use Rattle.xml.proofs.Run.{starts_low, run_reads, run_only, run_drop}
 use Rattle.utf8.specs.Place.{ends_at}
 use Rattle.utf8.specs.Sequence.{sequence_at}
 use Rattle.utf8.specs.declared.Sequence.{Sequence}
@@ -30,7 +29,6 @@ use Rattle.chars.proofs.Runs.{point_starts, bad_starts, point_wide, Running, run
 use Rattle.paths.specs.Path.{AttributeTest, print_attribute, is_value, ProperAttribute}
 use Rattle.paths.specs.Reader.{before, with_value, with_name, attribute_at}
 use Rattle.paths.specs.Place.{value_end, attribute_placed, attribute_end_at}
-use Rattle.paths.specs.declared.TestEnd.{TestEnd}
 use Rattle.paths.specs.declared.TestEnd.TheVariants.{Test as TestTo, Fault as NoTest}
 use Rattle.paths.proofs.Print.{Printed, Undoes}
 use Rattle.paths.proofs.Names.{name_ends}
@@ -142,7 +140,7 @@ module _ (c : ℕ) where
         go k false true z e = absurd (false≢true (sym e))
         go k false false true e = absurd (false≢true (sym e))
 
-pub ruleset classing = (value_low, value_mark, value_char, rules)
+pub ruleset classing = (value_low, value_mark, value_char)
 
 -- ---- the walk over a value
 
@@ -170,7 +168,7 @@ module _ {d : List ℕ} {at i : ℕ} (v : Running is_value d at i) where
       pub value_on : not x ≡ false → Running is_value d at e
       value_on n = run_on v (value_goes n) (point_wide d i q f) h
 
-pub ruleset valuing = (run_start, value_over, value_bad, value_stops, value_less, value_on, rules)
+pub ruleset valuing = (run_start, value_over, value_bad, value_stops, value_less, value_on)
 
 -- ---- places
 
@@ -255,4 +253,4 @@ module _ (d : List ℕ) (at : ℕ) {x : Bool} (q : x ≡ begins (bytes "[@") (dr
             placed at e stop (record { name = take (e - (at + 2)) u; value = before v (drop stop d) }) n b (value_after d (e + 2) k) c
             ∙ sym (rw (at_value, sym l ∙ not-false z w))
 
-pub ruleset tested = (test_unopened, test_nameless, test_unequal, test_unclosed, test_found, name_on, name_inside, value_after, rules)
+pub ruleset tested = (test_unopened, test_nameless, test_unequal, test_unclosed, test_found, name_on, name_inside, value_after)

@@ -6,7 +6,6 @@ use mathlib.Core.List.{List, [], ◌∷◌, ◌++◌}
 use mathlib.Core.Logic.{◌⊎◌, inl, inr}
 use Prim.Native.Nat.{ℕ, ◌+◌, ◌≤◌, ◌<◌}
 use native.Mathlib.Omega.{arith}
-use borrow.Author.Rules.{rules}
 use borrow.Author.Tests.{eqb-true, ltb-true}
 use lib.Dec.{eqb, ltb}
 use lib.ListN.{length, drop}
@@ -109,4 +108,4 @@ module _ {n : List ℕ} {i : ℕ} (v : Apart n i) where
           left = sym (one_step ∙ ap (λ (b : Bool). b || two_colons (drop (i + 1) n)) y) ∙ v.left;
         }
 
-pub ruleset apart = (apart_start, apart_end, apart_found, apart_on, rules)
+pub ruleset apart = (apart_start, apart_end, apart_found, apart_on)

@@ -6,13 +6,12 @@ use mathlib.Core.List.{List, ◌++◌}
 use mathlib.Core.Option.{Option, none, some}
 use Prim.Native.Nat.{ℕ, ◌+◌}
 use native.Mathlib.Omega.{arith}
-use borrow.Author.Rules.{rules}
 use lib.ListN.{length, drop, length-append}
 use lib.Seq.{drop-drop}
 use Rattle.xml.specs.Notation.{bytes}
 use Rattle.xml.specs.Character.{begins}
 use Rattle.paths.specs.Path.{AttributeTest, print_attribute, print_mark}
-use Rattle.paths.specs.Reader.{attribute_at, print_end, mark_at, with_mark, behind, end_at}
+use Rattle.paths.specs.Reader.{attribute_at, mark_at, with_mark, behind, end_at}
 use Rattle.paths.specs.Place.{value_from, attribute_placed, attribute_end_at, end_placed, line_end_at, mark_placed, mark_end_at}
 use Rattle.paths.specs.declared.TestEnd.{TestEnd}
 use Rattle.paths.specs.declared.TestEnd.TheVariants.{Test as TestTo, Fault as NoTest}
@@ -35,7 +34,7 @@ module _ (name len value size : ℕ) (d : List ℕ) (at : ℕ) {x : Bool} (q : x
     unfolding mark_end_at mark_at
     mark_fault m = sym (rw (sym q ∙ n, sym f ∙ m))
 
-pub ruleset marking = (mark_there, mark_not, mark_fault, rules)
+pub ruleset marking = (mark_there, mark_not, mark_fault)
 
 -- ---- the whole end
 
@@ -82,4 +81,4 @@ module _ (d : List ℕ) (at : ℕ) {r : TestEnd} (q : r ≡ attribute_end_at d a
       go none z = marked (mark_at (drop at d))
       go (some x) z = absurd (let z : ◌≡◌ {A = ℕ} 0 1 = cc in omega arith)
 
-pub ruleset ending = (end_tested, end_untested, rules)
+pub ruleset ending = (end_tested, end_untested)

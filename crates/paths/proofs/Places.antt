@@ -6,7 +6,6 @@ use mathlib.Core.List.{List, ◌++◌}
 use mathlib.Core.Option.{Option, none, some}
 use Prim.Native.Nat.{ℕ, ◌+◌, ◌-◌, ◌≤◌, ◌<◌}
 use native.Mathlib.Omega.{arith}
-use borrow.Author.Rules.{rules}
 use borrow.Author.Tests.{not-false}
 use lib.ListN.{length, take, drop, length-append, length-drop}
 use lib.Seq.{drop-drop, drop-append_seam, length-take-le}
@@ -102,7 +101,7 @@ module _ (d : List ℕ) (at : ℕ) {x : Bool} (q : x ≡ begins (bytes "*") (dro
           let w : e ≡ at + (e - at) = omega arith in
           rw (sym q ∙ n, v.found, v.size, sym h ∙ t, l) (ap (StepTo k at (e - at)) w)
 
-pub ruleset testing = (test_star, test_fault, test_refused, test_name, name_on, name_inside, rules)
+pub ruleset testing = (test_star, test_fault, test_refused, test_name, name_on, name_inside)
 
 -- ---- a step
 
@@ -142,4 +141,4 @@ module _ (d : List ℕ) (at : ℕ) {x : Bool} (q : x ≡ begins (bytes "//") (dr
         unfolding step_end_at step_at kind_at
         step_fault t = sym (rw (sym q ∙ n, sym f ∙ m, sym g ∙ l, sym h ∙ t))
 
-pub ruleset stepping = (step_descends, step_stays, step_anywhere, step_child, step_fault, rules)
+pub ruleset stepping = (step_descends, step_stays, step_anywhere, step_child, step_fault)

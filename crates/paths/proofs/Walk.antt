@@ -7,7 +7,6 @@ use mathlib.Core.Option.{none, some}
 use Prim.Native.Nat.{ℕ, ◌+◌, ◌-◌, ◌≤◌, ◌<◌}
 use native.Mathlib.Nat.{pos_of_ne-zero}
 use native.Mathlib.Omega.{arith}
-use borrow.Author.Rules.{rules}
 use borrow.Author.Tests.{not-true, not-false}
 use lib.Dec.{leb}
 use lib.ListN.{length, drop}
@@ -168,4 +167,4 @@ module _ {d : List ℕ} {from line at count : ℕ} {small : Bool} (w : Walking d
 
 pub ruleset walk_line = (walk_start, step_less, step_room, walk_on, no_steps, no_end, line_less, line_large, line_next)
 
-pub ruleset walk = (line_start, too_long, line_sound, line_past, walk_line, rules)
+pub ruleset walk = (line_start, too_long, line_sound, line_past, walk_line)

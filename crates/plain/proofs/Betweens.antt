@@ -6,7 +6,6 @@ use mathlib.Core.List.{List}
 use Prim.Native.Nat.{ℕ, ◌+◌, ◌^◌, ◌≤◌, ◌<◌}
 use native.Mathlib.Omega.{arith}
 use lib.ListN.{length, drop}
-use borrow.Author.Rules.{rules}
 use borrow.Author.Tests.{not-true, not-false}
 use mir.Syntax.{w64}
 use mir.Val.{Fits}
@@ -69,4 +68,4 @@ module _ (d : List ℕ) (at : ℕ) {r : Reading} where
   unfolding between_of section_of
   section_between e = e
 
-pub ruleset enclosed = (text_add, between_none, between_other, between_ends, comment_between, section_between, rules)
+pub ruleset enclosed = (text_add, between_none, between_other, between_ends, comment_between, section_between)

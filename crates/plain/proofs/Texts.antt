@@ -8,7 +8,6 @@ use Prim.Native.Nat.{ℕ, ◌+◌, ◌-◌, ◌≤◌, ◌<◌}
 use native.Mathlib.Omega.{arith}
 use lib.Dec.{eqb}
 use lib.ListN.{length, get_or, drop}
-use borrow.Author.Rules.{rules}
 use borrow.Author.Tests.{ne_eqb}
 use Rattle.xml.specs.Notation.{bytes}
 use Rattle.xml.specs.Character.{begins}
@@ -114,4 +113,4 @@ pub texting_less : (d : List ℕ) {i j : ℕ} → i < length d → j ≡ ends_at
     → length d - j < length d - i
 texting_less d {i} h e = let a = until_ahead (is_mark 0x5D) d (i + 1) e in omega arith
 
-pub ruleset texting = (texting_start, texting_over, texting_markup, texting_fault, texting_on, texting_less, rules)
+pub ruleset texting = (texting_start, texting_over, texting_markup, texting_fault, texting_on, texting_less)

@@ -1,12 +1,11 @@
 -- The class of a code point, as the table has it and as the ranges give it. In order: a bit of the table; what goes on with a name; the
 -- class by the two tests.
 use mathlib.Core.Path.{◌≡◌, refl, sym, ap, ◌∙◌}
-use mathlib.Core.Bool.{Bool, true, false, cond, ◌||◌}
+use mathlib.Core.Bool.{Bool, true, false, cond}
 use mathlib.Core.List.{List, ◌++◌}
 use Prim.Native.Nat.{ℕ, zero, suc, ◌+◌, ◌*◌, ◌/◌, ◌%◌, ◌^◌, ◌<◌}
 use native.Mathlib.Nat.{le_of_suc-le-suc, not-suc-le-zero, add-zero, zero-add, add-suc, suc-add}
 use native.Mathlib.Omega.{arith}
-use borrow.Author.Rules.{rules}
 use lib.Dec.{eqb}
 use lib.ListN.{length, get_or, get_or-append}
 use lib.Pow.{shr-shr}
@@ -118,4 +117,4 @@ module _ (c : ℕ) {x : Bool} (e : x ≡ is_name_start c) where
         more_is : is_name_more c ≡ y
         more_is = sym (f ∙ rw (sym e ∙ h) refl)
 
-pub ruleset classing = (class_two, class_one, class_zero, rules)
+pub ruleset classing = (class_two, class_one, class_zero)

@@ -6,7 +6,6 @@ use mathlib.Core.List.{List, ◌∷◌}
 use Prim.Native.Nat.{ℕ, ◌+◌, ◌-◌, ◌≤◌, ◌<◌}
 use native.Mathlib.Nat.{add_assoc}
 use native.Mathlib.Omega.{arith}
-use borrow.Author.Rules.{rules}
 use borrow.Author.Tests.{le-leb, lt-leb}
 use lib.ListN.{length, get_or, drop}
 use Rattle.points.specs.Class.{pairs}
@@ -44,4 +43,4 @@ module _ {t : List ℕ} {c k : ℕ} (v : Ranging t c k) where
   range_over h l m =
       record { in_t = omega arith; same = sym (rw (drop_two t k (omega arith), le-leb _ _ l, lt-leb _ _ m)) ∙ v.same }
 
-pub ruleset ranging = (range_start, range_end, range_odd, range_in, range_under, range_over, rules)
+pub ruleset ranging = (range_start, range_end, range_odd, range_in, range_under, range_over)

@@ -5,7 +5,6 @@ use mathlib.Core.Bool.{Bool, true, false, cond, ◌&&◌, and_assoc}
 use mathlib.Core.List.{List, [], ◌∷◌, ◌++◌}
 use Prim.Native.Nat.{ℕ, ◌+◌, ◌-◌, ◌≤◌, ◌<◌}
 use native.Mathlib.Omega.{arith}
-use borrow.Author.Rules.{rules}
 use borrow.Author.Tests.{le-leb, lt-leb, ne_eqb}
 use lib.Bits.{bit_xor}
 use lib.Dec.{eqb, leb}
@@ -85,4 +84,4 @@ module _ (d : List ℕ) (at x n : ℕ) (h : x + n ≤ length d) where
         pub end_other : b ≡ false → 0 ≡ cond (closes_here d at x n) (n + 3) 0
         end_other t = rw (asked, s, g, ← e, t)
 
-pub ruleset ending = (end_short, end_no_slash, end_open, end_told, end_other, rules)
+pub ruleset ending = (end_short, end_no_slash, end_open, end_told, end_other)

@@ -11,7 +11,7 @@ use Prim.Native.Nat.{ℕ, ◌+◌, ◌*◌, ◌<◌}
 use native.Mathlib.Omega.{arith}
 use lib.Dec.{eqb, leb, ltb}
 use borrow.Author.Tests.{eqb-true, ne_eqb, leb-true, ltb-true}
-use Rattle.xml.specs.Notation.{Reads, Star, done, more, char, such, plus, text, bytes}
+use Rattle.xml.specs.Notation.{Reads, Star, done, more, char, such, plus, bytes}
 use Rattle.xml.specs.Range.{Range, ◌to◌, ◌–◌, only, inside, within}
 use Rattle.xml.specs.Utf8.{utf8, is_scalar}
 use Rattle.xml.specs.Character.{character, guess, value_of as character_value}
@@ -22,7 +22,7 @@ use Rattle.xml.proofs.Bools.{and_left, and_right, or_either, inside_bounds}
 use Rattle.xml.proofs.Utf8.{utf8_low, scalar_low, scalar_high, scalar_ascii}
 use Rattle.xml.proofs.Computes.{derives_language}
 use Rattle.xml.proofs.Same.{same_equal}
-use Rattle.xml.proofs.Language.{language_reads, reads_suffix}
+use Rattle.xml.proofs.Language.{language_reads}
 use Rattle.readers.specs.Read.{and_then, or_else, expect}
 use Rattle.readers.specs.Value.{is_decimal, is_hexadecimal, ends_number, Said, saying, rest_of, reference_end}
 use Rattle.readers.specs.Value.{digits_of, char_ref_of, entity_of, entity_ref_of, reference_of}

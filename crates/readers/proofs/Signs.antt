@@ -4,7 +4,7 @@
 use mathlib.Core.Path.{◌≡◌, refl, sym, ap, ◌∙◌}
 use mathlib.Core.Bool.{Bool, true, false, cond, not, ◌&&◌, false≢true}
 use mathlib.Core.List.{List, [], ◌∷◌, ◌++◌, map, append_cancel_left}
-use mathlib.Core.Logic.{◌⊎◌, inl, inr}
+use mathlib.Core.Logic.{inl, inr}
 use mathlib.Core.Option.{Option, none, some, none-ne-some, some-injective}
 use Prim.Native.Nat.{ℕ, zero, suc, ◌-◌, ◌<◌}
 use Prim.Native.String.{String}
@@ -13,20 +13,20 @@ use lib.ListN.{length, get_or, drop, length-append}
 use lib.Seq.{drop_at, drop-append_seam}
 use lib.Dec.{lit<}
 use borrow.Author.Tests.{not-true}
-use Rattle.xml.specs.Notation.{Reads, Star, done, more, char, bytes, text, among, ◌∣◌, ◌⨾◌, ◌∗}
+use Rattle.xml.specs.Notation.{Reads, Star, done, more, char, bytes, text, ◌∣◌, ◌⨾◌, ◌∗}
 use Rattle.xml.specs.Utf8.{utf8, is_scalar}
 use Rattle.xml.specs.Character.{begins, character}
 use Rattle.xml.specs.Productions.{is_char, except, Char, Reference, AttValue, CDSect}
-use Rattle.xml.specs.Sign.{Sign, literal, referred, Where, in_text, in_section, in_double, in_single, plain_in, refers_in, Free, Refers}
+use Rattle.xml.specs.Sign.{Sign, literal, referred, Where, in_text, in_section, in_double, in_single, plain_in, refers_in, Free}
 use Rattle.xml.specs.Sign.{Comes, itself, said, Signs, over, next, Valued, double, single, Sectioned, section}
 use Rattle.xml.proofs.Bools.{and_left, and_right, true-false}
-use Rattle.xml.proofs.Utf8.{utf8_low, utf8_long}
+use Rattle.xml.proofs.Utf8.{utf8_long}
 use Rattle.xml.proofs.Character.{begins_append, begins_split, character_utf8, character_some, low_first}
 use Rattle.readers.specs.Read.{seek, many}
 use Rattle.readers.specs.Value.{Said, reference_of, value_of}
 use Rattle.readers.specs.Plain.{text_of, section_of}
 use Rattle.readers.specs.Meaning.{Chars, TextIs}
-use Rattle.readers.specs.Sign.{Next, by_reference, closed, by_itself, next_of, next_rest, next_end, signs_by, signs_in, Texted}
+use Rattle.readers.specs.Sign.{Next, by_reference, closed, by_itself, next_of, next_rest, next_end, signs_in, Texted}
 use Rattle.readers.proofs.Left.{Shorter, shorter_length}
 use Rattle.readers.proofs.Many.{Shrinks, many_stop, many_step}
 use Rattle.readers.proofs.Plain.{begins_other, seek_found, seek_char, past, upto_first, section_decides}

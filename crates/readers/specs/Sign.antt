@@ -1,6 +1,6 @@
 -- The next character with its origin, found by computing: in text, in a CDATA section, in a value in either quotes (xml/specs/Sign). Then
 -- all that come one after the other, and what is left behind them. Text with its characters, in the grammar's words, is at the end.
-use Rattle.std.specs.Prelude.{◌≡◌, Bool, true, false, cond, not, ◌&&◌, List, [], ◌∷◌, map, ◌⊎◌, ℕ, zero, suc, ◌-◌, length, drop}
+use Rattle.std.specs.Prelude.{◌≡◌, Bool, false, cond, not, ◌&&◌, List, [], ◌∷◌, map, ◌⊎◌, ℕ, zero, suc, ◌-◌, length, drop}
 use Rattle.std.proofs.Math.Option.{Option, none, some}
 use Rattle.xml.specs.Notation.{Reads, ◌∣◌, bytes, text}
 use Rattle.xml.specs.Utf8.{utf8}

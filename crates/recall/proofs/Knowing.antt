@@ -1,10 +1,9 @@
 -- A record that is kept and is of the row and the state asked for is what is known of them.
 use mathlib.Core.Path.{◌≡◌, refl, sym, ap, ap₂, ◌∙◌}
-use mathlib.Core.Bool.{Bool, true, false, cond}
+use mathlib.Core.Bool.{Bool, true, false}
 use mathlib.Core.List.{List}
-use Prim.Native.Nat.{ℕ, ◌≤◌, ◌<◌}
+use Prim.Native.Nat.{ℕ, ◌≤◌}
 use native.Mathlib.Omega.{arith}
-use borrow.Author.Rules.{rules}
 use borrow.Author.Tests.{eqb-true, eq-eqb, ne_eqb}
 use lib.Dec.{eqb}
 use Rattle.matcher.specs.Fit.{fit_at}
@@ -62,4 +61,4 @@ pub tests_counted : {counts : Bool} → counts ≡ true → (t : List ℕ) (k : 
     → (n ≡ tests_by m f) × (n ≤ 512) → (n ≡ tests_in counts t k m) × (n ≤ 512)
 tests_counted e t k m f n = (n.0 ∙ ap (tests_by m) f ∙ rw e refl, n.1)
 
-pub ruleset knowing = (is_same, is_other_lem, recalled, known_made, unknown_made, not_counted, tests_counted, rules)
+pub ruleset knowing = (is_same, is_other_lem, recalled, known_made, unknown_made, not_counted, tests_counted)

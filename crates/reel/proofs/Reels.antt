@@ -1,4 +1,5 @@
 -- The reader: the invariant at the beginning, after one item more, and what is said where it stops.
+use Rattle.document.proofs.Placing.{Unstarted}
 use mathlib.Core.Path.{◌≡◌, refl, sym, ap, ap₂, ◌∙◌}
 use mathlib.Core.Bool.{Bool, true, false}
 use mathlib.Core.List.{List}
@@ -7,11 +8,7 @@ use Prim.Native.Nat.{ℕ, zero, suc, ◌+◌, ◌-◌, ◌*◌, ◌≤◌, ◌<�
 use native.Mathlib.Nat.{eq-or-lt_of_le}
 use native.Mathlib.Numerals.{add-one}
 use native.Mathlib.Omega.{arith}
-use borrow.Author.Rules.{rules}
-use types.Run.{OneOf}
-use denote.Enum.Declared.{tag_of as kind_of}
 use lib.ListN.{length, set}
-use Rattle.tags.specs.contracts.Item as item
 use Rattle.tags.specs.declared.Item.{Item}
 use Rattle.tags.specs.declared.Item.TheVariants.{Declaration, Instruction, Comment, Section, Reference, Text, Start, Finish}
 use Rattle.tags.specs.declared.Item.TheVariants.{Doctype, Malformed, TooLarge, Nothing}
@@ -26,11 +23,9 @@ use Rattle.document.specs.declared.Placement.TheVariants as placed
 use Rattle.document.specs.declared.Why.{Why}
 use Rattle.document.proofs.After.{start_room, opened_after, names_after}
 use Rattle.document.proofs.Judging.{fine_ahead}
-use Rattle.document.proofs.Placing.{not_among}
 use Rattle.quick.proofs.Opened.{start_named}
 use Rattle.passes.specs.Opens.{Opens}
 use Rattle.passes.proofs.Telling.{opens_kept, opens_more}
-use Rattle.passes.proofs.Rests.{untagged}
 use Rattle.passes.proofs.Passing.{opened_past}
 use Rattle.tape.specs.Tape.{entry_at, begin_at, tags_of, put_at, image_of}
 use Rattle.tape.specs.Taped.{Spot, spot_of, item_of, next_of, behind, tags_in, Taped}
@@ -73,21 +68,21 @@ module _ {d starts lens : List ℕ} {o : Open} (s : Names d starts lens o) (v : 
     opens_after Nothing h f q = kept 0 o.level.0 (omega arith)
 
 -- an item that is no start tag and no empty tag opens nothing
-level_less : (i : Item) (o : Open) → OneOf untagged (kind_of item.the_type i) → (open_after i o).level.0 ≤ o.level.0
+level_less : (i : Item) (o : Open) → Unstarted i → (open_after i o).level.0 ≤ o.level.0
 level_less (Declaration e) o k = omega arith
 level_less (Instruction e) o k = omega arith
 level_less (Comment e) o k = omega arith
 level_less (Section e) o k = omega arith
 level_less (Reference n e) o k = omega arith
 level_less (Text e) o k = omega arith
-level_less (Start n h e m t) o k = absurd (not_among untagged 6 refl k)
+level_less (Start n h e m t) o k = absurd (k n h e m t refl)
 level_less (Finish n e) o k = omega arith
 level_less Doctype o k = omega arith
 level_less Malformed o k = omega arith
 level_less TooLarge o k = omega arith
 level_less Nothing o k = omega arith
 
-module _ {d starts lens : List ℕ} (o : Open) (i : Item) (k : OneOf untagged (kind_of item.the_type i)) where
+module _ {d starts lens : List ℕ} (o : Open) (i : Item) (k : Unstarted i) where
   names_less : Names d starts lens o → Names d starts lens (open_after i o)
   names_less s =
       let l = level_less i o k in
@@ -107,7 +102,7 @@ module _ {d starts lens : List ℕ} (o : Open) (i : Item) (k : OneOf untagged (k
 abbrev pub Named : List ℕ → List ℕ → ℕ → ℕ → Item → List ℕ → List ℕ → Type 0
 Named starts lens level at i starts' lens' =
     ((starts' ≡ set starts level (at + 1)) × (lens' ≡ set lens level (len_of i)))
-    ⊎ (OneOf untagged (kind_of item.the_type i) × (starts' ≡ starts) × (lens' ≡ lens))
+    ⊎ (Unstarted i × (starts' ≡ starts) × (lens' ≡ lens))
 
 -- ---- the beginning
 
@@ -283,4 +278,4 @@ module _ {d : List ℕ} {s : Spot} {starts lens tape : List ℕ} {opened : Open}
             long = ap length et ∙ put_long tape tags at i ∙ v.long;
           })
 
-pub ruleset reels = (reel_start, reel_over, reel_fault, reel_fits, reel_counts, reel_less, rules)
+pub ruleset reels = (reel_start, reel_over, reel_fault, reel_fits, reel_counts, reel_less)

@@ -3,15 +3,15 @@
 use mathlib.Core.Path.{◌≡◌, refl, sym, ap, ◌∙◌}
 use mathlib.Core.List.{List}
 use mathlib.Core.Option.{Option, none, some, none-ne-some}
-use Prim.Native.Nat.{ℕ, ◌≤◌}
-use lib.ListN.{length, drop}
+use Prim.Native.Nat.{ℕ}
+use lib.ListN.{drop}
 use Rattle.xml.specs.Sign.{Sign as Origin, literal, referred, Where, Comes}
 use Rattle.utf8.specs.Place.{Stands, ends_at}
 use Rattle.utf8.proofs.Place.{stands_ends}
 use Rattle.chars.specs.Name.{reading_at}
 use Rattle.chars.specs.declared.name.Reading.{Reading}
 use Rattle.chars.specs.declared.name.Reading.TheVariants.{Ends, Fault as NoEnd}
-use Rattle.readers.specs.Value.{Said, saying, reference_of, rest_of, reference_end}
+use Rattle.readers.specs.Value.{Said, reference_of, rest_of, reference_end}
 use Rattle.readers.specs.Sign.{Next, next_of}
 use Rattle.readers.proofs.Left.{Shorter, shorter_end, shorter_place, end_stands, end_ahead}
 use Rattle.readers.proofs.Reference.{refers_said, said_refers, refers_shorter}

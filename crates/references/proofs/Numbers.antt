@@ -8,7 +8,6 @@ use mathlib.Core.Option.{none, some}
 use Prim.Native.Nat.{ℕ, ◌+◌, ◌-◌, ◌*◌, ◌≤◌, ◌<◌, min}
 use native.Mathlib.Nat.{mul-le-mul, mul-le-mul_left, min-eq_left}
 use native.Mathlib.Omega.{arith}
-use borrow.Author.Rules.{rules}
 use borrow.Author.Tests.{lt-leb, lt-ltb, le-ltb, eq-eqb, ne_eqb, leb-true, leb-false}
 use mir.Syntax.{w32}
 use mir.Val.{Fits}
@@ -88,7 +87,7 @@ module _ {x : ℕ} where
   pub digit_above : 0x67 ≤ x → Digit x 16
   digit_above l = none_of (over 0x30 0x39 x (omega arith)) (over 0x61 0x66 x l) (over 0x41 0x46 x (omega arith))
 
-pub ruleset valuing = (digit_below, digit_decimal, digit_between, digit_upper, digit_middle, digit_lower, digit_above, rules)
+pub ruleset valuing = (digit_below, digit_decimal, digit_between, digit_upper, digit_middle, digit_lower, digit_above)
 
 -- ---- the end of a number
 
@@ -105,7 +104,7 @@ module _ (x n : ℕ) (any : Bool) where
   unfolding ends_number
   number_char h e q = rw (eq-eqb x 0x3B h, e) q
 
-pub ruleset ending = (number_other, number_empty, number_char, rules)
+pub ruleset ending = (number_other, number_empty, number_char)
 
 -- ---- one digit more
 
@@ -118,7 +117,7 @@ digit_mul {n} {base} h l = record { fits = let q = product n base h l in omega a
 pub digit_add : {n base v : ℕ} → n ≤ 0x110000 → base ≤ 16 → v < 16 → Fits w32 (n * base + v)
 digit_add {n} {base} h l k = record { fits = let q = product n base h l in omega arith }
 
-pub ruleset adding = (digit_mul, digit_add, rules)
+pub ruleset adding = (digit_mul, digit_add)
 
 -- ---- past the last code point the number does not matter
 
@@ -222,4 +221,4 @@ module _ {d : List ℕ} {at base i n : ℕ} (k : Base base) (q : Numbering d at 
           }
 
 pub ruleset numbering =
-    (ten, sixteen, base_small, number_start, number_short, number_ends, number_fault, value_small, number_more, rules)
+    (ten, sixteen, base_small, number_start, number_short, number_ends, number_fault, value_small, number_more)

@@ -1,10 +1,10 @@
 -- The next character at a place: whether references are read there, `]]>`, and which characters stand for themselves; one that does; and
 -- the next, by `&` or not.
 use mathlib.Core.Path.{◌≡◌, refl, sym, ap, ◌∙◌}
-use mathlib.Core.Bool.{Bool, true, false, cond, not, ◌&&◌, ◌||◌, or-true, or-false, false≢true}
+use mathlib.Core.Bool.{Bool, true, false, not, ◌&&◌, ◌||◌, or-true, or-false, false≢true}
 use mathlib.Core.List.{List}
 use mathlib.Core.Option.{Option, none, some}
-use Prim.Native.Nat.{ℕ, ◌+◌, ◌-◌}
+use Prim.Native.Nat.{ℕ, ◌+◌}
 use native.Mathlib.Omega.{arith}
 use borrow.Author.Rules.{rules}
 use borrow.Author.Tests.{eq-eqb, ne_eqb}
@@ -179,7 +179,7 @@ module _ (w : Stands) (d : List ℕ) (at : ℕ) {b : Bool} (e : b ≡ closed w (
           go none x = absurd (false≢true cc)
           go (some v) x = let j : c ≡ v = cc in rw (← j, sym h ∙ y) refl
 
-pub ruleset standing = (itself_closed, itself_bad, itself_plain, itself_other, rules)
+pub ruleset standing = (itself_closed, itself_bad, itself_plain, itself_other)
 
 -- ---- the next
 
@@ -207,4 +207,4 @@ module _ (w : Stands) (d : List ℕ) (at : ℕ) {b : Bool} (e : b ≡ refers_in 
         go none x = refl
         go (some v) x = absurd (false≢true cc)
 
-pub ruleset coming = (next_other, next_referred, next_silent, rules)
+pub ruleset coming = (next_other, next_referred, next_silent)

@@ -6,7 +6,6 @@ use mathlib.Core.List.{List, [], ◌∷◌, ◌++◌}
 use Prim.Native.Nat.{ℕ, zero, suc, ◌+◌, ◌*◌, ◌/◌, ◌^◌, ◌≤◌, ◌<◌}
 use native.Mathlib.Nat.{pow-succ'}
 use native.Mathlib.Omega.{arith}
-use borrow.Author.Rules.{rules}
 use borrow.Author.Tests.{lt-ltb, le-ltb, ltb-false}
 use lib.Dec.{ltb}
 use lib.ListN.{length, length-append}
@@ -71,4 +70,4 @@ pub wrote_digits : {o o₁ o₂ : List ℕ} {at a b : ℕ} (n : ℕ) → 10 ≤ 
     → Wrote o₁ a (last_digit n ∷ []) b o₂ → Wrote o at (decimal n) b o₂
 wrote_digits {o} {at = at} {b = b} n l p q = rw (← decimal_more n l) (wrote_more p q)
 
-pub ruleset decimals = (wrote_digit, wrote_digits, rules)
+pub ruleset decimals = (wrote_digit, wrote_digits)

@@ -5,7 +5,6 @@ use mathlib.Core.Bool.{Bool, true, false, cond}
 use mathlib.Core.List.{List, [], ◌∷◌, ◌++◌}
 use Prim.Native.Nat.{ℕ, ◌+◌, ◌≤◌, ◌<◌}
 use native.Mathlib.Omega.{arith}
-use borrow.Author.Rules.{rules}
 use borrow.Author.Tests.{lt-ltb, le-ltb, eq-eqb, ne_eqb, ltb-false}
 use lib.Dec.{ltb}
 use lib.ListN.{length, take, drop}
@@ -39,7 +38,7 @@ module _ {o o₁ o₂ : List ℕ} {at a r : ℕ} (n : ℕ) (p : Wrote o at (32 �
   pub spaced_short : n < 18446744073709551616 → r ≤ at + 21
   spaced_short h = omega (arith, p.long, q.long, decimal_short n h)
 
-pub ruleset spacing = (wrote_spaced, spaced_short, rules)
+pub ruleset spacing = (wrote_spaced, spaced_short)
 
 -- s and t are the two numbers, with a space before each
 module _ {o o₁ o₂ o₃ o₄ w s t : List ℕ} {a b e r : ℕ} (p : Wrote o 0 w a o₁) (q : Wrote o₁ a s b o₂) (u : Wrote o₂ b t e o₃)
@@ -58,7 +57,7 @@ module _ {o o₁ o₂ o₃ s w : List ℕ} {a b r : ℕ} (p : Wrote o 0 s a o₁
   pub kept_short : a ≤ 50 → length w ≤ 65536 → r ≤ 65600
   kept_short k h = omega (arith, q.long, u.long)
 
-pub ruleset keeping = (wrote_kept, kept_short, rules)
+pub ruleset keeping = (wrote_kept, kept_short)
 
 -- ---- the cut in the room
 
@@ -152,4 +151,4 @@ front_laid {o} {w = w} {r} p l h =
     let e : length w ≡ r = omega (arith, p.long) in
     rw (p.laid, laid_whole w o (omega arith)) (take_at w (drop (length w) o) r e)
 
-pub ruleset telling = (tell_long, rules)
+pub ruleset telling = (tell_long)

@@ -6,7 +6,6 @@ use mathlib.Core.List.{List, [], ◌∷◌, ◌++◌, append_assoc, append-nil}
 use Prim.Native.Nat.{ℕ, zero, suc, ◌+◌, ◌-◌, ◌*◌, ◌≤◌, ◌<◌}
 use native.Mathlib.Numerals.{add-one}
 use native.Mathlib.Omega.{arith}
-use borrow.Author.Rules.{rules}
 use lib.ListN.{length, drop, length-drop}
 use lib.Seq.{length-take-le}
 use Rattle.tags.specs.declared.Item.{Item}
@@ -32,7 +31,7 @@ use Rattle.rows.proofs.Laying.{lays_none, lays_more, lays_long}
 pub part_start : {i : Item} {p : Part} {n h e : ℕ} {m t : Bool} → i ≡ Start n h e m t → p ≡ start_part m → p ≡ part_of i
 part_start q r = rw q r
 
-pub ruleset parting = (part_start, rules)
+pub ruleset parting = (part_start)
 
 -- the text from an item on, n deep: what it says, and what follows it
 abbrev part_text : Part → ℕ → List ℕ → List Token → List ℕ
@@ -241,7 +240,7 @@ module _ {d : List ℕ} {from : ℕ} {q : Bool} {o o₁ : List ℕ} {to i depth 
       }
 
 pub ruleset gathering =
-    (gathered_start, gathered_stop, gathered_close, gathered_down, gathered_whole, gathered_up, gathered_over, gathered_said, rules)
+    (gathered_start, gathered_stop, gathered_close, gathered_down, gathered_whole, gathered_up, gathered_over, gathered_said)
 
 -- ---- the joints of a path
 
@@ -255,4 +254,4 @@ joint_none e = (rw e wrote_none, omega arith)
 pub joint_laid : {k to r : ℕ} {o o₁ : List ℕ} → (k ≡ 0 → ⊥) → Wrote o to (0x2F ∷ []) r o₁ → Wrote o to (joint k) r o₁ × (r ≤ to + 1)
 joint_laid {k} h w = (rw (joint_suc k h) w, omega (arith, w.long))
 
-pub ruleset joining = (joint_none, joint_laid, rules)
+pub ruleset joining = (joint_none, joint_laid)

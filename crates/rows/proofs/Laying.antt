@@ -4,7 +4,6 @@ use mathlib.Core.Bool.{Bool, true, false, cond, ◌&&◌, ◌||◌, true≢false
 use mathlib.Core.List.{List, [], ◌∷◌, ◌++◌, append_assoc, append-nil}
 use Prim.Native.Nat.{ℕ, suc, ◌+◌, ◌*◌, ◌/◌, ◌%◌, ◌≤◌, ◌<◌}
 use native.Mathlib.Omega.{arith}
-use borrow.Author.Rules.{rules}
 use borrow.Author.Tests.{eq-eqb, ne_eqb, lt-ltb, le-ltb}
 use lib.Dec.{eqb}
 use lib.ListN.{length, get_or, drop, drop_of_length-le}
@@ -103,7 +102,7 @@ pub lay_once : {q : Bool} {o o₁ : List ℕ} {to a b : ℕ} {x : Bool} → x �
     → Wrote o to (b ∷ []) a o₁ → Lays q o to (b ∷ []) (record { to = a; special = x }) o₁ × (a ≤ to + 2)
 lay_once {q} {b = b} i e w = (record { wrote = rw (inner_once q b e) w; holds = lone b i }, omega (arith, w.long))
 
-pub ruleset byting = (lay_twice, lay_once, rules)
+pub ruleset byting = (lay_twice, lay_once)
 
 pub quote_laid : {q : Bool} {o o₁ : List ℕ} {to a : ℕ} → q ≡ true → Wrote o to (0x22 ∷ []) a o₁ → Wrote o to (quote q) a o₁
 quote_laid p w = rw p w
@@ -111,7 +110,7 @@ quote_laid p w = rw p w
 pub quote_none : {q : Bool} {o : List ℕ} {to : ℕ} → q ≡ false → Wrote o to (quote q) to o
 quote_none p = rw p wrote_none
 
-pub ruleset quoting = (quote_laid, quote_none, rules)
+pub ruleset quoting = (quote_laid, quote_none)
 
 -- ---- a byte of a line
 
@@ -205,7 +204,7 @@ lined_over {raw} {after = after} {i = i} v h =
     v.all ∙ ap (λ (x : List ℕ). v.done ++ lines_from after x) (drop_of_length-le raw h) ∙ append-nil v.done in
     (rw e v.laid, omega (arith, v.near, v.inside))
 
-pub ruleset lining = (lay_cr, lay_kept, lay_skipped, lined_start, lined_step, lined_over, rules)
+pub ruleset lining = (lay_cr, lay_kept, lay_skipped, lined_start, lined_step, lined_over)
 
 -- ---- characters: bytes, one behind another
 
@@ -214,7 +213,7 @@ pub lays_two : {q : Bool} {o o₁ o₂ : List ℕ} {to a b : ℕ} {r t : Laid} �
     → Lays q o to (a ∷ b ∷ []) (record { to = t.to; special = r.special || t.special }) o₂ × (t.to ≤ to + 4)
 lays_two (v, h) (w, k) = (lays_more v w, omega arith)
 
-pub ruleset pairing = (lays_two, rules)
+pub ruleset pairing = (lays_two)
 
 module _ {q : Bool} {o o₁ : List ℕ} {to c : ℕ} where
   pub char_one : {r : Laid} → c < 0x80 → Lays q o to (c ∷ []) r o₁ × (r.to ≤ to + 2) → Lays q o to (utf8 c) r o₁ × (r.to ≤ to + 8)
@@ -241,11 +240,11 @@ module _ {q : Bool} {o o₁ : List ℕ} {to c : ℕ} where
   char_four {x = x} {y} {z} h d e f (v, n) (w, m) =
       (rw (le-ltb c 0x80 (omega arith), le-ltb c 0x800 (omega arith), le-ltb c 0x10000 h, ← d, ← e, ← f) (lays_more v w), omega arith)
 
-pub ruleset encoding = (char_one, char_two, char_three, char_four, rules)
+pub ruleset encoding = (char_one, char_two, char_three, char_four)
 
 -- ---- the quotes, the line end and the header
 
 pub lays_end : {o o₁ o₂ : List ℕ} {to a r : ℕ} → Wrote o to (0xD ∷ []) a o₁ → Wrote o₁ a (0xA ∷ []) r o₂ → Wrote o to (0xD ∷ 0xA ∷ []) r o₂
 lays_end v w = wrote_more v w
 
-pub ruleset ending = (lays_end, rules)
+pub ruleset ending = (lays_end)

@@ -8,7 +8,6 @@ use native.Mathlib.Numerals.{add-one}
 use native.Mathlib.Omega.{arith}
 use mir.Syntax.{w64}
 use mir.Val.{Fits}
-use borrow.Author.Rules.{rules}
 use lib.ListN.{length, get_or, take, drop, length-drop}
 use lib.Seq.{length-take-le}
 use Rattle.xml.specs.Forest.{Name}
@@ -159,4 +158,4 @@ module _ {d starts lens : List ℕ} {level : ℕ} (p : PlainNames d starts lens 
   record_bare end f z =
       (rw f (record_laid (names_of d starts lens level) [] path_quiet w.0 x field_none z), omega (arith, w.1, x.long, z.long))
 
-pub ruleset joined = (joined_start, joined_deep, joined_fits, joined_inside, joined_near, joined_step, joined_end, rules)
+pub ruleset joined = (joined_start, joined_deep, joined_fits, joined_inside, joined_near, joined_step, joined_end)

@@ -6,7 +6,6 @@ use mathlib.Core.Option.{Option, none, some}
 use mathlib.Core.Logic.{◌⊎◌, inl, inr}
 use Prim.Native.Nat.{ℕ, ◌+◌, ◌-◌, ◌*◌, ◌≤◌, ◌<◌}
 use native.Mathlib.Omega.{arith}
-use borrow.Author.Rules.{rules}
 use lib.ListN.{length, take, drop, length-drop}
 use lib.Seq.{length-take-le}
 use Rattle.xml.specs.Notation.{bytes}
@@ -40,7 +39,7 @@ module _ {q : Bool} {o : List ℕ} {to : ℕ} (raw : List ℕ) where
       let l : length (take (e - 9) (drop 9 raw)) ≡ e - 9 = length-take-le (e - 9) (drop 9 raw) (omega (arith, length-drop 9 raw)) in
       (rw (← z) v, omega (arith, l))
 
-pub ruleset sectioning = (section_none, section_laid, rules)
+pub ruleset sectioning = (section_none, section_laid)
 
 -- ---- a reference
 
@@ -81,7 +80,7 @@ module _ (raw : List ℕ) {s : Saying} (e : s ≡ saying_at raw 0 (reference_of 
       → Lays q o to (said_by (reference_of raw)) (record { to = to; special = false }) o × (to ≤ to + 8)
   says_fault z = rw (says_none z) (lays_none, omega arith)
 
-pub ruleset referring = (says_small, says_laid, says_fault, rules)
+pub ruleset referring = (says_small, says_laid, says_fault)
 
 -- ---- an item, by its first bytes
 
@@ -115,4 +114,4 @@ module _ (raw : List ℕ) {x : Bool} (e : x ≡ begins (bytes "<![CDATA[") raw) 
       unfolding said_of
       said_text t (v, n) = (rw (sym e ∙ f, sym g ∙ h, sym i ∙ t) v, omega arith)
 
-pub ruleset itemising = (said_section, said_markup, said_reference, said_text, rules)
+pub ruleset itemising = (said_section, said_markup, said_reference, said_text)

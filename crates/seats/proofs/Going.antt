@@ -2,6 +2,7 @@
 -- pass in itself, and it stands behind them. Then a law for the items between two tags, which change nothing, for each way on and for the
 -- way out; a tag that comes back from the tape is the one in the document (proofs/Images.antt), so the laws of a pass (proofs/Passing.antt
 -- of the crate passes) serve for it.
+use Rattle.document.proofs.Placing.{Unstarted}
 use mathlib.Core.Path.{◌≡◌, refl, sym, ap, ap₂, subst, ◌∙◌}
 use mathlib.Core.Bool.{Bool, true, false, cond}
 use mathlib.Core.List.{List, [], ◌∷◌}
@@ -9,12 +10,9 @@ use mathlib.Core.Logic.{◌⊎◌, inl, inr, ⊎_elim}
 use Prim.Native.Nat.{ℕ, zero, suc, ◌+◌, ◌-◌, ◌≤◌, ◌<◌}
 use native.Mathlib.Nat.{eq-or-lt_of_le}
 use native.Mathlib.Omega.{arith}
-use types.Run.{OneOf}
-use denote.Enum.Declared.{tag_of as kind_of}
 use lib.ListN.{length, take, drop, get_or, set, replicate}
 use Rattle.paths.specs.Judge.{list_answer, list_paths}
 use Rattle.paths.specs.declared.ListAnswer.TheVariants.{Sound as SoundList}
-use Rattle.tags.specs.contracts.Item as item
 use Rattle.tags.specs.declared.Item.{Item}
 use Rattle.tags.specs.declared.Item.TheVariants.{Start}
 use Rattle.items.specs.Inside.{Inside}
@@ -48,7 +46,7 @@ use Rattle.tape.specs.Tape.{entry_at, begin_at, tags_of, image_of}
 use Rattle.tape.specs.Taped.{Spot, spot_of, item_of, next_of, behind, tags_in, Taped}
 use Rattle.tape.proofs.Counting.{tags_more}
 use Rattle.passes.specs.ByTests.{ByTests}
-use Rattle.passes.proofs.Rests.{untagged, tag_makes, tag_sums, other_makes, other_sums}
+use Rattle.passes.proofs.Rests.{tag_makes, tag_sums, other_makes, other_sums}
 use Rattle.passes.proofs.States.{none, Stored}
 use Rattle.passes.proofs.Passing.{Passing, Written, pass_within, pass_inside, pass_placed}
 use Rattle.passes.proofs.Passing.{pass_other, tag_level, tag_from, tag_to, tag_inside, tag_name, tag_behind, tag_head, tag_placed}
@@ -244,7 +242,7 @@ module _ {counts : Bool} {list tb d t : List ℕ} {items tags : ℕ} {starts₀ 
     pub going_inside : Inside d at here
     going_inside = pass_inside going refl refl going_fine
 
-    pub going_other : OneOf untagged (kind_of item.the_type here) → {run' : Run} {o' g' : List ℕ}
+    pub going_other : Unstarted here → {run' : Run} {o' g' : List ℕ}
         → Moves d starts lens opened.level.0 at run o g (on_other d at here) 1 (level_after here opened.level.0)
         (end_of at here) run' o' g'
         → {opened' : Open} → opened' ≡ open_after here opened → {n : ℕ} → n ≡ end_of at here
@@ -551,7 +549,7 @@ module _ {counts : Bool} {list tb d t : List ℕ} {items tags : ℕ} {starts₀ 
     pub turn_start : {n b f : ℕ} {m c : Bool} → next ≡ Start n b f m c → (w : Bool) × (met ≡ Start n b f m w)
     turn_start q = image_start met (sym image ∙ q)
 
-    module _ (h : OneOf untagged (kind_of item.the_type next)) where
+    module _ (h : Unstarted next) where
       same : next ≡ met
       same = image ∙ image_same met (rw image at h)
 

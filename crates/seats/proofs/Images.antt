@@ -1,23 +1,18 @@
 -- Items and a tape: a tag that comes back from there is the one that was put there, but for whether an attribute stands twice; and what
 -- has no entry is no tag.
+use Rattle.document.proofs.Placing.{Unstarted, Unfinished}
 use mathlib.Core.Path.{◌≡◌, refl}
 use mathlib.Core.Bool.{Bool, false}
 use mathlib.Core.List.{List}
 use mathlib.Core.Logic.{◌⊎◌, inl, inr}
 use Prim.Native.Nat.{ℕ}
 use native.Mathlib.Omega.{arith}
-use types.Run.{OneOf, hit}
-use denote.Enum.Declared.{tag_of as kind_of}
-use Rattle.tags.specs.contracts.Item as item
 use Rattle.tags.specs.declared.Item.{Item}
 use Rattle.tags.specs.declared.Item.TheVariants.{Declaration, Instruction, Comment, Section, Reference, Text, Start, Finish}
 use Rattle.tags.specs.declared.Item.TheVariants.{Doctype, Malformed, TooLarge, Nothing}
 use Rattle.document.specs.Levels.{open_after}
 use Rattle.document.specs.declared.Open.{Open}
-use Rattle.document.proofs.Placing.{not_among}
-use Rattle.passes.proofs.Rests.{untagged}
 use Rattle.tape.specs.Tape.{tags_of, image_of}
-use Rattle.tape.proofs.Entries.{unfinished}
 use Rattle.seats.specs.Made.{kept_at}
 
 -- a start tag or empty tag was one, and what is none was the same
@@ -35,14 +30,14 @@ image_start Malformed q = (false, cc)
 image_start TooLarge q = (false, cc)
 image_start Nothing q = (false, cc)
 
-pub image_same : (i : Item) → OneOf untagged (kind_of item.the_type (image_of i)) → image_of i ≡ i
+pub image_same : (i : Item) → Unstarted (image_of i) → image_of i ≡ i
 image_same (Declaration e) k = refl
 image_same (Instruction e) k = refl
 image_same (Comment e) k = refl
 image_same (Section e) k = refl
 image_same (Reference n e) k = refl
 image_same (Text e) k = refl
-image_same (Start n h e m t) k = absurd (not_among untagged 6 refl k)
+image_same (Start n h e m t) k = absurd (k n h e m false refl)
 image_same (Finish n e) k = refl
 image_same Doctype k = refl
 image_same Malformed k = refl
@@ -68,33 +63,33 @@ some_entry Nothing = inr refl
 apart : ◌≡◌ {A = ℕ} 1 0 → ⊥
 apart q = omega arith
 
-pub aside_untagged : (i : Item) → tags_of i ≡ 0 → OneOf untagged (kind_of item.the_type i)
-aside_untagged (Declaration e) q = hit untagged 0 tt
-aside_untagged (Instruction e) q = hit untagged 1 tt
-aside_untagged (Comment e) q = hit untagged 2 tt
-aside_untagged (Section e) q = hit untagged 3 tt
-aside_untagged (Reference n e) q = hit untagged 4 tt
-aside_untagged (Text e) q = hit untagged 5 tt
+pub aside_untagged : (i : Item) → tags_of i ≡ 0 → Unstarted i
+aside_untagged (Declaration e) q = λ n' h' e' m' t' z. cc
+aside_untagged (Instruction e) q = λ n' h' e' m' t' z. cc
+aside_untagged (Comment e) q = λ n' h' e' m' t' z. cc
+aside_untagged (Section e) q = λ n' h' e' m' t' z. cc
+aside_untagged (Reference n e) q = λ n' h' e' m' t' z. cc
+aside_untagged (Text e) q = λ n' h' e' m' t' z. cc
 aside_untagged (Start n h e m t) q = absurd (apart q)
 aside_untagged (Finish n e) q = absurd (apart q)
-aside_untagged Doctype q = hit untagged 8 tt
-aside_untagged Malformed q = hit untagged 9 tt
-aside_untagged TooLarge q = hit untagged 10 tt
-aside_untagged Nothing q = hit untagged 11 tt
+aside_untagged Doctype q = λ n' h' e' m' t' z. cc
+aside_untagged Malformed q = λ n' h' e' m' t' z. cc
+aside_untagged TooLarge q = λ n' h' e' m' t' z. cc
+aside_untagged Nothing q = λ n' h' e' m' t' z. cc
 
-pub aside_unfinished : (i : Item) → tags_of i ≡ 0 → OneOf unfinished (kind_of item.the_type i)
-aside_unfinished (Declaration e) q = hit unfinished 0 tt
-aside_unfinished (Instruction e) q = hit unfinished 1 tt
-aside_unfinished (Comment e) q = hit unfinished 2 tt
-aside_unfinished (Section e) q = hit unfinished 3 tt
-aside_unfinished (Reference n e) q = hit unfinished 4 tt
-aside_unfinished (Text e) q = hit unfinished 5 tt
+pub aside_unfinished : (i : Item) → tags_of i ≡ 0 → Unfinished i
+aside_unfinished (Declaration e) q = λ n' e' z. cc
+aside_unfinished (Instruction e) q = λ n' e' z. cc
+aside_unfinished (Comment e) q = λ n' e' z. cc
+aside_unfinished (Section e) q = λ n' e' z. cc
+aside_unfinished (Reference n e) q = λ n' e' z. cc
+aside_unfinished (Text e) q = λ n' e' z. cc
 aside_unfinished (Start n h e m t) q = absurd (apart q)
 aside_unfinished (Finish n e) q = absurd (apart q)
-aside_unfinished Doctype q = hit unfinished 8 tt
-aside_unfinished Malformed q = hit unfinished 9 tt
-aside_unfinished TooLarge q = hit unfinished 10 tt
-aside_unfinished Nothing q = hit unfinished 11 tt
+aside_unfinished Doctype q = λ n' e' z. cc
+aside_unfinished Malformed q = λ n' e' z. cc
+aside_unfinished TooLarge q = λ n' e' z. cc
+aside_unfinished Nothing q = λ n' e' z. cc
 
 -- and leaves open what is open
 pub aside_opens : (i : Item) (o : Open) → tags_of i ≡ 0 → o ≡ open_after i o
@@ -112,14 +107,14 @@ aside_opens TooLarge o q = refl
 aside_opens Nothing o q = refl
 
 -- an item that is no start tag and no empty tag has no name that is kept
-pub kept_other : (i : Item) → OneOf untagged (kind_of item.the_type i) → (l y : ℕ) (xs : List ℕ) → xs ≡ kept_at i l y xs
+pub kept_other : (i : Item) → Unstarted i → (l y : ℕ) (xs : List ℕ) → xs ≡ kept_at i l y xs
 kept_other (Declaration e) k l y xs = refl
 kept_other (Instruction e) k l y xs = refl
 kept_other (Comment e) k l y xs = refl
 kept_other (Section e) k l y xs = refl
 kept_other (Reference n e) k l y xs = refl
 kept_other (Text e) k l y xs = refl
-kept_other (Start n h e m t) k l y xs = absurd (not_among untagged 6 refl k)
+kept_other (Start n h e m t) k l y xs = absurd (k n h e m t refl)
 kept_other (Finish n e) k l y xs = refl
 kept_other Doctype k l y xs = refl
 kept_other Malformed k l y xs = refl

@@ -6,7 +6,6 @@ use mathlib.Core.Bool.{Bool, true, false, cond}
 use mathlib.Core.List.{List, []}
 use Prim.Native.Nat.{ℕ, ◌+◌, ◌≤◌, ◌<◌}
 use native.Mathlib.Omega.{arith}
-use borrow.Author.Rules.{rules}
 use borrow.Author.Tests.{lt-ltb, le-ltb}
 use lib.Dec.{ltb}
 use lib.ListN.{length, drop}
@@ -78,7 +77,7 @@ module _ {w : Why} (o : ℕ) where
   pub fault_large : w ≡ why.TooLarge → TooLarge o ≡ fault_of w o
   fault_large q = sym (ap (λ (x : Why). fault_of x o) q)
 
-pub ruleset faults = (fault_doctype, fault_malformed, fault_large, rules)
+pub ruleset faults = (fault_doctype, fault_malformed, fault_large)
 
 -- ---- the answer and the buffer, together
 

@@ -1,17 +1,15 @@
 -- What is left of a pass: the records laid so far and those of the tokens left are the records of all tokens, and so are the elements
 -- counted. In order: the tokens from a place on, for which any number of items that is enough will do; what is left at the start; what one
 -- item does to it, a tag or any other; at the end nothing is left.
+use Rattle.document.proofs.Placing.{Unstarted}
 use mathlib.Core.Path.{◌≡◌, refl, sym, ap, ◌∙◌}
 use mathlib.Core.Bool.{Bool, true, false}
 use mathlib.Core.List.{List, [], ◌∷◌, ◌++◌, append_assoc, append-nil}
 use Prim.Native.Nat.{ℕ, zero, suc, ◌+◌, ◌-◌, ◌≤◌, ◌<◌}
 use native.Mathlib.Nat.{zero-add}
 use native.Mathlib.Omega.{arith}
-use types.Run.{OneOf}
-use denote.Enum.Declared.{tag_of as kind_of}
 use lib.ListN.{length}
 use Rattle.xml.specs.Forest.{Name}
-use Rattle.tags.specs.contracts.Item as item
 use Rattle.tags.specs.Kept.{name_from}
 use Rattle.tags.specs.declared.Item.{Item}
 use Rattle.tags.specs.declared.Item.TheVariants.{Declaration, Instruction, Comment, Section, Reference, Text, Start, Finish}
@@ -22,12 +20,10 @@ use Rattle.items.proofs.Insides.{item_inside}
 use Rattle.document.specs.Place.{Opened, placement, opens, closed, after_item, end_of}
 use Rattle.document.specs.Judge.{start_of}
 use Rattle.document.specs.declared.Placement.TheVariants.{Fine, Over}
-use Rattle.document.proofs.Placing.{not_among}
 use Rattle.trees.specs.Cut.{Judge, on, one}
 use Rattle.trees.specs.Grown.{Token, tag_of, item_tokens, tokens_from, tokens_of}
 use Rattle.trees.specs.Engine.{outer}
 use Rattle.trees.proofs.Passes.{over_fine, over_nothing}
-use Rattle.passes.proofs.Rests.{untagged}
 use Rattle.rows.specs.Table.{record_by}
 use Rattle.rows.specs.Tokens.{text_over, records_over, text_from}
 use Rattle.rows.specs.Laid.{element_text}
@@ -166,7 +162,7 @@ outer-closed (n ∷ up) = refl
 
 -- it has no record, and leaves open what it leaves open
 other_records : (v : Judge) (d : List ℕ) (at : ℕ) (s : Opened) (i : Item) → placement d at i s ≡ Fine
-    → OneOf untagged (kind_of item.the_type i)
+    → Unstarted i
     → (ts : List Token)
     → (records_over v (item_tokens d at i ts) s.names ≡ records_over v ts (after_item d at i s).names)
     × (selected_over v (item_tokens d at i ts) s.names ≡ selected_over v ts (after_item d at i s).names)
@@ -176,7 +172,7 @@ other_records v d at s (Comment e) z k ts = (refl, refl)
 other_records v d at s (Section e) z k ts = (refl, refl)
 other_records v d at s (Reference n e) z k ts = (refl, refl)
 other_records v d at s (Text e) z k ts = (refl, refl)
-other_records v d at s (Start n h e m t) z k ts = absurd (not_among untagged 6 refl k)
+other_records v d at s (Start n h e m t) z k ts = absurd (k n h e m t refl)
 other_records v d at s (Finish n e) z k ts =
     (ap (records_over v ts) (outer-closed s.names), ap (selected_over v ts) (outer-closed s.names))
 other_records v d at s Doctype z k ts = (cc, cc)
@@ -185,7 +181,7 @@ other_records v d at s TooLarge z k ts = (cc, cc)
 other_records v d at s Nothing z k ts = over_fine s z
 
 pub rest_other : {v : Judge} {d : List ℕ} {at : ℕ} {first : Bool} (s : Opened) {w : List ℕ} {k : ℕ} → Rest v d at first s.names w k
-    → {i : Item} → i ≡ item_at first d at → placement d at i s ≡ Fine → OneOf untagged (kind_of item.the_type i)
+    → {i : Item} → i ≡ item_at first d at → placement d at i s ≡ Fine → Unstarted i
     → at < end_of at i → end_of at i ≤ length d → Rest v d (end_of at i) false (after_item d at i s).names w k
 rest_other {v} {d} {at} s {w} {k} r {i} q z o l g =
     let x = other_records v d at s i z o (behind r q) in

@@ -2,14 +2,13 @@
 -- on. The invariant: the records laid so far and those of the tokens left are the records of all tokens, and the elements counted and those
 -- left are all that are selected; the scan comes to what it comes to from the start; states and names are kept by level, and what is kept
 -- of elements is known of them. The header was laid before: `o₁` is the buffer with it, and `base` the place behind it.
+use Rattle.document.proofs.Placing.{Unstarted}
 use mathlib.Core.Path.{◌≡◌, refl, sym, ap, ◌∙◌}
 use mathlib.Core.Bool.{Bool, true, false}
 use mathlib.Core.List.{List, [], ◌∷◌, ◌++◌}
 use mathlib.Core.Logic.{inl, inr}
 use Prim.Native.Nat.{ℕ, ◌+◌, ◌-◌, ◌*◌, ◌≤◌, ◌<◌}
 use native.Mathlib.Omega.{arith}
-use types.Run.{OneOf}
-use denote.Enum.Declared.{tag_of as kind_of}
 use mir.Syntax.{w64}
 use mir.Val.{Fits}
 use lib.ListN.{length, take, drop, get_or, set, length-set, replicate, length-replicate}
@@ -17,7 +16,6 @@ use lib.Seq.{sets}
 use Rattle.xml.specs.Forest.{Name}
 use Rattle.paths.specs.Judge.{list_answer, list_paths}
 use Rattle.paths.specs.declared.ListAnswer.TheVariants.{Sound as SoundList}
-use Rattle.tags.specs.contracts.Item as item
 use Rattle.tags.specs.Kept.{name_from}
 use Rattle.tags.specs.declared.Item.{Item}
 use Rattle.tags.specs.declared.Item.TheVariants.{Declaration, Instruction, Comment, Section, Reference, Text, Start, Finish}
@@ -33,7 +31,6 @@ use Rattle.document.specs.declared.Placement.TheVariants.{Fine, Fault as Faulty,
 use Rattle.document.specs.declared.Why.{Why}
 use Rattle.document.specs.declared.judge.Judged.TheVariants.{Sound}
 use Rattle.document.proofs.After.{start_room, opened_after}
-use Rattle.document.proofs.Placing.{not_among}
 use Rattle.document.proofs.Judging.{Judging, judge_start, judge_fault, judge_over, fine_ahead, scan_inside, scan_less, scan_on}
 use Rattle.attributes.specs.Held.{attributes_in}
 use Rattle.matcher.specs.Fit.{fit_for}
@@ -53,7 +50,6 @@ use Rattle.output.proofs.Chains.{name_part}
 use Rattle.quick.proofs.Opened.{start_named}
 use Rattle.passes.specs.ByTests.{ByTests}
 use Rattle.passes.specs.Opens.{Opens}
-use Rattle.passes.proofs.Rests.{untagged}
 use Rattle.passes.proofs.States.{none, Held, held_start, held_kept, stored_long}
 use Rattle.passes.proofs.Telling.{opens_none, opens_kept, opens_more}
 use Rattle.passes.proofs.Passing.{blank, recalls_none, recalls_set, Written}
@@ -257,7 +253,7 @@ module _ {list tb d o₁ : List ℕ} {base : ℕ} {states : List MatchState} {me
     module _ {starts' lens' : List ℕ} (es : starts' ≡ set starts opened.level.0 (at + 1))
         (el : lens' ≡ set lens opened.level.0 (len_of i)) where
       -- an item that is no start tag and no empty tag
-      pub walk_other : OneOf untagged (kind_of item.the_type i) → {opened' : Open} → opened' ≡ open_after i opened
+      pub walk_other : Unstarted i → {opened' : Open} → opened' ≡ open_after i opened
           → {n : ℕ} → n ≡ end_of at i → Walking list tb d o₁ base states memo slots starts' lens' opened' run n false o
       walk_other k {opened'} eo {n} en =
           record {
@@ -281,14 +277,14 @@ module _ {list tb d o₁ : List ℕ} {base : ℕ} {states : List MatchState} {me
           on_ahead : (at < end_of at i) × (end_of at i ≤ length d)
           on_ahead = ahead v.judging e q h
 
-          no_more : (j : Item) → OneOf untagged (kind_of item.the_type j) → (open_after j opened).level.0 ≤ opened.level.0
+          no_more : (j : Item) → Unstarted j → (open_after j opened).level.0 ≤ opened.level.0
           no_more (Declaration e) k = omega arith
           no_more (Instruction e) k = omega arith
           no_more (Comment e) k = omega arith
           no_more (Section e) k = omega arith
           no_more (Reference n e) k = omega arith
           no_more (Text e) k = omega arith
-          no_more (Start n h e m t) k = absurd (not_among untagged 6 refl k)
+          no_more (Start n h e m t) k = absurd (k n h e m t refl)
           no_more (Finish n e) k = omega arith
           no_more Doctype k = omega arith
           no_more Malformed k = omega arith

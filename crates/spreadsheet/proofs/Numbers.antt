@@ -1,7 +1,6 @@
 -- Rows for a spreadsheet: a case of the answer gives its numbers; and two results that the contract of `choughbell_rows` allows are equal,
 -- with what is left in the buffer.
 use mathlib.Core.Path.{◌≡◌, sym, ap, ◌∙◌}
-use borrow.Author.Rules.{rules}
 use Rattle.contracts.specs.One.{OneOutcome}
 use Rattle.sheet.specs.declared.Answer.{Answer}
 use Rattle.spreadsheet.specs.Numbers.{rows_numbers}
@@ -11,7 +10,7 @@ use Rattle.spreadsheet.proofs.choughbell_rows.Reads as rows
 pub rows_case : {a b : Answer} {r : Numbers} → a ≡ b → r ≡ rows_numbers b → r ≡ rows_numbers a
 rows_case h q = q ∙ sym (ap rows_numbers h)
 
-pub ruleset rowing = (rows_case, rules)
+pub ruleset rowing = (rows_case)
 
 pub rows_one : OneOutcome rows.Asked rows.Learnt (λ κs e. e.1.1.0.now)
 rows_one κs a z z' e e' x p q = (p.0 ∙ sym q.0, p.1 ∙ sym q.1)

@@ -214,4 +214,4 @@ pub gather_within : {d : List ℕ} {at i count : ℕ} {small twice : Bool} {star
 gather_within v = v.inside
 
 pub ruleset gathering =
-    (gather_start, gather_none, gather_inside, gather_less, gather_fits, gather_more, gather_keeps, gather_within, rules)
+    (gather_start, gather_none, gather_inside, gather_less, gather_fits, gather_more, gather_keeps, gather_within)

@@ -8,7 +8,6 @@ use mathlib.Core.Logic.{⊎_elim}
 use native.Mathlib.Nat.{eq-or-lt_of_le}
 use native.Mathlib.Numerals.{add-one}
 use native.Mathlib.Omega.{arith}
-use borrow.Author.Rules.{rules}
 use borrow.Author.Tests.{eqb-true, eqb-false}
 use lib.Dec.{eqb}
 use lib.ListN.{length, get_or, take, drop, set, length-drop, length-append, length-set, drop_of_length-le, get_or-append}
@@ -40,7 +39,7 @@ module _ (d : List ℕ) (a n x l : ℕ) (h : a + n ≤ length d) (g : x + l ≤ 
       ∙ begins-same (name_from d x l) (drop a d)
       ∙ ap (λ (m : ℕ). same (take m (drop a d)) (name_from d x l)) (name_size d x l g ∙ q)
 
-pub ruleset naming = (names_longer, names_compared, rules)
+pub ruleset naming = (names_longer, names_compared)
 
 -- ---- `seen`
 
@@ -118,7 +117,7 @@ see_part v = v.inside
 pub see_room : {d starts lens : List ℕ} {count a n k : ℕ} → Seeing d starts lens count a n k → count < 32
 see_room v = v.few
 
-pub ruleset seeing = (see_start, see_end, see_inside, see_differs, see_found, see_part, see_room, rules)
+pub ruleset seeing = (see_start, see_end, see_inside, see_differs, see_found, see_part, see_room)
 
 -- ---- `note`
 
@@ -225,4 +224,4 @@ module _ {d starts lens : List ℕ} {count a n : ℕ} where
 pub keeps_long : {d starts lens : List ℕ} {count : ℕ} → Keeps d starts lens count → (length starts ≡ 32) × (length lens ≡ 32)
 keeps_long v = (v.kept.held.starts_long, v.kept.held.lens_long)
 
-pub ruleset noting = (note_full, note_kept, rules)
+pub ruleset noting = (note_full, note_kept)

@@ -40,7 +40,7 @@ sized_small b x e = sym (rw (not-false b e))
 pub sized_large : (b : Bool) (x : Item) → not b ≡ true → TooLarge ≡ cond b x TooLarge
 sized_large b x e = sym (rw (not-true b e))
 
-pub ruleset sizing = (sized_small, sized_large, rules)
+pub ruleset sizing = (sized_small, sized_large)
 
 -- ---- `tag`
 

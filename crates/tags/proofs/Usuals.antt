@@ -1,15 +1,12 @@
 -- Tags as they mostly stand. In order: `name_end`, the run of ASCII name characters, by words, and the byte after it; `value_end`, the
 -- next mark, by words; `usual_attribute`; `usual_tag`, whose loop gathers attributes as that of `gather` does; `next_tag`.
 use mathlib.Core.Path.{◌≡◌, refl, sym, ap, ◌∙◌}
-use mathlib.Core.Bool.{Bool, true, false, cond, not, ◌&&◌, ◌||◌}
+use mathlib.Core.Bool.{Bool, true, false, not, ◌&&◌, ◌||◌}
 use mathlib.Core.List.{List, [], ◌∷◌}
-use mathlib.Core.Option.{none, some}
-use Prim.Native.Nat.{ℕ, ◌+◌, ◌-◌, ◌^◌, ◌≤◌, ◌<◌}
+use Prim.Native.Nat.{ℕ, ◌+◌, ◌-◌, ◌≤◌, ◌<◌}
 use native.Mathlib.Omega.{arith}
-use mir.Syntax.{w64}
-use mir.Val.{Fits}
 use borrow.Author.Rules.{rules}
-use borrow.Author.Tests.{eqb-true, not-false, not-true, le-leb}
+use borrow.Author.Tests.{eqb-true, not-false, le-leb}
 use lib.Dec.{eqb, leb}
 use lib.ListN.{length, get_or, drop, replicate}
 use Rattle.xml.specs.Notation.{bytes}
@@ -23,22 +20,22 @@ use Rattle.blocks.proofs.Until.{seek_start}
 use Rattle.words.specs.Word.{is_no_name}
 use Rattle.chars.specs.Name.{name_at, reading_at}
 use Rattle.chars.specs.declared.name.Reading.{Reading}
-use Rattle.chars.specs.declared.name.Reading.TheVariants.{Ends, Fault}
+use Rattle.chars.specs.declared.name.Reading.TheVariants.{Ends}
 use Rattle.chars.specs.Space.{space_end}
 use Rattle.chars.proofs.Runs.{run_start}
 use Rattle.chars.proofs.Spaces.{spaces_end}
 use Rattle.chars.proofs.Names.{Passing, words_start, words_on, words_end, start_low, name_ends}
-use Rattle.readers.specs.Read.{expect, space_of}
+use Rattle.readers.specs.Read.{space_of}
 use Rattle.readers.specs.Plain.{is_mark}
 use Rattle.readers.specs.Value.{quoted_of, value_of}
-use Rattle.readers.specs.Named.{eq_of, attribute_of}
+use Rattle.readers.specs.Named.{eq_of}
 use Rattle.readers.specs.Answer.{Answers}
 use Rattle.readers.proofs.Answers.{ends_inside, text_inside, byte_yes, byte_no}
 use Rattle.instructions.proofs.Over.{space_none, eq_ends}
 use Rattle.scans.proofs.Marks.{mark_found}
 use Rattle.values.proofs.Pieces.{pieces_start, pieces_other, quoted_fault, quoted_ends, first_reading, second_reading}
 use Rattle.tags.specs.Tag.{tag_at}
-use Rattle.tags.specs.Kept.{Keeps, Noted, AttributeIs, AttributesAre}
+use Rattle.tags.specs.Kept.{Keeps, Noted, AttributesAre}
 use Rattle.tags.specs.Usual.{ToldName, ToldMark, ToldAttribute, ToldTag}
 use Rattle.tags.specs.declared.gather.Attribute.{Attribute}
 use Rattle.tags.specs.declared.gather.Attribute.TheVariants.{Named, Fault as NoAttribute}
@@ -47,7 +44,6 @@ use Rattle.tags.specs.declared.Item.TheVariants.{Start, Malformed}
 use Rattle.tags.proofs.Named.{piece_ahead, piece_inside}
 use Rattle.tags.proofs.Gathers.{attribute_blankless, attribute_named}
 use Rattle.tags.proofs.Gathers.{Gathering, gather_start, gather_none, gather_inside, gather_less, gather_more, gather_keeps}
-use Rattle.tags.proofs.Gathers.{gather_within}
 use Rattle.tags.proofs.Tagging.{tag_inside, tag_add, tag_start, tag_empty, start_add, empty_add}
 
 -- ---- `name_end`
@@ -76,7 +72,7 @@ module _ {d : List ℕ} {at i : ℕ} (v : Naming d at i) (l : i + 8 ≤ length d
     naming_ends h g =
         record { is = λ z. name_ends d at v.begun refl (words_end v.passing l f (λ e. omega arith) g) }
 
-pub ruleset naming = (name_untold, naming_start, naming_inside, rules)
+pub ruleset naming = (name_untold, naming_start, naming_inside)
 
 -- ---- `value_end`
 
@@ -87,7 +83,7 @@ pub mark_told : {q : ℕ} {d : List ℕ} {at i n : ℕ} → Skips (is_mark q) d 
     → First (λ k. is_mark q (get_or d (i + k) 0)) 16 n → n < 16 → ToldMark q d at (i + n)
 mark_told v l f h = record { is = λ z. mark_found v l f h }
 
-pub ruleset marked = (seek_start, mark_untold, rules)
+pub ruleset marked = (seek_start, mark_untold)
 
 -- ---- `usual_attribute`
 
@@ -117,7 +113,7 @@ module _ (d : List ℕ) (at q end : ℕ) (h : at < length d) (e : get_or d at 0 
 
 -- no white space begins where another byte stands
 unspaced : (d : List ℕ) (i b : ℕ) → i < length d → get_or d i 0 ≡ b → is_space b ≡ false → i ≡ space_end d i
-unspaced d i b h e n = spaces_end run_start h refl (ap not (ap is_space e ∙ n))
+unspaced d i b h e n = spaces_end run_start h refl (ap is_space e ∙ n)
 
 -- either quote
 quote_is : (b c : Bool) → not b && not c ≡ false → b || c ≡ true
@@ -177,7 +173,7 @@ module _ (d : List ℕ) (at : ℕ) {r : Reading} (a : Answers d at r (space_of (
     pub attribute_told : ToldAttribute d at (Named i (e - i) (z + 1))
     attribute_told = record { is = λ name len end y. attribute_named d at a q name_is refl equal refl valued refl }
 
-pub ruleset attributed = (attribute_untold, quote_ascii, name_within, name_ahead, attribute_told, ends_inside, rules)
+pub ruleset attributed = (attribute_untold, quote_ascii, name_within, name_ahead, attribute_told, ends_inside)
 
 -- ---- `usual_tag`
 
@@ -308,4 +304,4 @@ pub tag_told : {d : List ℕ} {at : ℕ} {r : Item} → ToldTag d at r → {name
     → r ≡ Start name head end empty twice → r ≡ tag_at d at
 tag_told t {name} {head} {end} {empty} {twice} e = t.is name head end empty twice e
 
-pub ruleset told = (tag_told, rules)
+pub ruleset told = (tag_told)

@@ -1,6 +1,6 @@
 -- What is told of names, values, attributes and tags that stand as they mostly do. Where it is told, it is what is read; else nothing is
 -- said. Private functions cite these.
-use Rattle.std.specs.Prelude.{◌≡◌, Bool, List, ℕ, ◌≤◌, ◌<◌, length, drop}
+use Rattle.std.specs.Prelude.{◌≡◌, Bool, List, ℕ, ◌<◌, length, drop}
 use Rattle.utf8.specs.Place.{ends_at}
 use Rattle.blocks.specs.Block.{until}
 use Rattle.chars.specs.Name.{name_at}

@@ -1,4 +1,5 @@
 -- A tag put at an entry comes back from there, and the entries before it stay.
+use Rattle.document.proofs.Placing.{Unstarted, Unfinished}
 use mathlib.Core.Path.{◌≡◌, refl, sym, ap, ◌∙◌}
 use mathlib.Core.Bool.{Bool, true, false}
 use mathlib.Core.List.{List, [], ◌∷◌}
@@ -6,11 +7,6 @@ use Prim.Native.Nat.{ℕ, zero, suc, ◌+◌, ◌*◌, ◌≤◌, ◌<◌}
 use native.Mathlib.Omega.{arith}
 use lib.ListN.{length, get_or, set, length-set}
 use lib.Seq.{get_or-set_same, get_or-set_other}
-use types.Run.{OneOf}
-use denote.Enum.Declared.{tag_of as kind_of}
-use borrow.Author.Rules.{rules}
-use Rattle.document.proofs.Placing.{not_among}
-use Rattle.tags.specs.contracts.Item as item
 use Rattle.tags.specs.declared.Item.{Item}
 use Rattle.tags.specs.declared.Item.TheVariants.{Declaration, Instruction, Comment, Section, Reference, Text, Start, Finish}
 use Rattle.tags.specs.declared.Item.TheVariants.{Doctype, Malformed, TooLarge, Nothing}
@@ -221,17 +217,10 @@ module _ (t : List ℕ) (k at : ℕ) {i : Item} where
   pub put_finish : {n e : ℕ} {t' : List ℕ} → i ≡ Finish n e → t' ≡ stored t (k * 5) 0 at e n 0 → Puts t k at i (k + 1) t'
   put_finish q s = (ap (λ (x : Item). k + tags_of x) (sym q), s ∙ sym (ap (put_at t k at) q))
 
--- all but start tags and empty tags, and all but end tags
-abbrev pub unstarted : List ℕ
-unstarted = 0 ∷ 1 ∷ 2 ∷ 3 ∷ 4 ∷ 5 ∷ 7 ∷ 8 ∷ 9 ∷ 10 ∷ 11 ∷ []
-
-abbrev pub unfinished : List ℕ
-unfinished = 0 ∷ 1 ∷ 2 ∷ 3 ∷ 4 ∷ 5 ∷ 6 ∷ 8 ∷ 9 ∷ 10 ∷ 11 ∷ []
-
 none_more : (k : ℕ) → k ≡ k + 0
 none_more k = omega arith
 
-pub put_other : (t : List ℕ) (k at : ℕ) (i : Item) → OneOf unstarted (kind_of item.the_type i) → OneOf unfinished (kind_of item.the_type i)
+pub put_other : (t : List ℕ) (k at : ℕ) (i : Item) → Unstarted i → Unfinished i
     → Puts t k at i k t
 put_other t k at (Declaration e) z y = (none_more k, refl)
 put_other t k at (Instruction e) z y = (none_more k, refl)
@@ -239,11 +228,11 @@ put_other t k at (Comment e) z y = (none_more k, refl)
 put_other t k at (Section e) z y = (none_more k, refl)
 put_other t k at (Reference c e) z y = (none_more k, refl)
 put_other t k at (Text e) z y = (none_more k, refl)
-put_other t k at (Start n h e m w) z y = absurd (not_among unstarted 6 refl z)
-put_other t k at (Finish n e) z y = absurd (not_among unfinished 7 refl y)
+put_other t k at (Start n h e m w) z y = absurd (z n h e m w refl)
+put_other t k at (Finish n e) z y = absurd (y n e refl)
 put_other t k at Doctype z y = (none_more k, refl)
 put_other t k at Malformed z y = (none_more k, refl)
 put_other t k at TooLarge z y = (none_more k, refl)
 put_other t k at Nothing z y = (none_more k, refl)
 
-pub ruleset entries = (shape_finish, shape_start, shape_empty, put_start, put_finish, put_other, rules)
+pub ruleset entries = (shape_finish, shape_start, shape_empty, put_start, put_finish, put_other)

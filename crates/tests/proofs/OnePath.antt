@@ -6,7 +6,6 @@ use mathlib.Core.List.{List, [], ◌∷◌, ◌++◌, map}
 use mathlib.Core.Option.{Option, none, some}
 use Prim.Native.Nat.{ℕ, zero, suc, ◌+◌, ◌-◌, ◌^◌, ◌≤◌, ◌<◌}
 use native.Mathlib.Omega.{arith}
-use borrow.Author.Rules.{rules}
 use borrow.Author.Tests.{ltb-true, ltb-false}
 use lib.Dec.{ltb}
 use lib.ListN.{length, take, drop, get_or, length-map, get_or-eq_default}
@@ -211,4 +210,4 @@ module _ {d t : List ℕ} (s : Serves d t) {p : ℕ} (l : p < 32) where
               part v k ∙ ap₂ (λ (o i : ℕ). take o (drop i d)) w u ∙ here_at.valued in
               h ∙ ap₂ (has_attribute xs) g e ∙ sym (path_test.passes xs)
 
-pub ruleset by_path = (passes_past, passes_untested, passes_fault, name_fits, value_fits, name_sum, value_sum, passes_tested, rules)
+pub ruleset by_path = (passes_past, passes_untested, passes_fault, name_fits, value_fits, name_sum, value_sum, passes_tested)

@@ -6,7 +6,6 @@ use mathlib.Core.List.{List}
 use Prim.Native.Nat.{ℕ, suc, ◌+◌, ◌≤◌, ◌<◌}
 use native.Mathlib.Numerals.{add-one}
 use native.Mathlib.Omega.{arith}
-use borrow.Author.Rules.{rules}
 use borrow.Author.Tests.{eq-eqb, ne_eqb}
 use lib.Dec.{eqb}
 use lib.ListN.{length, drop, get_or}
@@ -36,4 +35,4 @@ module _ {l : List ℕ} {i : ℕ} (v : Seeking l i) where
   pub seek_end : length l ≤ i → false ≡ some_place l
   seek_end h = sym (v.rest ∙ ap some_place (drop_end l i h))
 
-pub ruleset seeking = (seek_start, seek_more, seek_found, seek_end, rules)
+pub ruleset seeking = (seek_start, seek_more, seek_found, seek_end)

@@ -1,6 +1,6 @@
 -- The forest of a document. In order: its tokens, one for each item and one more at an empty tag, whose end is of no bytes; the forest that
 -- grows of tokens, from the last one back; the tokens of a forest. The items after a fault are not looked at.
-use Rattle.std.specs.Prelude.{Bool, true, false, List, [], ◌∷◌, ℕ, zero, suc, ◌+◌, ◌-◌, length, take, drop}
+use Rattle.std.specs.Prelude.{Bool, true, false, List, [], ◌∷◌, ℕ, zero, suc, ◌+◌, ◌-◌, length}
 use Rattle.xml.specs.Forest.{Tag, Forest, nil, other, elem}
 use Rattle.items.specs.Item.{item_at}
 use Rattle.tags.specs.Kept.{name_from}

@@ -6,7 +6,6 @@ use mathlib.Core.List.{List, [], ◌∷◌}
 use mathlib.Core.Option.{Option, none, some}
 use Prim.Native.Nat.{ℕ, suc, ◌+◌, ◌≤◌, ◌<◌}
 use native.Mathlib.Omega.{arith}
-use borrow.Author.Rules.{rules}
 use borrow.Author.Tests.{le-leb, lt-leb, le-ltb, leb-true, ltb-true, ltb-false, ne_eqb}
 use lib.Dec.{eqb, leb, ltb}
 use lib.ListN.{length, get_or, take, drop}
@@ -215,4 +214,4 @@ module _ (d : List ℕ) (at : ℕ) (h : at < length d) {b c e : ℕ} (p : b ≡ 
         let w : length (utf8 (guess (first ∷ rest))) ≡ n = character_size (first ∷ rest) _ g ∙ sym l in
         sym (rw (drop_step d at h, g, w, k, value_rest))
 
-pub ruleset pointing = (point_end, point_bad, point_good, rules)
+pub ruleset pointing = (point_end, point_bad, point_good)

@@ -7,7 +7,6 @@ use Prim.Native.Nat.{ℕ, zero, suc, ◌+◌, ◌-◌, ◌*◌, ◌%◌, ◌≤�
 use native.Mathlib.Nat.{le_of_suc-le-suc, not-suc-le-zero}
 use native.Mathlib.Numerals.{add-one}
 use native.Mathlib.Omega.{arith}
-use borrow.Author.Rules.{rules}
 use borrow.Author.Tests.{le-leb, lt-leb, lt-ltb, le-ltb, not-true, not-false}
 use lib.Dec.{leb, ltb}
 use lib.ListN.{length, get_or, drop, get_or-eq_default}
@@ -22,7 +21,7 @@ use Rattle.utf8.specs.Sequence.{cell_rows, cells_in, cells_of, formed_by, formed
 pub byte_none : (s : List ℕ) (at k : ℕ) → length s - at ≤ k → 0 ≡ get_or s (at + k) 0
 byte_none s at k h = sym (get_or-eq_default s 0 {n = at + k} (omega arith))
 
-pub ruleset byting = (byte_none, rules)
+pub ruleset byting = (byte_none)
 
 -- ---- `size_of`
 
@@ -38,7 +37,7 @@ three_bytes {a} l h = sym (size_three a l h)
 pub four_bytes : {a : ℕ} → 0xF0 ≤ a → 4 ≡ size_of a
 four_bytes {a} l = sym (size_four a l)
 
-pub ruleset sizing = (one_byte, two_bytes, three_bytes, four_bytes, rules)
+pub ruleset sizing = (one_byte, two_bytes, three_bytes, four_bytes)
 
 -- ---- `value_of`
 
@@ -59,7 +58,7 @@ module _ (a b c d : ℕ) where
   unfolding value_of
   value_four l = sym (rw (le-ltb a 0x80 (omega arith), le-ltb a 0xE0 (omega arith), le-ltb a 0xF0 l))
 
-pub ruleset valuing = (value_one, value_two, value_three, value_four, rules)
+pub ruleset valuing = (value_one, value_two, value_three, value_four)
 
 -- ---- `is_later`
 
@@ -69,7 +68,7 @@ later_from {b} h = sym (rw (le-leb 0x80 b h))
 pub later_under : {b : ℕ} → b < 0x80 → false ≡ inside (0x80 – 0xBF) b
 later_under {b} h = sym (rw (lt-leb 0x80 b h))
 
-pub ruleset latering = (later_from, later_under, rules)
+pub ruleset latering = (later_from, later_under)
 
 -- ---- `row_of`: the rows that are left are asked
 
@@ -111,7 +110,7 @@ row_none {a} {i} v h =
     let e : i ≡ 9 = omega arith in
     sym (ap (λ (k : ℕ). cells_in (drop k rows) a) e) ∙ v.same
 
-pub ruleset rowing = (row_here, row_under, row_over, row_none, rules)
+pub ruleset rowing = (row_here, row_under, row_over, row_none)
 
 -- ---- `is_formed`
 
@@ -156,4 +155,4 @@ module _ (a b c d : ℕ) {row : List ℕ} (p : row ≡ cells_of a) where
         formed_four h l f = f ∙ sym (second ∙ rw (le-ltb _ _ h₄, sym e ∙ not-false x h, le-ltb _ _ l)) ∙ by_row n q
 
 pub ruleset forming =
-    (formed_none, formed_one, formed_under, formed_over, formed_two, formed_third, formed_three, formed_four, rules)
+    (formed_none, formed_one, formed_under, formed_over, formed_two, formed_third, formed_three, formed_four)

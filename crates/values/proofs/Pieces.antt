@@ -7,7 +7,6 @@ use mathlib.Core.List.{List, [], ◌∷◌}
 use mathlib.Core.Option.{Option, none, some}
 use Prim.Native.Nat.{ℕ, ◌+◌, ◌-◌, ◌≤◌, ◌<◌}
 use native.Mathlib.Omega.{arith}
-use borrow.Author.Rules.{rules}
 use lib.ListN.{length, get_or, drop, length-drop}
 use Rattle.utf8.specs.Place.{ends_at}
 use Rattle.utf8.proofs.Place.{drop_step, drop_end}
@@ -111,7 +110,7 @@ module _ {q : ℕ} {d : List ℕ} {at i : ℕ} (v : Between q d at i) where
           pub pieces_less : length d - k < length d - i
           pieces_less = let c = longer in let a = until_ahead (is_mark q) d j g in omega arith
 
-pub ruleset piecing = (pieces_start, pieces_end, pieces_other, pieces_fault, pieces_on, pieces_less, rules)
+pub ruleset piecing = (pieces_start, pieces_end, pieces_other, pieces_fault, pieces_on, pieces_less)
 
 -- ---- in quotes
 
@@ -125,7 +124,7 @@ module _ (q : ℕ) {d : List ℕ} (at : ℕ) {r : Reading} (a : Answers d at r (
   unfolding quoted_of
   quoted_ends f b c = then_ends a _ f (then_ends b (expect (q ∷ [])) refl c)
 
-pub ruleset quoting = (byte_answers, quoted_fault, quoted_ends, ends_inside, rules)
+pub ruleset quoting = (byte_answers, quoted_fault, quoted_ends, ends_inside)
 
 -- ---- in either quotes
 
@@ -136,4 +135,4 @@ module _ {d : List ℕ} {at : ℕ} {r : Reading} {o : Option (List ℕ)} (a : An
   pub second_reading : {o' : Option (List ℕ)} {r' : Reading} → r ≡ Fault → Answers d at r' o' → r' ≡ reading_at d at (or_else o o')
   second_reading q b = answers_reading (or_fault a q b)
 
-pub ruleset reading = (first_reading, second_reading, rules)
+pub ruleset reading = (first_reading, second_reading)

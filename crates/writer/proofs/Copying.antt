@@ -7,7 +7,6 @@ use Prim.Native.Nat.{ℕ, ◌+◌, ◌-◌, ◌≤◌, ◌<◌}
 use native.Mathlib.Nat.{eq-or-lt_of_le}
 use native.Mathlib.Numerals.{add-one}
 use native.Mathlib.Omega.{arith}
-use borrow.Author.Rules.{rules}
 use lib.ListN.{length, get_or, take, drop, set, length-set, take-append-drop}
 use lib.Seq.{sets, length-sets, take-suc, take_all, length-take-le}
 use Rattle.writer.specs.Wrote.{Wrote}
@@ -53,4 +52,4 @@ module _ {o o' : List ℕ} {at : ℕ} {s : List ℕ} {m i : ℕ} (v : Copying o 
           ∙ sets_more (take i s) (drop i s) o at
           ∙ rw k
 
-pub ruleset copying = (wrote_past, copy_start, copy_step, copy_whole, rules)
+pub ruleset copying = (wrote_past, copy_start, copy_step, copy_whole)

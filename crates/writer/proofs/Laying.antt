@@ -5,7 +5,6 @@ use mathlib.Core.List.{List, [], ◌∷◌, ◌++◌}
 use Prim.Native.Nat.{ℕ, suc, ◌+◌, ◌≤◌}
 use native.Mathlib.Nat.{add-zero}
 use native.Mathlib.Omega.{arith}
-use borrow.Author.Rules.{rules}
 use lib.ListN.{length, drop, set, length-append}
 use lib.Seq.{sets, set_out, length-sets, sets-eq}
 use Rattle.xml.specs.Forest.{start_tag, end_tag}
@@ -58,4 +57,4 @@ pub wrote_end : {o o₁ o₂ o₃ o₄ n : List ℕ} {at a b e f : ℕ} → Wrot
     → Wrote o₂ b n e o₃ → Wrote o₃ e (62 ∷ []) f o₄ → Wrote o at (end_tag n) f o₄
 wrote_end p q r t = wrote_more p (wrote_more q (wrote_more r t))
 
-pub ruleset laying = (put_past, wrote_past, wrote_start, wrote_end, rules)
+pub ruleset laying = (put_past, wrote_past, wrote_start, wrote_end)

@@ -1,0 +1,20 @@
+-- `starts_name` meets its contract: one law for each of its four ways.
+-- proofs/Names.antt has them.
+use native.Mathlib.Omega.{arith}
+use Rattle.chars.proofs.Names.{answering}
+use Rattle.chars.proofs.name.starts_name.Goals as goal
+
+pub returns-then-at-s : goal.returns-then-at-s
+returns-then-at-s c = search answering
+
+pub overflow_cast-b : goal.overflow_cast-b
+overflow_cast-b c = omega (arith, c.shared_slice_known-2-1.given c.args.at)
+
+pub returns-then-b-lt128 : goal.returns-then-b-lt128
+returns-then-b-lt128 c = search answering
+
+pub returns-in-Point : goal.returns-in-Point
+returns-in-Point c = search answering
+
+pub returns-in-Bad : goal.returns-in-Bad
+returns-in-Bad c = search answering

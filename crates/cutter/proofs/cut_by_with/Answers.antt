@@ -1,0 +1,41 @@
+-- `cut_by_with` meets its contract:
+-- too long, another encoding, a sequence that is no character, or what is said of a document of characters.
+use mathlib.Core.Path.{sym, ◌∙◌}
+use Rattle.document.proofs.Judging.{judged_named}
+use Rattle.cutter.proofs.Cutting.{both_by, by_long, by_other, by_char, used_short}
+use borrow.Author.Rules.{rules}
+use Rattle.cutter.proofs.cut_by_with.Goals as goal
+
+pub returns-then-doc-gt-BYTES : goal.returns-then-doc-gt-BYTES
+returns-then-doc-gt-BYTES c =
+    let all = both_by _ _ _ (by_long _ _ _ c.if-doc-gt-BYTES.true) in
+    record {
+      value = all.0;
+      out_after = all.1;
+    }
+
+pub returns-then-names_other : goal.returns-then-names_other
+returns-then-names_other c =
+    let all = both_by _ _ _ (by_other _ _ _ c.if-doc-gt-BYTES.false c.start_of-start.ensures c.names_other.ensures c.if-names_other.true) in
+    record {
+      value = all.0;
+      out_after = all.1;
+    }
+
+pub written-requires : goal.written-requires
+written-requires c = (
+  c.requires,
+  c.if-doc-gt-BYTES.false,
+  judged_named _ c.start_of-start.ensures c.names_other.ensures c.if-names_other.false,
+  sym c.check.ensures ∙ c.in-All.is,
+  used_short _ _ c.used-n.ensures,
+)
+
+pub returns-in-BadAt : goal.returns-in-BadAt
+returns-in-BadAt c =
+    let n = judged_named _ c.start_of-start.ensures c.names_other.ensures c.if-names_other.false in
+    let all = both_by _ _ _ (by_char _ _ _ c.if-doc-gt-BYTES.false n c.check.ensures c.in-BadAt.is) in
+    record {
+      value = all.0;
+      out_after = all.1;
+    }

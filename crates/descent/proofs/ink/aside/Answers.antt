@@ -1,0 +1,7 @@
+-- `aside` meets its contract: written inside a kept entry, else dropped.
+-- proofs/Inking.antt has the laws.
+use Rattle.descent.proofs.Inking.{asides}
+use Rattle.descent.proofs.ink.aside.Goals as goal
+
+pub returns-then-kept-clause-by_index : goal.returns-then-kept-clause-by_index
+returns-then-kept-clause-by_index c = search asides

@@ -1,0 +1,12 @@
+-- `choughbell_unpack` meets its contract: the numbers are those of the library's answer, and the buffer is as the library leaves it.
+-- There is no loop.
+use mathlib.Core.Path.{ap, ◌∙◌}
+use Rattle.exported.specs.Packing.{packing_of}
+use Rattle.exported.proofs.packing.choughbell_unpack.Goals as goal
+
+pub returns : goal.returns
+returns c = let done = c.unpack-a.ensures in
+    record {
+      value = c.packing_numbers.ensures ∙ ap packing_of done.value;
+      out_after = done.out_after;
+    }

@@ -1,0 +1,13 @@
+-- `lay_path` meets its contract. The invariant is `Joined`: the names of the first k levels are laid. The measure is the levels left.
+-- proofs/Rowing.antt has the laws.
+use Rattle.rows.proofs.Rowing.{joined}
+use Rattle.rows.proofs.Rowing.{Joined, joined_fits, joined_inside, joined_room, joined_step, joined_end}
+use mathlib.Core.Path.{refl}
+use Prim.Native.Nat.{◌-◌}
+use Rattle.rows.proofs.row.lay_path.Given as goal
+
+abbrev pub invariant-loop-k : goal.invariant-loop-k
+invariant-loop-k l = Joined l.doc l.starts l.lens l.level l.initial.out l.to l.place l.k l.out
+
+abbrev pub decreases-loop-k : goal.decreases-loop-k
+decreases-loop-k l = l.level - l.k

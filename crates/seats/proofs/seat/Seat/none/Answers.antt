@@ -1,0 +1,7 @@
+-- `Seat::none` meets its contract:
+-- each field is as it says.
+use borrow.Author.Rules.{rules}
+use Rattle.seats.proofs.seat.Seat.none.Goals as goal
+
+pub returns : goal.returns
+returns c = cc

@@ -1,0 +1,17 @@
+-- `size_of` meets its contract: one law for each of its four ways.
+-- proofs/Rows.antt has them.
+use borrow.Author.Rules.{rules}
+use Rattle.utf8.proofs.Rows.{sizing}
+use Rattle.utf8.proofs.size_of.Goals as goal
+
+pub returns-then-a-lt128 : goal.returns-then-a-lt128
+returns-then-a-lt128 c = search (sizing, rules)
+
+pub returns-then-a-lt224 : goal.returns-then-a-lt224
+returns-then-a-lt224 c = search (sizing, rules)
+
+pub returns-then-a-lt240 : goal.returns-then-a-lt240
+returns-then-a-lt240 c = search (sizing, rules)
+
+pub returns : goal.returns
+returns c = search (sizing, rules)
