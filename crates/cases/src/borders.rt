@@ -4,9 +4,11 @@
 ghost use Rattle.std.specs.Prelude.{◌≡◌, ◌≤◌};
 ghost use Rattle.points.specs.Class.{class_table};
 
-use crate::{answers, out};
+use crate::answers;
 use chars::name::Reading;
 use points::table::Classes;
+use std::io;
+use std::io::Write;
 
 const LAST: u32 = 0x110010;
 
@@ -79,24 +81,26 @@ fn look(classes: &Classes, c: u32) -> usize
     digit(e, is_name(classes, &t[0..n]) as usize)
 }
 
-fn lines(classes: &Classes)
+fn lines<W: Write>(out: &mut W, classes: &Classes) -> io::Result<()>
     requires { classes.now ≡ class_table }
 {
     let mut last = look(classes, 0);
-    out::line(0, 4, last);
-    let mut c: u32 = 0;
-    while c < LAST {
-        c += 1;
+    writeln!(out, "0000 {last}")?;
+    for c in 1..=LAST {
         let next = look(classes, c);
         if next != last {
-            out::line(c as usize, 4, next);
+            writeln!(out, "{c:04x} {next}")?;
         }
         last = next;
     }
+    Ok(())
 }
 
-pub fn print() {
-    out::text(b"code point; a digit each: sequence, Char, class, a name, a name after a letter\n");
+pub fn print<W: Write>(out: &mut W) -> io::Result<()> {
+    writeln!(
+        out,
+        "code point; a digit each: sequence, Char, class, a name, a name after a letter"
+    )?;
     let classes = points::table::classes();
-    lines(&classes);
+    lines(out, &classes)
 }

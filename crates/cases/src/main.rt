@@ -1,6 +1,8 @@
 // Runs the libraries on many cases and prints what they find. The file `stdout` has what is right: ordinary Rust in docs/src/expected makes
 // it, from the standard library, the Recommendation's ranges and the words of document 01, with nothing of Rattle.
-mod out; // text and numbers to standard output
+#![tactic(auto)]
+
+mod out; // bytes, written in hexadecimal
 mod answers; // what the libraries say of a text, as numbers, and a sum of them
 mod borders; // every code point: where an answer changes
 mod rows; // every byte at each place of a sequence
@@ -9,10 +11,15 @@ mod offsets; // a fault at each place of texts of each length
 mod texts; // names, white space and path lists in chosen texts
 mod sizes; // path lists at the sizes and past them
 
-fn main() {
-    borders::print();
-    rows::print();
-    offsets::print();
-    texts::print();
-    sizes::print();
+use std::io;
+use std::io::{BufWriter, Write};
+
+fn main(rt: HostRuntime) -> io::Result<()> {
+    let mut out = BufWriter::new(rt.alloc(), io::writer(&rt))?;
+    borders::print(&mut out)?;
+    rows::print(&mut out)?;
+    offsets::print(&mut out)?;
+    texts::print(&mut out)?;
+    sizes::print(&mut out)?;
+    out.flush()
 }

@@ -3,6 +3,8 @@
 ghost use Rattle.std.specs.Prelude.{◌<◌, ◌≤◌};
 
 use crate::{answers, out, parts};
+use std::io;
+use std::io::Write;
 
 const LENGTHS: usize = 201;
 
@@ -80,23 +82,25 @@ fn try_all(kind: &[u8]) -> Folded {
     f
 }
 
-pub fn show(kind: &[u8]) {
-    let f = try_all(kind);
-    out::bytes(kind);
-    out::number(f.alone);
-    out::number(f.ended);
-    out::end();
+pub fn show<W: Write>(out: &mut W, kind: &[u8]) -> io::Result<()> {
+    let Folded { alone, ended } = try_all(kind);
+    out::bytes(out, kind)?;
+    writeln!(out, " {alone} {ended}")
 }
 
 // A line of the list each: bytes that begin no character, or one that is cut off by what follows or by the end; a control byte, an overlong
 // form, a surrogate, a code point that is no Char, and one past the last; characters of each size; a character with a fault after it.
-pub fn print() {
-    out::text(b"planted bytes, the check's answers, and with a control byte at the end\n");
+pub fn print<W: Write>(out: &mut W) -> io::Result<()> {
+    writeln!(
+        out,
+        "planted bytes, the check's answers, and with a control byte at the end"
+    )?;
     parts::each(
+        out,
         b"\x80|\xC3|\xE2\x82|\xF0\x9F\x98|\
         \x01|\xC0\x80|\xED\xA0\x80|\xEF\xBF\xBE|\xF4\x90\x80\x80|\
         \x7F|\xC3\xA9|\xE2\x82\xAC|\xEF\xBF\xBD|\xF0\x9F\x98\x80|\
         \xC3\xA9\x80|\xE2\x82\xAC\xE2\x82|\xF0\x9F\x98\x80\xED\xA0\x80|\xC3\xA9plain bytes\x01|",
         true,
-    );
+    )
 }

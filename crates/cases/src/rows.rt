@@ -1,6 +1,8 @@
 // Every byte at the second, the third and the fourth place of a sequence, after each first byte: the sequences that stand there, folded
 // into a number. A line for each first byte whose number is not that of the one before.
-use crate::{answers, out};
+use crate::answers;
+use std::io;
+use std::io::Write;
 
 // Second bytes: no later byte, and the borders of the ranges that some first byte allows.
 const SECONDS: [u8; 8] = [0x00, 0x80, 0x8F, 0x90, 0x9F, 0xA0, 0xBF, 0xFF];
@@ -23,16 +25,18 @@ fn folded(first: u8) -> usize {
     h
 }
 
-pub fn print() {
-    out::text(b"first byte, and the sequences with each byte at each place after it\n");
+pub fn print<W: Write>(out: &mut W) -> io::Result<()> {
+    writeln!(
+        out,
+        "first byte, and the sequences with each byte at each place after it"
+    )?;
     let mut last: usize = 0;
-    let mut a: usize = 0;
-    while a < 256 {
-        let next = folded((a % 256) as u8);
+    for a in 0..=u8::MAX {
+        let next = folded(a);
         if next != last {
-            out::line(a, 2, next);
+            writeln!(out, "{a:02x} {next}")?;
         }
         last = next;
-        a += 1;
     }
+    Ok(())
 }

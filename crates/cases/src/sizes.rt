@@ -1,6 +1,8 @@
 // Path lists at the sizes and past them: each a piece, another one n times and a last one, for five n from some number on. A line has the
 // row of the list, n, and what is answered.
-use crate::{answers, out};
+use crate::answers;
+use std::io;
+use std::io::Write;
 
 // Writes a piece from the place at on, as far as there is room. Where it ends.
 fn join(s: &mut [u8], at: usize, piece: &[u8]) -> usize {
@@ -31,56 +33,61 @@ fn sized(first: &[u8], piece: &[u8], n: usize, last: &[u8]) -> usize {
 }
 
 // A line for each of five n.
-fn lines(row: usize, first: &[u8], piece: &[u8], from: usize, last: &[u8]) {
-    let mut k: usize = 0;
-    while k < 5 {
+fn lines<W: Write>(
+    out: &mut W,
+    row: usize,
+    first: &[u8],
+    piece: &[u8],
+    from: usize,
+    last: &[u8],
+) -> io::Result<()> {
+    for k in 0..5 {
         let n = from % 8192 + k;
         let code = sized(first, piece, n, last);
-        out::number(row);
-        out::number(n);
-        out::number(code / 64);
-        out::number(code % 64);
-        out::end();
-        k += 1;
+        writeln!(out, " {row} {n} {} {}", code / 64, code % 64)?;
     }
+    Ok(())
 }
 
 // In order: lines, from 0 and from 30 on; lines and a malformed one; steps; steps, malformed; bytes of a name; two bytes each of a name;
 // bytes after a line.
-fn plain() {
-    lines(0, b"", b"/a\n", 0, b"");
-    lines(1, b"", b"/a\n", 30, b"");
-    lines(2, b"", b"/a\n", 30, b"a\n");
-    lines(3, b"", b"/a", 14, b"\n");
-    lines(4, b"", b"/a", 14, b" \n");
-    lines(5, b"/", b"n", 253, b"\n");
-    lines(6, b"/n", b"\xC3\xA9", 125, b"\n");
-    lines(7, b"/a\n", b"x", 8187, b"");
+fn plain<W: Write>(out: &mut W) -> io::Result<()> {
+    lines(out, 0, b"", b"/a\n", 0, b"")?;
+    lines(out, 1, b"", b"/a\n", 30, b"")?;
+    lines(out, 2, b"", b"/a\n", 30, b"a\n")?;
+    lines(out, 3, b"", b"/a", 14, b"\n")?;
+    lines(out, 4, b"", b"/a", 14, b" \n")?;
+    lines(out, 5, b"/", b"n", 253, b"\n")?;
+    lines(out, 6, b"/n", b"\xC3\xA9", 125, b"\n")?;
+    lines(out, 7, b"/a\n", b"x", 8187, b"")
 }
 
 // In order: bytes of a name behind the two longer kinds of step; steps of these kinds; a name with two colons; a name that begins with one.
-fn colons() {
-    lines(8, b"/self::", b"n", 253, b"\n");
-    lines(9, b"/descendant-or-self::", b"n", 253, b"\n");
-    lines(10, b"", b"/self::a", 14, b" #\n");
-    lines(11, b"//b", b"/descendant-or-self::*", 13, b"\n");
-    lines(12, b"/", b"n", 252, b"::\n");
-    lines(13, b"/self:::", b"n", 252, b"\n");
+fn colons<W: Write>(out: &mut W) -> io::Result<()> {
+    lines(out, 8, b"/self::", b"n", 253, b"\n")?;
+    lines(out, 9, b"/descendant-or-self::", b"n", 253, b"\n")?;
+    lines(out, 10, b"", b"/self::a", 14, b" #\n")?;
+    lines(out, 11, b"//b", b"/descendant-or-self::*", 13, b"\n")?;
+    lines(out, 12, b"/", b"n", 252, b"::\n")?;
+    lines(out, 13, b"/self:::", b"n", 252, b"\n")
 }
 
 // In order: bytes of a test's name, and of its value; two and three bytes each of a value; a value with `<` at its end; steps and a test.
-fn tests() {
-    lines(14, b"/a[@", b"n", 253, b"=\"x\"]\n");
-    lines(15, b"/a[@k=\"", b"n", 253, b"\"]\n");
-    lines(16, b"/a[@k=\"n", b"\xC3\xA9", 125, b"\"] #\n");
-    lines(17, b"/*[@k=\"", b"\xE2\x82\xAC", 83, b"\"]\n");
-    lines(18, b"/a[@k=\"", b"n", 253, b"<\"]\n");
-    lines(19, b"", b"/a", 14, b"[@k=\"x\"]\n");
+fn tests<W: Write>(out: &mut W) -> io::Result<()> {
+    lines(out, 14, b"/a[@", b"n", 253, b"=\"x\"]\n")?;
+    lines(out, 15, b"/a[@k=\"", b"n", 253, b"\"]\n")?;
+    lines(out, 16, b"/a[@k=\"n", b"\xC3\xA9", 125, b"\"] #\n")?;
+    lines(out, 17, b"/*[@k=\"", b"\xE2\x82\xAC", 83, b"\"]\n")?;
+    lines(out, 18, b"/a[@k=\"", b"n", 253, b"<\"]\n")?;
+    lines(out, 19, b"", b"/a", 14, b"[@k=\"x\"]\n")
 }
 
-pub fn print() {
-    out::text(b"list, how often its piece stands there, and what is answered\n");
-    plain();
-    colons();
-    tests();
+pub fn print<W: Write>(out: &mut W) -> io::Result<()> {
+    writeln!(
+        out,
+        "list, how often its piece stands there, and what is answered"
+    )?;
+    plain(out)?;
+    colons(out)?;
+    tests(out)
 }

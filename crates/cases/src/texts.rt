@@ -6,6 +6,8 @@ ghost use Rattle.std.specs.Prelude.{◌≤◌};
 use crate::offsets::planted;
 use crate::{answers, out, parts};
 use chars::space::after_space;
+use std::io;
+use std::io::Write;
 
 // Bytes that stand for each byte in turn.
 const OTHERS: [u8; 27] = [
@@ -47,35 +49,33 @@ fn cut_off(s: &[u8]) -> usize {
     h
 }
 
-fn ends(s: &[u8]) {
-    out::number(answers::named(s, 0));
-    out::number(answers::named(s, 1));
-    out::number(after_space(s, 0));
-    out::number(after_space(s, 100));
+fn ends<W: Write>(out: &mut W, s: &[u8]) -> io::Result<()> {
+    write!(out, " {} {}", answers::named(s, 0), answers::named(s, 1))?;
+    write!(out, " {} {}", after_space(s, 0), after_space(s, 100))
 }
 
-pub fn show(s: &[u8]) {
-    out::bytes(s);
-    ends(s);
+pub fn show<W: Write>(out: &mut W, s: &[u8]) -> io::Result<()> {
+    out::bytes(out, s)?;
+    ends(out, s)?;
     let code = answers::listed(s);
-    out::number(code / 64);
-    out::number(code % 64);
+    write!(out, " {} {}", code / 64, code % 64)?;
     if s.len() <= 256 {
-        out::number(replaced(planted([0; 256], 0, s), s.len()));
+        write!(out, " {}", replaced(planted([0; 256], 0, s), s.len()))?;
     }
-    out::number(cut_off(s));
-    out::end();
+    writeln!(out, " {}", cut_off(s))
 }
 
 // A line of the list each: ASCII; U+E9 and the same as a letter and U+301, U+300 first, U+B7, U+D7, U+F7, U+37E; U+2C00, U+3000, U+3001,
 // U+203F, U+10000 and U+EFFFF, U+F0000; nothing, bytes that begin nothing, sequences that are cut off; overlong forms of a letter, a
 // surrogate, U+FFFE, a code point past the last; white space, and what is none: U+B, U+C, U+A0, U+2003; path lists in eight lines, the last
 // three with tests of an attribute.
-pub fn print() {
-    out::text(
-        b"bytes; name ends from 0, 1; space ends from 0, 100; as a list; replaced, cut off\n",
-    );
+pub fn print<W: Write>(out: &mut W) -> io::Result<()> {
+    writeln!(
+        out,
+        "bytes; name ends from 0, 1; space ends from 0, 100; as a list; replaced, cut off"
+    )?;
     parts::each(
+        out,
         b"a|report|_1.2-3|:|a:b:c|-a|.a|1a|a b|a=|a/>|a\x00b|a@[`{|\
         \xC3\xA9t\xC3\xA9|e\xCC\x81te|\xCC\x80a|a\xC2\xB7b|\xC2\xB7|a\xC3\x97b|a\xC3\xB7b|a\xCD\xBEb|\
         \xE2\xB0\x80|\xE3\x80\x80a|\xE3\x80\x81\xE3\x80\x80|a\xE2\x80\xBFb|\xF0\x90\x80\x80\xF3\xAF\xBF\xBF|a\xF3\xB0\x80\x80|\
@@ -91,5 +91,5 @@ pub fn print() {
         /descendant-or-self::\xC3\xA9[@e\xCC\x81=\"\xC3\xA9 e\xCC\x81\x7F\xC2\x85\"]\n|/a\n//b[@k=\"]'[@l='>/\"]\n|\
         /a[@k=\"x\"]/b\n|/a[@k=\"x\"][@l=\"y\"]\n|/a[@k='x']\n|/a[@k=\"a<b\"]\n|/a[@k=\"&amp;\"] #\n|",
         false,
-    );
+    )
 }

@@ -4,29 +4,34 @@
 //     standard input    the document, and one byte more than it may have, so that a longer one is told
 //     paths.lst         the list, in the same way              a file that can't be opened: an empty list
 //     standard output   what is told
-ghost use Rattle.io.specs.Counts.{IsPrefixLen};
+#![tactic(auto)]
 
-use libc::{STDIN_FILENO, STDOUT_FILENO};
+ghost use Rattle.std.specs.Prelude.{◌≤◌, length};
+
+use intake::read_full;
 use report::{INPUT, LIST, PRINTED, told};
+use std::io::Write;
+use std::rt::Files;
+use std::{fs, io};
 
 // Reads the list, as far as the buffer reaches, and gives its length.
-fn read_list(buf: &mut [u8]) -> usize
-    ensures { IsPrefixLen result buf.new }
+fn read_list<R: Files>(rt: &R, buf: &mut [u8]) -> usize
+    ensures { result ≤ length buf.new }
 {
-    let fd = os::open_read(b"paths.lst");
-    if fd < 0 {
-        return 0;
+    match fs::open(rt, "paths.lst") {
+        Ok(mut file) => {
+            let (n, _) = read_full(&mut file, buf);
+            n
+        }
+        Err(_) => 0,
     }
-    let n = io::read_full(fd, buf);
-    libc::close(fd);
-    n
 }
 
-fn main() {
+fn main(rt: HostRuntime) -> io::Result<()> {
     let mut doc = [0u8; INPUT];
-    let n = io::read_full(STDIN_FILENO, &mut doc);
+    let (n, _) = read_full(&mut rt.reader(), &mut doc);
     let mut list = [0u8; LIST];
-    let m = read_list(&mut list);
+    let m = read_list(&rt, &mut list);
     let mut out = [0u8; PRINTED];
-    io::write_all(STDOUT_FILENO, told(&list, m, &doc, n, &mut out));
+    io::writer(&rt).write_all(told(&list, m, &doc, n, &mut out))
 }

@@ -4,25 +4,28 @@
 //     suite    the files of the W3C's conformance suite that have no document type
 //     named    cases chosen by hand
 //     made     cases from a seeded generator
+#![tactic(auto)]
+
 mod digest; // what a buffer holds, before the call and after it
 mod pack; // a pack's cases, one after the other
 
-use libc::STDOUT_FILENO;
+use std::io::{BufReader, BufWriter, Write};
+use std::rt::Files;
+use std::{fs, io};
 
 // A line with the pack's name, then one for each case. A pack that can't be opened has none.
-fn tell(name: &[u8]) {
-    io::write_all(STDOUT_FILENO, name);
-    io::write_all(STDOUT_FILENO, b"\n");
-    let fd = os::open_read(name);
-    if fd < 0 {
-        return;
+fn tell<R: Files + AllocGlobal, W: Write>(rt: &R, out: &mut W, name: &str) -> io::Result<()> {
+    writeln!(out, "{name}")?;
+    match fs::open(rt, name) {
+        Ok(file) => pack::cases(&mut BufReader::new(rt.alloc(), file)?, out),
+        Err(_) => Ok(()),
     }
-    pack::cases(fd);
-    libc::close(fd);
 }
 
-fn main() {
-    tell(b"suite");
-    tell(b"named");
-    tell(b"made");
+fn main(rt: HostRuntime) -> io::Result<()> {
+    let mut out = BufWriter::new(rt.alloc(), io::writer(&rt))?;
+    tell(&rt, &mut out, "suite")?;
+    tell(&rt, &mut out, "named")?;
+    tell(&rt, &mut out, "made")?;
+    out.flush()
 }

@@ -3,25 +3,31 @@
 //     how much of the list before it keeps    how many bytes it adds to that    the same two of the document    the room
 //
 // So a case that begins as the one before costs little. A pack ends where the file does, or at a head that asks for more than there is.
-ghost use Rattle.io.specs.Counts.{IsPrefixLen};
+ghost use Rattle.std.specs.Prelude.{◌≤◌, length};
 
 use super::digest;
 use exported::FourNumbers;
-use libc::STDOUT_FILENO;
+use intake::read_full;
+use std::io;
+use std::io::{Read, Write};
 
 const HEAD: usize = 10;
 
-// The most bytes of a list.
+// The most bytes of a list, of a document and of the room.
 const LIST: usize = 16384;
+
+const DOCUMENT: usize = 65536;
+
+const ROOM: usize = 65536;
 
 // A number of two bytes.
 fn number(low: u8, high: u8) -> usize {
     low as usize + 256 * (high as usize)
 }
 
-// Puts so many bytes of the file after the front that is kept, and gives the length of both. What does not fit is not read.
-fn extended(fd: i32, text: &mut [u8], keep: usize, more: usize) -> usize
-    ensures { IsPrefixLen result text.new }
+// Puts so many bytes of the pack after the front that is kept, and gives the length of both. What does not fit is not read.
+fn extended<R: Read>(pack: &mut R, text: &mut [u8], keep: usize, more: usize) -> usize
+    ensures { result ≤ length text.new }
 {
     if keep > text.len() {
         return 0;
@@ -29,66 +35,92 @@ fn extended(fd: i32, text: &mut [u8], keep: usize, more: usize) -> usize
     if more > text.len() - keep {
         return keep;
     }
-    keep + io::read_full(fd, &mut text[keep..keep + more])
+    let (added, _) = read_full(pack, &mut text[keep..keep + more]);
+    keep + added
 }
 
 // A line: four numbers in decimal, and the digest.
-fn print(numbers: FourNumbers, digest: u32) {
-    io::print_decimal(STDOUT_FILENO, numbers.number);
-    io::write_all(STDOUT_FILENO, b" ");
-    io::print_decimal(STDOUT_FILENO, numbers.second);
-    io::write_all(STDOUT_FILENO, b" ");
-    io::print_decimal(STDOUT_FILENO, numbers.third);
-    io::write_all(STDOUT_FILENO, b" ");
-    io::print_decimal(STDOUT_FILENO, numbers.fourth);
-    io::write_all(STDOUT_FILENO, b" ");
-    io::print_hex(STDOUT_FILENO, digest as u64, 8);
-    io::write_all(STDOUT_FILENO, b"\n");
+fn print<W: Write>(out: &mut W, numbers: FourNumbers, digest: u32) -> io::Result<()> {
+    let FourNumbers {
+        number,
+        second,
+        third,
+        fourth,
+    } = numbers;
+    writeln!(out, "{number} {second} {third} {fourth} {digest:08x}")
 }
 
 // One call, and its line.
-fn tell(list: &[u8], doc: &[u8], out: &mut [u8]) {
-    digest::prepare(out);
-    let numbers = exported::choughbell_cut(list, doc, out);
-    print(numbers, digest::crc(out));
+fn tell<W: Write>(out: &mut W, list: &[u8], doc: &[u8], room: &mut [u8]) -> io::Result<()> {
+    digest::prepare(room);
+    let numbers = exported::choughbell_cut(list, doc, room);
+    print(out, numbers, digest::crc(room))
 }
 
 // The same, with so much of the buffer.
-fn tell_in(list: &[u8], doc: &[u8], out: &mut [u8], room: usize) {
-    if room <= out.len() {
-        tell(list, doc, &mut out[..room]);
+fn tell_in<W: Write>(
+    out: &mut W,
+    list: &[u8],
+    doc: &[u8],
+    buf: &mut [u8],
+    room: usize,
+) -> io::Result<()> {
+    if room <= buf.len() {
+        return tell(out, list, doc, &mut buf[..room]);
     }
+    Ok(())
 }
 
 // Reads what the case of a head adds, and tells of it.
-fn read(fd: i32, head: &[u8; HEAD], list: &mut [u8], doc: &mut [u8], out: &mut [u8]) {
-    let l = extended(fd, list, number(head[0], head[1]), number(head[2], head[3]));
-    let d = extended(fd, doc, number(head[4], head[5]), number(head[6], head[7]));
-    tell_in(&list[..l], &doc[..d], out, number(head[8], head[9]));
+fn read<R: Read, W: Write>(
+    pack: &mut R,
+    out: &mut W,
+    head: &[u8; HEAD],
+    list: &mut [u8],
+    doc: &mut [u8],
+    buf: &mut [u8],
+) -> io::Result<()> {
+    let l = extended(
+        pack,
+        list,
+        number(head[0], head[1]),
+        number(head[2], head[3]),
+    );
+    let d = extended(
+        pack,
+        doc,
+        number(head[4], head[5]),
+        number(head[6], head[7]),
+    );
+    tell_in(out, &list[..l], &doc[..d], buf, number(head[8], head[9]))
 }
 
 // Reads a case and tells of it, if there is one.
-fn told(fd: i32, list: &mut [u8], doc: &mut [u8], out: &mut [u8]) -> bool {
+fn told<R: Read, W: Write>(
+    pack: &mut R,
+    out: &mut W,
+    list: &mut [u8],
+    doc: &mut [u8],
+    buf: &mut [u8],
+) -> io::Result<bool> {
     let mut head = [0u8; HEAD];
-    if io::read_full(fd, &mut head) < HEAD {
-        return false;
+    let (there, _) = read_full(pack, &mut head);
+    if there < HEAD {
+        return Ok(false);
     }
-    read(fd, &head, list, doc, out);
-    true
+    read(pack, out, &head, list, doc, buf)?;
+    Ok(true)
 }
 
-// All cases. A loop has to end and a file need not, so turns are counted down from a number that none uses up.
-fn tell_all(fd: i32, list: &mut [u8], doc: &mut [u8], out: &mut [u8]) {
-    let mut turns = u64::MAX;
-    while turns > 0 && told(fd, list, doc, out) {
-        turns -= 1;
-    }
-}
-
-// All cases of a file.
-pub fn cases(fd: i32) {
+// All cases of a pack. A loop has to end and a file need not, so turns are counted up to a number that none reaches.
+pub fn cases<R: Read, W: Write>(pack: &mut R, out: &mut W) -> io::Result<()> {
     let mut list = [0u8; LIST];
-    let mut doc = io::large_buffer();
-    let mut out = io::large_buffer();
-    tell_all(fd, &mut list, &mut doc, &mut out);
+    let mut doc = [0u8; DOCUMENT];
+    let mut buf = [0u8; ROOM];
+    for _ in 0..u64::MAX {
+        if !told(pack, out, &mut list, &mut doc, &mut buf)? {
+            break;
+        }
+    }
+    Ok(())
 }

@@ -3,6 +3,8 @@
 // and the sum of the verdicts. The file `stdout` has what is right: ordinary Rust in docs/src/expected makes it, with the same draws, by
 // trying places for the steps of each path as documents 01 and 02 word it.
 
+#![tactic(auto)]
+
 mod draw; // numbers drawn, and sums
 mod mode; // what a round is like
 mod names; // names by number
@@ -12,19 +14,14 @@ mod walk; // a walk drawn, and what the matcher says on the way
 use compiled::compile::read;
 use compiled::layout;
 use draw::fold;
-use libc::STDOUT_FILENO;
 use list::put_list;
 use mode::{Mode, mode_of};
 use paths::ListAnswer;
+use std::io;
+use std::io::{BufWriter, Write};
 use walk::{Tally, walk};
 
 const ROUNDS: usize = 400;
-
-// A space, and n in decimal.
-fn number(n: usize) {
-    io::write_all(STDOUT_FILENO, b" ");
-    io::print_decimal(STDOUT_FILENO, n as u64);
-}
 
 // The sum of a list's bytes.
 fn sum(list: &[u8]) -> usize {
@@ -38,46 +35,48 @@ fn sum(list: &[u8]) -> usize {
 }
 
 // What is counted in a walk, to the end of the line.
-fn print(t: Tally) {
-    number(t.deepest);
-    number(t.names);
-    number(t.unselected);
-    number(t.selected);
-    number(t.marked);
-    number(t.verdicts);
-    io::write_all(STDOUT_FILENO, b"\n");
+fn print<W: Write>(out: &mut W, t: Tally) -> io::Result<()> {
+    let Tally {
+        deepest,
+        names,
+        unselected,
+        selected,
+        marked,
+        verdicts,
+    } = t;
+    writeln!(
+        out,
+        " {deepest} {names} {unselected} {selected} {marked} {verdicts}"
+    )
 }
 
 // The list is read, and what it says on a walk is printed.
-fn tell(list: &[u8], seed: usize, m: Mode) {
+fn tell<W: Write>(out: &mut W, list: &[u8], seed: usize, m: Mode) -> io::Result<()> {
     let mut tables = [0u16; layout::LENGTH];
     let ListAnswer::Sound = read(list, &mut tables) else {
-        io::write_all(STDOUT_FILENO, b" refused\n");
-        return;
+        return writeln!(out, " refused");
     };
-    print(walk(list, &tables, seed, m));
+    print(out, walk(list, &tables, seed, m))
 }
 
 // A round: its list is drawn, and then its walk. Every list that is drawn is sound and shorter than the buffer.
-fn round(r: usize) {
+fn round<W: Write>(out: &mut W, r: usize) -> io::Result<()> {
     let m = mode_of(r);
     let mut seed = r % 65536 * 7919;
     let mut text = [0u8; 4096];
     let n = put_list(&mut text, &mut seed, m);
     if n <= text.len() {
         let list = &text[0..n];
-        io::write_all(STDOUT_FILENO, b"round");
-        number(r);
-        number(n);
-        number(sum(list));
-        tell(list, seed, m);
+        write!(out, "round {r} {n} {}", sum(list))?;
+        tell(out, list, seed, m)?;
     }
+    Ok(())
 }
 
-fn main() {
-    let mut r: usize = 0;
-    while r < ROUNDS {
-        round(r);
-        r += 1;
+fn main(rt: HostRuntime) -> io::Result<()> {
+    let mut out = BufWriter::new(rt.alloc(), io::writer(&rt))?;
+    for r in 0..ROUNDS {
+        round(&mut out, r)?;
     }
+    out.flush()
 }

@@ -6,7 +6,7 @@ use paths::Kind;
 // below `descendants` it is a descendant step, else below `selves` a self step, else below `or_selves` a descendant-or-self step. It is `*`
 // if another is below `any`; its name is drawn from the first `listed` ones, an element's from the first `met`. An element starts if a
 // number drawn below 16 is below `starts`, else one ends.
-#[derive(Drop)]
+#[derive(Clone, Copy)]
 pub struct Mode {
     pub lines: usize,
     pub more_lines: usize,
