@@ -63,7 +63,7 @@ runs: rt cut
 # The program, proved and built.
 cut:
 	@echo 'proving and building the program: minutes the first time, then seconds'
-	@mkdir -p target/log && rt check cut > target/log/make || { cat target/log/make; exit 1; }
+	@mkdir -p target/log && (cd crates/cut && rt run < stdin) > target/log/make 2>&1 || { cat target/log/make; exit 1; }
 
 # What has to be there, and what can be installed where it is not.
 rt:
@@ -80,11 +80,11 @@ fetch = { echo 'installing $(1)'; mkdir -p $(MADE); \
     { $(APT) update && $(APT) install -y --no-install-recommends $(1); } > $(MADE)/apt 2>&1 || { tail -n 5 $(MADE)/apt; false; }; }
 
 format:
-	rt fmt --check
+	@git ls-files '*.rt' '*.antt' | xargs "$$(dirname "$$(readlink -f "$$(command -v rt)")")/rattle" fmt --check
 
-# No line has over 140 characters.
+# No line has over 140 characters, but for .antt files: their lines are as the toolchain lays them out, which knows no limit there.
 lines:
-	@! git ls-files '*.rt' '*.antt' '*.rs' '*.md' '*.sh' '*.mk' '*.c' '*.h' Makefile .ci/run | LC_ALL=C.UTF-8 xargs grep -nE '^.{141,}' || { \
+	@! git ls-files '*.rt' '*.rs' '*.md' '*.sh' '*.mk' '*.c' '*.h' Makefile .ci/run | LC_ALL=C.UTF-8 xargs grep -nE '^.{141,}' || { \
 	    echo 'lines over 140 characters, above'; exit 1; }
 
 # The plain engine calls nothing of the first: no line of its source but comments has a path into one of these crates.

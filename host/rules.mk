@@ -2,14 +2,15 @@
 
 .PHONY: library xmllint cargo proving choughbell host-tests changed install uninstall deb x86 x86-library x86-host-tests
 
-# The proved library: for the machine at hand, and on the way the toolchain's static library for x86-64. It is made again when source or
-# proofs have changed. While it is proved there is a line for each crate, and else nothing is said unless it fails.
+# The proved library: for the machine at hand, and on the way that for x86-64. It is made again when source or proofs have changed. While it
+# is proved there is a line for each crate, and else nothing is said unless it fails.
 NATIVE = target/native
 MAKE_LIBRARY = host/native.sh
-PROVED = $(shell find crates -name '*.rt' -o -name '*.antt')
-$(NATIVE)/libexported.a: host/native.sh host/native.c host/include/choughbell.h $(PROVED) | rt rust
+PROVED = $(shell find crates/*/src crates/*/specs crates/*/proofs -name '*.rt' -o -name '*.antt')
+$(NATIVE)/libexported.a: host/native.sh crates.txt $(PROVED) | rt rust
 	@mkdir -p $(NATIVE) && { $(MAKE_LIBRARY) $(NATIVE) 2>&1; echo $$? > $(NATIVE)/status; } | tee $(NATIVE)/log | \
-	    sed -u -n 's/^rt: \([^ ]* proved ([0-9].*)\)$$/\1/p'; [ "$$(cat $(NATIVE)/status)" = 0 ] || { cat $(NATIVE)/log; exit 1; }
+	    sed -u -n -e '/^crate /h' -e '/^logic=proved/{x;s/^crate \(.*\): .*/\1 proved/p}'; [ "$$(cat $(NATIVE)/status)" = 0 ] || { \
+	    cat $(NATIVE)/log; exit 1; }
 
 library: $(NATIVE)/libexported.a
 
@@ -40,7 +41,7 @@ xmllint:
 	@command -v xmllint > /dev/null || $(call fetch,libxml2-utils) || true
 
 host-tests: choughbell xmllint
-	@cargo test -q $(HOST_CARGO_WORDS) > target/log/host 2>&1 || { cat target/log/host; exit 1; }
+	@mkdir -p target/log && cargo test -q $(HOST_CARGO_WORDS) > target/log/host 2>&1 || { cat target/log/host; exit 1; }
 	host/tests/run.sh target/host/choughbell
 
 PREFIX = /usr/local
@@ -49,10 +50,10 @@ PUT = $(DESTDIR)$(PREFIX)
 # What is built and no older than its source is taken as it is: who installs as root may have no toolchain. `make changed` names what is
 # newer.
 BUILT = target/host/choughbell
-SOURCES = host/src host/include host/Cargo.toml host/Cargo.lock host/build.rs host/native.sh host/native.c
+SOURCES = host/src host/include host/Cargo.toml host/Cargo.lock host/build.rs host/native.sh crates.txt crates/*/src crates/*/specs \
+    crates/*/proofs
 changed:
-	@[ ! -e '$(BUILT)' ] || { find $(SOURCES) -type f -newer '$(BUILT)'; find crates -name '*.rt' -newer '$(BUILT)'; \
-	    find crates -name '*.antt' -newer '$(BUILT)'; }
+	@[ ! -e '$(BUILT)' ] || find $(SOURCES) -type f -newer '$(BUILT)'
 
 install:
 	@[ -x $(BUILT) ] && [ -z "$$($(MAKE) --no-print-directory -s changed)" ] || $(MAKE) --no-print-directory choughbell
@@ -82,8 +83,8 @@ deb:
 	@$(MAKE) --no-print-directory -s install DESTDIR='$(DEB)/staged' PREFIX=/usr
 	host/package.sh '$(DEB)/staged' $(VERSION) '$(DEB)'
 
-# Elsewhere than on x86-64 the toolchain's static library, x86-64 code, is tried too, as a second check: under an emulator, in programs of
-# Debian's compilers for x86-64, since they come with that machine's standard library.
+# Elsewhere than on x86-64 the library for x86-64 is tried too, as a second check: under an emulator, in programs of Debian's compilers for
+# x86-64, since they come with that machine's standard library.
 X86_RUSTC = /usr/bin/rustc --target x86_64-unknown-linux-gnu -C linker=x86_64-linux-gnu-gcc \
     -C target-feature=+crt-static -C relocation-model=static
 X86_CC = x86_64-linux-gnu-gcc -static

@@ -2,7 +2,7 @@
 use crate::{room, Cut, FourNumbers, Refusal, Written, NOTES};
 
 extern "C" {
-    // As in crates/clients/src/lib.rt: a slice is its pointer and then its length, an array its pointer.
+    // As in crates/clients_c/src/lib.rt: a slice is its pointer and then its length, an array its pointer.
     fn choughbell_four(
         list1: *const u8,
         list1_len: usize,

@@ -78,7 +78,7 @@ pub struct Numbers {
 
 #[link(name = "exported", kind = "static")]
 extern "C" {
-    // Nothing checks these against the Rattle source, crates/exported/src/lib.rt: a slice is its pointer and then its length.
+    // Nothing checks these against the Rattle source, crates/exported_c/src/lib.rt: a slice is its pointer and then its length.
     fn choughbell_judge(doc: *const u8, doc_len: usize) -> Numbers;
     fn choughbell_plain(list: *const u8, list_len: usize, doc: *const u8, doc_len: usize, out: *mut u8, out_len: usize) -> Numbers;
     fn choughbell_batch(list: *const u8, list_len: usize, batch: *const u8, batch_len: usize, out: *mut u8, out_len: usize) -> Numbers;

@@ -2,7 +2,7 @@
 use crate::{FourNumbers, Refusal, DOCUMENT_LIMIT};
 
 extern "C" {
-    // As in crates/exported/src/mending.rt: a slice is its pointer and then its length.
+    // As in crates/exported_c/src/mending.rt: a slice is its pointer and then its length.
     fn choughbell_mend(doc: *const u8, doc_len: usize, out: *mut u8, out_len: usize) -> FourNumbers;
 }
 

@@ -8,7 +8,7 @@ pub const PACKED_LIMIT: usize = 8_833;
 
 #[link(name = "exported", kind = "static")]
 extern "C" {
-    // Nothing checks these against the Rattle source, crates/exported/src/packing.rt: a slice is its pointer and then its length.
+    // Nothing checks these against the Rattle source, crates/exported_c/src/lib.rt: a slice is its pointer and then its length.
     fn choughbell_pack(text: *const u8, text_len: usize, out: *mut u8, out_len: usize) -> Numbers;
     fn choughbell_unpack(packed: *const u8, packed_len: usize, out: *mut u8, out_len: usize) -> Numbers;
 }

@@ -2,7 +2,7 @@
 use crate::{room, Numbers, Refusal};
 
 extern "C" {
-    // As in crates/spreadsheet/src/lib.rt: a slice is its pointer and then its length.
+    // As in crates/spreadsheet_c/src/lib.rt: a slice is its pointer and then its length.
     fn choughbell_rows(list: *const u8, list_len: usize, doc: *const u8, doc_len: usize, out: *mut u8, out_len: usize) -> Numbers;
 }
 

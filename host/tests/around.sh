@@ -166,7 +166,7 @@ left=$(find stage -type f)
 ran=$((ran + 2))
 touch -d 1970-01-02 built
 put changed BUILT="$room/built"
-for file in host/Cargo.toml host/build.rs host/src/main.rs host/src/page.css host/native.c crates/cutter/src/lib.rt; do
+for file in host/Cargo.toml host/build.rs host/src/main.rs host/src/page.css host/native.sh crates.txt crates/cutter/src/lib.rt; do
     grep -qx "$file" "$notes/printed" || fault 'make changed' "no $file"
 done
 touch -d 2100-01-01 built
@@ -176,15 +176,16 @@ put changed BUILT="$room/built"
 # While the library is proved there is a line for each crate that is; a proof that fails shows all that was said. Here by a stand-in.
 cat > prover <<'END'
 #!/bin/sh
-printf 'rt: %s\n' 'xml proved (unchanged since it was last proved)' 'utf8 proved (19 s)' 'points proved (2 s)'
-echo 'fn points::is: proved'
-[ "${1##*/}" != fails ] || exit 1
+checked() { printf '%s\n' "fn $1::is: proved" "library xml: modules loaded=2" "crate $1: modules loaded=9" "logic=$2"; }
+checked utf8 proved
+[ "${1##*/}" != fails ] || { checked points not-proved && exit 1; }
+checked points proved
 echo > "$1/libexported.a"
 END
 chmod 755 prover
 ran=$((ran + 2))
 put library NATIVE="$room/proving" MAKE_LIBRARY="$room/prover"
-[ "$(tr '\n' ' ' < "$notes/printed")" = 'utf8 proved (19 s) points proved (2 s) ' ] || fault 'lines while proving' "$(cat "$notes/printed")"
+[ "$(tr '\n' ' ' < "$notes/printed")" = 'utf8 proved points proved ' ] || fault 'lines while proving' "$(cat "$notes/printed")"
 ! MAKEFLAGS='' make -s -C "$root" library NATIVE="$room/fails" MAKE_LIBRARY="$room/prover" > "$notes/printed" 2>&1 ||
     fault 'a proof that fails' 'status'
 grep -q '^fn points::is: proved$' "$notes/printed" || fault 'a proof that fails' "$(cat "$notes/printed")"

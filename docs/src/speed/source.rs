@@ -1,7 +1,8 @@
 // Reads the Rattle source of crates as Rust, so that it can be timed on any machine: one file of nested modules, on the standard output,
 // to be the module `ours`.
-// Names of crates are the arguments. Ghost lines, contracts and comments go; structs and enums are Clone and Copy; extern functions are
-// plain ones. With --unchecked first, no index is checked, as in the compiled library, where a proof stands for the check.
+// Names of crates are the arguments. Ghost lines, contracts, comments and what is said to Rattle alone go; structs and enums are Clone and
+// Copy; extern functions are plain ones. With --unchecked first, no index is checked, as in the compiled library, where a proof stands for
+// the check.
 // What is left has to be Rust: a form that is not known here stops it, or stops rustc.
 use std::path::Path;
 use std::{env, fs, process};
@@ -18,6 +19,17 @@ fn code(line: &str) -> &str {
         return "";
     }
     line.split(" // ").next().unwrap().trim_end()
+}
+
+/// Whether a clause begins on a line, with a name or without one.
+fn clause(start: &str) -> bool {
+    let words: Vec<&str> = start.split_whitespace().take(3).collect();
+    matches!(words[..], ["requires" | "ensures", "{", ..] | ["requires" | "ensures", _, "{"])
+}
+
+/// Whether a line is an attribute that is for Rattle alone, or the traits of a type, which are written anew here.
+fn attribute(start: &str) -> bool {
+    ["#![tactic(", "#[tactic(", "#[cycle(", "#[unsafe(no_mangle)]", "#[derive("].iter().any(|head| start.starts_with(head))
 }
 
 /// How many braces of a clause are open after a line, or nothing where something stands after the last.
@@ -71,9 +83,9 @@ fn module(file: &Path, folder: &Path, own: &str, crates: &[String], checked: boo
     for (i, line) in text.lines().enumerate() {
         let line = code(line);
         let start = line.trim_start();
-        if open > 0 || start.starts_with("requires {") || start.starts_with("ensures {") {
+        if open > 0 || clause(start) {
             open = still_open(line, open).unwrap_or_else(|| stop(file, i + 1, "something after a clause"));
-        } else if line.starts_with("ghost use ") && line.ends_with(';') || line == "#[no_mangle]" || line.is_empty() {
+        } else if line.starts_with("ghost use ") && line.ends_with(';') || attribute(start) || line.is_empty() {
         } else if !line.is_ascii() || ["ghost", "requires", "ensures"].iter().any(|w| start.starts_with(w)) {
             stop(file, i + 1, "no form of Rust that is known here");
         } else if let Some(name) = line.trim_start_matches("pub ").strip_prefix("mod ") {
