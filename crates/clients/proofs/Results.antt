@@ -34,7 +34,7 @@ results_numbers a b c d = refl
 
 -- ---- one answer
 
-all_same : {n a b c d n' a' b' c' d' : List ℕ} → n ≡ n' → a ≡ a' → b ≡ b' → c ≡ c' → d ≡ d'
+pub all_same : {n a b c d n' a' b' c' d' : List ℕ} → n ≡ n' → a ≡ a' → b ≡ b' → c ≡ c' → d ≡ d'
     → ◌≡◌ {A = List (List ℕ)} (n ∷ a ∷ b ∷ c ∷ d ∷ []) (n' ∷ a' ∷ b' ∷ c' ∷ d' ∷ [])
 all_same m p q r s = rw (m, p, q, r, s)
 

@@ -1,0 +1,2 @@
+-- That each function has one result.
+pub mod OneAnswer

@@ -1,0 +1,2 @@
+-- That the function has one result.
+pub mod OneAnswer
