@@ -36,14 +36,16 @@ run: rt cut
 	done
 
 # First what fails fastest and needs the toolchain alone: the layout; the gate, which begins from nothing and leaves the programs proved and
-# built; runs of the program `cut`. Then what needs more. The gate's last line is said again at the end.
+# built, and passes over a wrong program that no longer fits the text, which is a fault here; runs of the program `cut`. Then what needs
+# more. The gate's last line is said again at the end.
 test: rt format lines apart
 	@said=$$(mktemp -d) && trap 'rm -rf $$said' EXIT && \
 	{ rt ci; echo $$? > $$said/status; } | tee $$said/lines && [ "$$(cat $$said/status)" = 0 ] && \
+	{ ! grep -E '^rt: ok.*, [0-9]+ bad' $$said/lines || { echo 'a wrong program that says nothing of its contract, above'; exit 1; }; } && \
 	crates/cut/runs.sh && $(MAKE) --no-print-directory -s outside && tail -n 1 $$said/lines
 
 # What needs Rust: the expected outputs, made anew; the library for the machine at hand on the packed cases and on big documents, and the
-# command over it. Where the machine is not x86-64, also the toolchain's static library, under an emulator. A machine that lacks some of it
+# command over it. Where the machine is not x86-64, also the library for x86-64, under an emulator. A machine that lacks some of it
 # makes the checks that it can make, and is told at the end what was missing and which were not made.
 EMULATED = $(if $(filter x86_64,$(shell uname -m)),,x86-packs x86-limits x86-host-tests)
 outside:

@@ -1,6 +1,7 @@
 // The wrong programs of the gate, each run on the packed cases: how many cases of each pack it answers otherwise than the second program.
 // An edit of code is made in a copy of the crates' source, which is then read as Rust (speed/source.rs) and compiled with run.rs. Edits of
-// definitions change no code and are left out. Run from the repository's top: wrong CRATE.., the crates that make up the filter
+// definitions change no code and are left out, as is what an edit of code changes in proofs/ besides. Run from the repository's top:
+// wrong CRATE.., the crates that make up the filter
 use std::path::{Path, PathBuf};
 use std::process::{Command, Output};
 use std::{env, fs, io};
@@ -30,7 +31,7 @@ fn files(folder: &Path) -> io::Result<Vec<PathBuf>> {
     Ok(files)
 }
 
-/// A file holds for the pairs of old and new after it.
+/// A file holds for the pairs of old and new after it. Those in proofs/ change no program.
 fn edit(crate_name: &str, path: &Path) -> io::Result<Edit> {
     let text = fs::read_to_string(path)?;
     let label = path.file_stem().map_or(String::new(), |stem| stem.to_string_lossy().into_owned());
@@ -40,7 +41,7 @@ fn edit(crate_name: &str, path: &Path) -> io::Result<Edit> {
             file = name;
         } else if let Some(text) = line.strip_prefix("old: ") {
             old = text;
-        } else if let Some(new) = line.strip_prefix("new:") {
+        } else if let Some(new) = line.strip_prefix("new:").filter(|_| !file.starts_with("proofs/")) {
             let new = new.strip_prefix(' ').unwrap_or(new);
             changes.push(Change { file: file.into(), old: old.into(), new: new.into() });
         }
