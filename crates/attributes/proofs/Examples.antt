@@ -16,7 +16,8 @@ use Rattle.readers.specs.Plain.{is_mark}
 use Rattle.readers.specs.Named.{before, eq_of, piece_named}
 use Rattle.readers.specs.Sign.{next_of, signs_in}
 use Rattle.readers.specs.Value as readers
-use Rattle.readers.specs.Value.{is_decimal, is_hexadecimal, ends_number, digits_of, char_ref_of, entity_ref_of, reference_of, piece_of, quoted_of}
+use Rattle.readers.specs.Value.{is_decimal, is_hexadecimal, ends_number, digits_of, char_ref_of, entity_ref_of, reference_of, piece_of}
+use Rattle.readers.specs.Value.{quoted_of}
 use Rattle.attributes.specs.Normal.{lines_from, lines, char_of, encoded, normal}
 use Rattle.attributes.specs.Attribute.{Attribute, attribute}
 use Rattle.attributes.specs.Held.{normal_at, held_of, attributes_in, attributes_of, has_attribute}
@@ -24,8 +25,8 @@ use Rattle.attributes.specs.Held.{normal_at, held_of, attributes_in, attributes_
 -- ---- values
 
 unfoldable pub normals : List (String × String) → Bool
-unfolding written utf8 normal_at signs_in next_of except reference_of entity_ref_of char_ref_of digits_of expect is_decimal is_hexadecimal ends_number
-    digit_of is_char character guess value_of is_scalar normal lines lines_from char_of encoded
+unfolding written utf8 normal_at signs_in next_of except reference_of entity_ref_of char_ref_of digits_of expect is_decimal is_hexadecimal
+    ends_number digit_of is_char character guess value_of is_scalar normal lines lines_from char_of encoded
 normals [] = true
 normals (x ∷ xs) = same (normal_at (written x.0)) (written x.1) && normals xs
 
@@ -57,8 +58,8 @@ blanks = refl
 -- é composed is one character, decomposed two: the values differ as their bytes do, however é is written
 pub accents : map (λ (x : String). normal_at (written x)) ("\"é\"" ∷ "\"&#233;\"" ∷ "\"é\"" ∷ "\"e&#769;\"" ∷ [])
     ≡ (0xC3 ∷ 0xA9 ∷ []) ∷ (0xC3 ∷ 0xA9 ∷ []) ∷ (0x65 ∷ 0xCC ∷ 0x81 ∷ []) ∷ (0x65 ∷ 0xCC ∷ 0x81 ∷ []) ∷ []
-unfolding written utf8 normal_at signs_in next_of except reference_of entity_ref_of char_ref_of digits_of expect is_decimal is_hexadecimal ends_number
-    digit_of is_char character guess value_of is_scalar normal lines lines_from char_of encoded
+unfolding written utf8 normal_at signs_in next_of except reference_of entity_ref_of char_ref_of digits_of expect is_decimal is_hexadecimal
+    ends_number digit_of is_char character guess value_of is_scalar normal lines lines_from char_of encoded
 accents = refl
 
 -- ---- tags
@@ -72,9 +73,10 @@ agree (x ∷ xs) (y ∷ ys) = (same x.name (written y.0) && same x.value (writte
 
 -- those that stand in s
 unfoldable pub listed : String → List Attribute
-unfolding written utf8 attributes_in held_of space_of skip starts run piece_named name_of is_space is_name is_name_start is_name_more before eq_of
-    expect readers.value_of quoted_of many piece_of is_mark reference_of entity_ref_of char_ref_of digits_of normal_at signs_in next_of except is_decimal
-    is_hexadecimal ends_number digit_of is_char character guess value_of is_scalar normal lines lines_from char_of encoded
+unfolding written utf8 attributes_in held_of space_of skip starts run piece_named name_of is_space is_name is_name_start is_name_more before
+    eq_of expect readers.value_of quoted_of many piece_of is_mark reference_of entity_ref_of char_ref_of digits_of normal_at signs_in
+    next_of except is_decimal is_hexadecimal ends_number digit_of is_char character guess value_of is_scalar normal lines lines_from char_of
+    encoded
 listed s = attributes_in 0 (written s)
 
 unfoldable pub lists : List (String × List (String × String)) → Bool
@@ -95,9 +97,10 @@ tags = refl
 -- a tag keeps its attributes in its head, behind its name
 pub in_head : attributes_of (record { name = bytes "v"; head = bytes "<v k='1'"; tail = bytes "/>" })
     ≡ attribute (bytes "k") (bytes "1") ∷ []
-unfolding attributes_of attributes_in held_of space_of skip starts run piece_named name_of is_space is_name is_name_start is_name_more before eq_of
-    expect readers.value_of quoted_of many piece_of is_mark reference_of entity_ref_of char_ref_of digits_of normal_at signs_in next_of except is_decimal
-    is_hexadecimal ends_number digit_of is_char character guess value_of is_scalar normal lines lines_from char_of encoded utf8
+unfolding attributes_of attributes_in held_of space_of skip starts run piece_named name_of is_space is_name is_name_start is_name_more
+    before eq_of expect readers.value_of quoted_of many piece_of is_mark reference_of entity_ref_of char_ref_of digits_of normal_at signs_in
+    next_of except is_decimal is_hexadecimal ends_number digit_of is_char character guess value_of is_scalar normal lines lines_from char_of
+    encoded utf8
 in_head = refl
 
 -- ---- whether one is among them: an absent attribute has no value, not even the empty one

@@ -62,7 +62,7 @@ module _ (n : Name) {signs : List Sign} {s a b c e : List ℕ} (d : Chars s) (rs
   held_chars =
       chars_left (S ⨾ AttributeRule) (ascii (S ⨾ AttributeRule) refl) s e d (a, rs, (b, rn, (c, rq, valued_reads v)))
 
--- what held_of went through
+-- what `held_of` went through
 record Stages (s : List ℕ) (x : Held) : Type 0 where
   from : List ℕ
   piece : Piece

@@ -1,10 +1,9 @@
 -- Document 02, Q-2: "Each entry must equal what a single call with room enough gives." One document of a batch, beside a call of `cut` for
 -- it alone, `entry_alone`; an empty document, which is refused; and the same entry of a result, `entry_at`.
 use mathlib.Core.Path.{◌≡◌, refl, sym, ap, ◌∙◌}
-use mathlib.Core.Bool.{Bool, true, false, cond}
 use mathlib.Core.List.{List, [], ◌∷◌, ◌++◌, map}
 use mathlib.Core.Logic.{◌⊎◌, inl, inr}
-use Prim.Native.Nat.{ℕ, ◌+◌, ◌-◌, ◌*◌, ◌≤◌, ◌<◌}
+use Prim.Native.Nat.{ℕ, ◌+◌, ◌-◌, ◌≤◌}
 use native.Mathlib.Omega.{arith}
 use borrow.Author.Tests.{le-ltb}
 use lib.ListN.{length, get_or, drop, get_or-map}
@@ -20,7 +19,7 @@ use Rattle.cutter.specs.Answer.{by_document, by_room, answer_of, after, bytes_af
 use Rattle.cutter.specs.declared.Answer.{Answer}
 use Rattle.demands.proofs.First.{sound_document}
 use Rattle.demands.proofs.Recut.{cut_front, small_less}
-use Rattle.bundle.specs.Batch.{print_batch, entries_of, layout_of}
+use Rattle.bundle.specs.Batch.{entries_of, layout_of}
 use Rattle.bundle.specs.declared.Layout.TheVariants as layout
 use Rattle.bundle.proofs.Judging.{sound_whole}
 use Rattle.bundle.proofs.Layouts.{batch_printed}

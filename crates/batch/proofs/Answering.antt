@@ -1,6 +1,6 @@
 -- `cut_all`, and the functions under it: one law for each way out, about the answer and about the buffer.
 -- In order: a result that is filled in; one that is measured; the layout; the list.
-use mathlib.Core.Path.{◌≡◌, refl, sym, ap, ◌∙◌}
+use mathlib.Core.Path.{◌≡◌, refl, sym, ◌∙◌}
 use mathlib.Core.List.{List, ◌++◌}
 use Prim.Native.Nat.{ℕ, ◌/◌, ◌≤◌, ◌<◌}
 use native.Mathlib.Omega.{arith}
@@ -13,7 +13,7 @@ use Rattle.bundle.specs.Batch.{layout_of}
 use Rattle.bundle.specs.declared.Layout.{Layout}
 use Rattle.bundle.specs.declared.Layout.TheVariants as layouts
 use Rattle.bundle.proofs.Judging.{sound_whole}
-use Rattle.batch.specs.Answer.{result_of, selected_in, by_list, batch_by, batch_of, after, batch_bytes_by, batch_bytes}
+use Rattle.batch.specs.Answer.{result_of, selected_in, batch_by, batch_of, batch_bytes_by, batch_bytes}
 use Rattle.batch.specs.Told.{part_of}
 use Rattle.batch.specs.declared.entry.Part.{Part}
 use Rattle.batch.specs.declared.BatchAnswer.{BatchAnswer}

@@ -1,13 +1,13 @@
 -- How long an entry is, and how many elements are selected in it, at most: less than twice the document's bytes, by Q-13's bound, and no
 -- more than its bytes. So of a whole result: at most twice the batch's bytes, which is why a buffer of so many never is too short.
 use mathlib.Core.Path.{◌≡◌, refl, ap, ◌∙◌}
-use mathlib.Core.List.{List, [], ◌∷◌, ◌++◌, map}
-use Prim.Native.Nat.{ℕ, ◌+◌, ◌-◌, ◌*◌, ◌≤◌}
+use mathlib.Core.List.{List, [], ◌∷◌, map}
+use Prim.Native.Nat.{ℕ, ◌-◌, ◌*◌, ◌≤◌}
 use native.Mathlib.Omega.{arith}
 use lib.ListN.{length, length-append, length-drop}
-use Rattle.xml.specs.Notation.{Rule, text}
+use Rattle.xml.specs.Notation.{Rule}
 use Rattle.xml.specs.Forest.{Name, Tag, Forest, nil, other, elem, render}
-use Rattle.xml.specs.Document.{Opens, Closes}
+use Rattle.xml.specs.Document.{Opens}
 use Rattle.paths.specs.Judge.{list_paths}
 use Rattle.matcher.specs.declared.Verdict.{Verdict}
 use Rattle.matcher.specs.declared.Verdict.TheVariants.{Unselected, Selected, Marked}
@@ -22,7 +22,7 @@ use Rattle.demands.proofs.First.{sound_scanned, sound_document}
 use Rattle.demands.proofs.Reread.{opens_shaped}
 use Rattle.demands.proofs.Each.{Each, document_each}
 use Rattle.demands.proofs.Room.{cut_at_most}
-use Rattle.bundle.specs.Batch.{print_entries, print_batch, entries_from, entries_of}
+use Rattle.bundle.specs.Batch.{print_entries, entries_from, entries_of}
 use Rattle.bundle.proofs.Entries.{entry_long}
 use Rattle.bundle.proofs.Judging.{Whole}
 use Rattle.batch.specs.Answer.{of_sound, entry_of, selected_of, result_of, sum, selected_in}

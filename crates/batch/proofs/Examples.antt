@@ -91,10 +91,10 @@ answered r =
     record { first = number_of a; second = second_of a; third = third_of a; buffer = batch_bytes r.list r.batch (dots r.room) }
 
 pub examples : map answered rows ≡ map (λ r. r.outcome) rows
-unfolding rows batch_of batch_bytes result_of selected_in entry_of selected_of layout_of reach_of entries_of judge_of other_encoding scanned scan_from
-    start_of blank check_of space_end cut_of count_of verdicts verdict_of forest_of tokens_of tokens_from item_at kind_of declares ends_at tag_at
-    end_tag_at tag_of end_tag_of piece_named before gather attribute_of small_tag text_of eq_of space_of skip value_of quoted_of many piece_of is_mark
-    reference_of entity_ref_of char_ref_of is_char name_of expect seek starts run character guess number utf8 is_scalar is_space is_name is_name_start
-    is_name_more list_paths list_answer judge lines sound_at within line_at steps read_all end_at mark_at attribute_at step_at test_at kind_at print_step
-    print_line
+unfolding rows batch_of batch_bytes result_of selected_in entry_of selected_of layout_of reach_of entries_of judge_of other_encoding scanned
+    scan_from start_of blank check_of space_end cut_of count_of verdicts verdict_of forest_of tokens_of tokens_from item_at kind_of declares
+    ends_at tag_at end_tag_at tag_of end_tag_of piece_named before gather attribute_of small_tag text_of eq_of space_of skip value_of
+    quoted_of many piece_of is_mark reference_of entity_ref_of char_ref_of is_char name_of expect seek starts run character guess number
+    utf8 is_scalar is_space is_name is_name_start is_name_more list_paths list_answer judge lines sound_at within line_at steps read_all
+    end_at mark_at attribute_at step_at test_at kind_at print_step print_line
 examples = refl

@@ -3,8 +3,7 @@
 -- `batch_of` and `batch_bytes`, which are the contract of `cut_all`: two equations, for every list, batch and buffer, and no `requires`.
 use mathlib.Core.Path.{◌≡◌, refl, sym, ap, ◌∙◌}
 use mathlib.Core.List.{List, [], ◌∷◌, ◌++◌, map}
-use mathlib.Core.Logic.{◌⊎◌, inl, inr}
-use Prim.Native.Nat.{ℕ, ◌+◌, ◌*◌, ◌≤◌, ◌<◌}
+use Prim.Native.Nat.{ℕ, ◌+◌, ◌≤◌}
 use native.Mathlib.Omega.{arith}
 use borrow.Author.Tests.{le-ltb}
 use lib.Dec.{ltb}
@@ -30,7 +29,8 @@ use Rattle.bundle.specs.Layout.{Bytes, sound}
 use Rattle.bundle.specs.declared.Layout.{Layout}
 use Rattle.bundle.specs.declared.Layout.TheVariants as layout
 use Rattle.bundle.proofs.Layouts.{only_layout}
-use Rattle.batch.specs.Answer.{of_sound, entry_of, selected_of, result_of, sum, selected_in, by_list, by_layout, by_room, batch_by, batch_of}
+use Rattle.batch.specs.Answer.{of_sound, entry_of, selected_of, result_of, sum, selected_in, by_list, by_layout}
+use Rattle.batch.specs.Answer.{batch_of}
 use Rattle.batch.specs.Answer.{after, batch_bytes, number_of, second_of, third_of}
 use Rattle.batch.specs.Says.{BatchSays}
 use Rattle.batch.specs.declared.BatchAnswer.{BatchAnswer}
@@ -83,7 +83,8 @@ unfolding batch_of batch_bytes
 written_is list b o = go (list_answer list) (layout_of b) (ltb (length o) (length (result_of list b)))
   where
     said : ListAnswer → Layout → Bool → BatchAnswer
-    said l y x = by_list l (by_layout y (cond x (Short (length (result_of list b))) (Written (length (result_of list b)) (selected_in list b))))
+    said l y x = by_list l (by_layout y (cond x (Short (length (result_of list b)))
+        (Written (length (result_of list b)) (selected_in list b))))
 
     go : (l : ListAnswer) (y : Layout) (x : Bool) → number_of (said l y x) ≡ 0
         → (second_of (said l y x) ≡ length (result_of list b)) × (third_of (said l y x) ≡ selected_in list b)
@@ -122,7 +123,8 @@ module _ (narrow wide : List ℕ) (covered : Covered (list_paths narrow) (list_p
   entry_again d l = go (judge_of d) refl l
     where
       go : (j : Judged) → judge_of d ≡ j → length (of_sound j (cut_of wide d) []) ≤ 16777216
-          → of_sound (judge_of (of_sound j (cut_of wide d) [])) (cut_of narrow (of_sound j (cut_of wide d) [])) [] ≡ of_sound j (cut_of narrow d) []
+          → of_sound (judge_of (of_sound j (cut_of wide d) [])) (cut_of narrow (of_sound j (cut_of wide d) [])) []
+          ≡ of_sound j (cut_of narrow d) []
       go judged.Sound e l = rw (cut_accepted narrow wide d covered e l) (cut_again narrow wide d covered e l)
       go judged.TooLong e l = empty_entry narrow
       go (judged.OtherEncoding k) e l = empty_entry narrow

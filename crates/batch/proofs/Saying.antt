@@ -3,7 +3,7 @@
 use mathlib.Core.Path.{◌≡◌, refl, sym, ap, ◌∙◌}
 use mathlib.Core.Bool.{Bool, true, false, cond}
 use mathlib.Core.List.{List, [], ◌∷◌, map}
-use Prim.Native.Nat.{ℕ, ◌+◌, ◌≤◌, ◌<◌}
+use Prim.Native.Nat.{ℕ, ◌≤◌, ◌<◌}
 use native.Mathlib.Omega.{arith}
 use borrow.Author.Tests.{ltb-true, ltb-false, lt-ltb, le-ltb}
 use lib.Dec.{ltb}
@@ -25,11 +25,12 @@ use Rattle.bundle.specs.Layout.{Bytes, LayoutSays, sound}
 use Rattle.bundle.specs.declared.Layout.{Layout}
 use Rattle.bundle.specs.declared.Layout.TheVariants as layout
 use Rattle.bundle.proofs.Layouts.{batch_printed, says_layout, only_layout}
-use Rattle.batch.specs.Answer.{of_sound, entry_of, selected_of, result_of, sum, selected_in, by_list, by_layout, by_room, batch_by, batch_of}
+use Rattle.batch.specs.Answer.{of_sound, entry_of, selected_of, result_of, sum, selected_in, by_list, by_layout, by_room, batch_by}
+use Rattle.batch.specs.Answer.{batch_of}
 use Rattle.batch.specs.Says.{EntrySays, cut, refused, EntriesSay, none, more, Results, BatchSays, list_long, list_malformed}
 use Rattle.batch.specs.Says.{list_large, bad_batch, short, written}
 use Rattle.batch.specs.declared.BatchAnswer.{BatchAnswer}
-use Rattle.batch.specs.declared.BatchAnswer.TheVariants.{Written, ListTooLong, ListMalformed, ListTooLarge, BadBatch, Short}
+use Rattle.batch.specs.declared.BatchAnswer.TheVariants.{Written, Short}
 
 -- ---- an entry
 
@@ -37,7 +38,8 @@ entry_says : (list d : List ℕ) → list_answer list ≡ lists.Sound → EntryS
 unfolding entry_of selected_of
 entry_says list d p = go (judge_of d) refl (judge_says d)
   where
-    go : (j : Judged) → judge_of d ≡ j → DocumentSays d j → EntrySays list d (of_sound j (cut_of list d) []) (of_sound j (count_of list d) 0)
+    go : (j : Judged) → judge_of d ≡ j → DocumentSays d j → EntrySays list d (of_sound j (cut_of list d) [])
+        (of_sound j (count_of list d) 0)
     go judged.Sound e h = cut (cut_cuts list d p e)
     go judged.TooLong e h = refused judged.TooLong h (λ q. let z : ◌≡◌ {A = ℕ} 0 1 = cc in omega arith)
     go (judged.OtherEncoding o) e h = refused (judged.OtherEncoding o) h (λ q. let z : ◌≡◌ {A = ℕ} 0 1 = cc in omega arith)
@@ -76,7 +78,8 @@ entries_only (more x xs) =
 -- ---- the result
 
 module _ (list b : List ℕ) where
-  result_says : list_answer list ≡ lists.Sound → Bytes b → layout_of b ≡ layout.Sound → Results list b (result_of list b) (selected_in list b)
+  result_says : list_answer list ≡ lists.Sound → Bytes b → layout_of b ≡ layout.Sound
+      → Results list b (result_of list b) (selected_in list b)
   unfolding result_of selected_in
   result_says p h e = go (rw e at (says_layout b h))
     where

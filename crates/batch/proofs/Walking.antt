@@ -2,14 +2,14 @@
 -- before and the entries of the documents from there on. In order: the next document; measuring; filling.
 use mathlib.Core.Path.{◌≡◌, refl, sym, ap, ◌∙◌}
 use mathlib.Core.List.{List, [], ◌∷◌, ◌++◌, map, append_assoc, append-nil}
-use Prim.Native.Nat.{ℕ, ◌+◌, ◌-◌, ◌*◌, ◌≤◌, ◌<◌}
+use Prim.Native.Nat.{ℕ, ◌+◌, ◌-◌, ◌≤◌, ◌<◌}
 use native.Mathlib.Omega.{arith}
 use lib.ListN.{length, take, drop, set, length-append, length-drop, length-set, drop_of_length-le}
 use lib.Seq.{drop-drop, drop_at, take_at, take_all, drop-set-lt}
-use Rattle.bundle.specs.Batch.{big, print_entries, print_batch, number_at, entries_from, entries_of, layout_of}
+use Rattle.bundle.specs.Batch.{big, print_entries, number_at, entries_from, entries_of, layout_of}
 use Rattle.bundle.specs.declared.Layout.TheVariants.{Sound}
 use Rattle.bundle.proofs.Entries.{document_at, next_at, at_whole, at_end, Stands, stands_whole, stands_next, entry_long}
-use Rattle.bundle.proofs.Judging.{Whole, sound_whole}
+use Rattle.bundle.proofs.Judging.{sound_whole}
 use Rattle.batch.specs.Answer.{entry_of, selected_of, result_of, sum, selected_in}
 use Rattle.batch.specs.Told.{part, part_of}
 use Rattle.batch.specs.declared.entry.Part.{Part}

@@ -463,7 +463,8 @@ module _ (d : List ℕ) (i : ℕ) (h : i + 67 ≤ length d) where
   unfolding after_pairs
   pairs_passed = go (is_later (get_or d i 0)) (some_of (λ k. strange_at d (i + k)) 64) (is_later (get_or d (i + 64) 0)) refl refl refl
     where
-      rest : is_later (get_or d i 0) ≡ false → some_of (λ k. strange_at d (i + k)) 64 ≡ false → (b : Bool) → is_later (get_or d (i + 64) 0) ≡ b
+      rest : is_later (get_or d i 0) ≡ false → some_of (λ k. strange_at d (i + k)) 64 ≡ false → (b : Bool)
+          → is_later (get_or d (i + 64) 0) ≡ b
           → run is_char (cond b 1 0) (drop (i + 64) d) ≡ run is_char 0 (drop i d)
       rest p q b r =
           let l : 64 + 1 ≤ length (drop i d) = omega (arith, length-drop i d) in

@@ -1,5 +1,5 @@
--- Plain bytes: the code's test of a byte is that of `is_other`; a byte that is not other is an ASCII Char. Last, a run of Chars passes plain
--- bytes.
+-- Plain bytes: the code's test of a byte is that of `is_other`; a byte that is not other is an ASCII Char. Last, a run of Chars passes
+-- plain bytes.
 use mathlib.Core.Path.{◌≡◌, refl, sym, ◌∙◌}
 use mathlib.Core.Bool.{Bool, true, false, cond, not, ◌&&◌, ◌||◌}
 use mathlib.Core.List.{List, [], ◌∷◌}

@@ -52,7 +52,8 @@ strange_at d i = is_strange (get_or d i 0) (get_or d (i + 1) 0)
 -- the place after 64 bytes whose characters have one or two bytes: the last of them may go over the end; else i
 unfoldable pub after_pairs : List ℕ → ℕ → ℕ
 after_pairs d i =
-    cond (is_later (get_or d i 0)) i (cond (some_of (λ k. strange_at d (i + k)) 64) i (cond (is_later (get_or d (i + 64) 0)) (i + 65) (i + 64)))
+    cond (is_later (get_or d i 0)) i (cond (some_of (λ k. strange_at d (i + k)) 64) i
+    (cond (is_later (get_or d (i + 64) 0)) (i + 65) (i + 64)))
 
 -- the place after 64 bytes that are plain, or whose characters are usual: the last of them may go over the end; else i
 unfoldable pub after_block : List ℕ → ℕ → ℕ

@@ -1,14 +1,14 @@
 -- Laws of the documents in some bytes: bytes passed over; an entry at a place, and what follows it; a length at fault; the end. Then of
 -- whole entries from a place to the end, `Stands`.
 use mathlib.Core.Path.{◌≡◌, refl, sym, ap, ◌∙◌}
-use mathlib.Core.Bool.{Bool, true, false, cond}
-use mathlib.Core.List.{List, [], ◌∷◌, ◌++◌}
+use mathlib.Core.Bool.{Bool, true, false}
+use mathlib.Core.List.{List, [], ◌∷◌}
 use Prim.Native.Nat.{ℕ, zero, suc, ◌+◌, ◌≤◌, ◌<◌}
 use native.Mathlib.Omega.{arith}
 use borrow.Author.Tests.{le-leb, lt-leb, leb-true}
-use lib.ListN.{length, get_or, take, drop, length-append, length-drop, drop_of_length-le}
+use lib.ListN.{length, take, drop, length-append, length-drop, drop_of_length-le}
 use lib.Seq.{drop-drop, length-take-le}
-use Rattle.bundle.specs.Batch.{big, print_entries, number_at, whole_at, entries_from}
+use Rattle.bundle.specs.Batch.{print_entries, number_at, whole_at, entries_from}
 
 -- bytes that are passed over
 pub entries_drop : (k : ℕ) (s : List ℕ) → entries_from k s ≡ entries_from 0 (drop k s)

@@ -1,6 +1,6 @@
 -- Layouts, worked out by document 02's words and computed by antt: each fault with its offset, the first of two, and sound batches.
 use mathlib.Core.Path.{◌≡◌, refl}
-use mathlib.Core.List.{List, [], ◌∷◌, ◌++◌, map}
+use mathlib.Core.List.{List, [], ◌∷◌, map}
 use Prim.Native.Nat.{ℕ}
 use lib.ListN.{replicate}
 use Rattle.bundle.specs.Batch.{print_batch, entries_of, reach_of, layout_of}

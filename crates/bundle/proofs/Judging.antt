@@ -2,7 +2,7 @@
 -- the loop an invariant, `Judging`: whole entries reach from the place as far as they do from the front; what a sound layout says.
 use mathlib.Core.Path.{◌≡◌, refl, sym, ap, ◌∙◌}
 use mathlib.Core.Bool.{Bool, true, false, cond}
-use mathlib.Core.List.{List, [], ◌∷◌}
+use mathlib.Core.List.{List, []}
 use Prim.Native.Nat.{ℕ, zero, suc, ◌+◌, ◌-◌, ◌*◌, ◌≤◌, ◌<◌}
 use native.Mathlib.Nat.{add-zero}
 use native.Mathlib.Omega.{arith}
@@ -11,7 +11,6 @@ use lib.Dec.{ltb, eqb}
 use lib.ListN.{length, get_or, drop, set, length-set}
 use lib.Seq.{get_or-drop}
 use Rattle.bundle.specs.Batch.{print_entries, number_at, entries_from, entries_of, reach_of, layout_of}
-use Rattle.bundle.specs.declared.Layout.{Layout}
 use Rattle.bundle.specs.declared.Layout.TheVariants.{Sound, AtFault}
 use Rattle.bundle.proofs.Entries.{next_at, document_at, at_whole, at_fault, at_end, document_long, entry_long, entries_inside, Stands}
 

@@ -2,19 +2,18 @@
 -- read, `batch_printed`; and bytes are what is read of them, printed, and a rest that holds no whole entry, `bytes_split`. So each answer
 -- on a layout is said of the bytes, and it alone: `says_layout`, `only_layout`.
 use mathlib.Core.Path.{◌≡◌, refl, sym, ap, subst, ◌∙◌}
-use mathlib.Core.Bool.{Bool, true, false, cond}
+use mathlib.Core.Bool.{Bool, true, false}
 use mathlib.Core.List.{List, [], ◌∷◌, ◌++◌, append_assoc, append-nil}
-use mathlib.Core.Logic.{◌⊎◌, inl, inr, ⊎_elim}
+use mathlib.Core.Logic.{◌⊎◌, inl, inr}
 use Prim.Native.Nat.{ℕ, zero, suc, ◌+◌, ◌-◌, ◌*◌, ◌/◌, ◌%◌, ◌≤◌, ◌<◌}
 use native.Mathlib.Omega.{arith}
-use borrow.Author.Tests.{le-leb, lt-leb, leb-true, leb-false, eqb-true, eqb-false, ltb-true, ltb-false, lt-ltb, le-ltb, eq-eqb, ne_eqb}
-use lib.Dec.{leb, ltb, eqb}
+use borrow.Author.Tests.{le-leb, lt-leb, leb-true, leb-false, eqb-true, eqb-false, ltb-true, ltb-false, lt-ltb, le-ltb}
+use lib.Dec.{ltb, eqb}
 use lib.ListN.{length, get_or, take, drop, length-append, length-drop, take-append-drop}
 use lib.Seq.{take_at, drop_at, length-take-le}
 use Rattle.bundle.specs.Batch.{big, print_entries, print_batch, number_at, whole_at, entries_from, entries_of, reach_of, layout_of}
 use Rattle.bundle.specs.Layout.{Bytes, CutShort, RunsPast, LayoutSays, empty, over, version, bad_length, sound}
 use Rattle.bundle.specs.declared.Layout.{Layout}
-use Rattle.bundle.specs.declared.Layout.TheVariants.{Sound, AtFault}
 use Rattle.bundle.proofs.Entries.{entries_drop, entries_skip, front_whole, front_fault, entry_long}
 use Rattle.bundle.proofs.Judging.{judge_empty, judge_over, judge_version, Fronted, front_judged}
 

@@ -12,14 +12,12 @@ mod texts; // names, white space and path lists in chosen texts
 mod sizes; // path lists at the sizes and past them
 
 use std::io;
-use std::io::{BufWriter, Write};
 
 fn main(rt: HostRuntime) -> io::Result<()> {
-    let mut out = BufWriter::new(rt.alloc(), io::writer(&rt))?;
+    let mut out = io::writer(&rt);
     borders::print(&mut out)?;
     rows::print(&mut out)?;
     offsets::print(&mut out)?;
     texts::print(&mut out)?;
-    sizes::print(&mut out)?;
-    out.flush()
+    sizes::print(&mut out)
 }

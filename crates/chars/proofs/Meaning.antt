@@ -111,7 +111,8 @@ module _ (s t : List ℕ) where
   unfolding name_of
   name_found e = go (starts is_name_start s) refl e
     where
-      go : (b : Bool) → starts is_name_start s ≡ b → cond b (some (run is_name 0 s)) none ≡ some t → Reads Name s t × (starts is_name t ≡ false)
+      go : (b : Bool) → starts is_name_start s ≡ b → cond b (some (run is_name 0 s)) none ≡ some t
+          → Reads Name s t × (starts is_name t ≡ false)
       go false n q = absurd (none-ne-some t q)
       go true y q =
           let m = drop (wide (character s)) s in

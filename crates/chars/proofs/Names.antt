@@ -182,7 +182,8 @@ module _ (d : List ℕ) (at : ℕ) where
   pub start_over : length d ≤ at → false ≡ starts is_name_start (drop at d)
   start_over h = sym (rw (drop_end d at h) (starts_nil is_name_start))
 
-  pub start_low : at < length d → get_or d at 0 < 0x80 → {k : Bool} → k ≡ is_name_start (get_or d at 0) → k ≡ starts is_name_start (drop at d)
+  pub start_low : at < length d → get_or d at 0 < 0x80 → {k : Bool} → k ≡ is_name_start (get_or d at 0)
+      → k ≡ starts is_name_start (drop at d)
   start_low h l g = g ∙ sym (rw (drop_step d at h) (starts_low is_name_start _ _ l))
 
   module _ {r : Sequence} (q : r ≡ sequence_at d at) where

@@ -47,7 +47,8 @@ four_one κs a z z' e e' x p q = (
 )
 
 pub four_with_one : OneOutcome four_with.Asked four_with.Learnt
-    (λ κs e. e.1.1.1.1.1.1.1.1.1.1.1.1.1.0.now ∷ e.1.1.1.1.1.0.now ∷ e.1.1.1.1.1.1.0.now ∷ e.1.1.1.1.1.1.1.0.now ∷ e.1.1.1.1.1.1.1.1.0.now ∷ [])
+    (λ κs e. e.1.1.1.1.1.1.1.1.1.1.1.1.1.0.now ∷ e.1.1.1.1.1.0.now ∷ e.1.1.1.1.1.1.0.now ∷ e.1.1.1.1.1.1.1.0.now ∷ e.1.1.1.1.1.1.1.1.0.now ∷
+    [])
 four_with_one κs a z z' e e' x p q = (
   refl,
   all_same (p.0 ∙ sym q.0) (p.1.0 ∙ sym q.1.0) (p.1.1.0 ∙ sym q.1.1.0) (p.1.1.1.0 ∙ sym q.1.1.1.0)

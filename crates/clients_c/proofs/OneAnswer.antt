@@ -1,6 +1,6 @@
--- Two results that the contract of `choughbell_four` or `choughbell_four_with` allows are equal, over the contracts that the toolchain makes
--- of the source: all sixteen numbers and every byte of the four buffers. Of the logs nothing is said.
-use mathlib.Core.Path.{◌≡◌, refl, sym, ◌∙◌}
+-- Two results that the contract of `choughbell_four` or `choughbell_four_with` allows are equal, over the contracts that the toolchain
+-- makes of the source: all sixteen numbers and every byte of the four buffers. Of the logs nothing is said.
+use mathlib.Core.Path.{refl, sym, ◌∙◌}
 use mathlib.Core.List.{[], ◌∷◌}
 use Rattle.contracts.specs.One.{OneOutcome}
 use Rattle.clients.proofs.Results.{all_same}
@@ -16,7 +16,8 @@ four_one κs a z z' e e' x p q = (
 )
 
 pub four_with_one : OneOutcome four_with.Asked four_with.Learnt
-    (λ κs e. e.1.1.1.1.1.1.1.1.1.1.1.1.1.0.now ∷ e.1.1.1.1.1.0.now ∷ e.1.1.1.1.1.1.0.now ∷ e.1.1.1.1.1.1.1.0.now ∷ e.1.1.1.1.1.1.1.1.0.now ∷ [])
+    (λ κs e. e.1.1.1.1.1.1.1.1.1.1.1.1.1.0.now ∷ e.1.1.1.1.1.0.now ∷ e.1.1.1.1.1.1.0.now ∷ e.1.1.1.1.1.1.1.0.now ∷ e.1.1.1.1.1.1.1.1.0.now ∷
+    [])
 four_with_one κs a z z' e e' x p q = (
   refl,
   all_same (p.0 ∙ sym q.0) (p.1.0 ∙ sym q.1.0) (p.1.1.0 ∙ sym q.1.1.0) (p.1.1.1.0 ∙ sym q.1.1.1.0)

@@ -58,7 +58,8 @@ test_stands d a n x t o e l = rw (e, l) (go x o)
 
 -- ---- what is printed
 
-pub print_append : {A : Type 0} (print : A → List ℕ) (xs ys : List A) → print_all print (xs ++ ys) ≡ print_all print xs ++ print_all print ys
+pub print_append : {A : Type 0} (print : A → List ℕ) (xs ys : List A)
+    → print_all print (xs ++ ys) ≡ print_all print xs ++ print_all print ys
 print_append print [] ys = refl
 print_append print (x ∷ xs) ys = rw (print_append print xs ys) (sym (append_assoc (print x) (print_all print xs) (print_all print ys)))
 

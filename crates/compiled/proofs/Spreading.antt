@@ -207,7 +207,8 @@ module _ (ps : List Path) (s : Sized ps) where
   other_at i l h =
       let z : i ≡ 32 * suc (i / 32 - 1) + i % 32 = omega arith in
       let e = other_entry (i / 32 - 1) (i % 32) (omega arith) (omega arith) in
-      ap (λ (j : ℕ). get_or (rows_of ps) j 0) z ∙ e ∙ ap (λ (j : ℕ). get_or (number_rows ps) j 0 + get_or (number_rows ps) (i % 32) 0) (sym z)
+      ap (λ (j : ℕ). get_or (rows_of ps) j 0) z ∙ e ∙ ap (λ (j : ℕ). get_or (number_rows ps) j 0 + get_or (number_rows ps) (i % 32) 0)
+      (sym z)
 
   pub numbers_spreadable : Spreadable (number_rows ps)
   numbers_spreadable =

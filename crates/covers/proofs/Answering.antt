@@ -36,7 +36,8 @@ module _ (narrow wide : List ℕ) where
       second p (lists.TooLarge n) q = wide_refused {a = answers.TooLarge Wide n} p (rw q (large n))
 
       first : (a : ListAnswer) → list_answer narrow ≡ a
-          → Says narrow wide (refusal_or Narrow a (refusal_or Wide (list_answer wide) (said_of (covered (list_paths narrow) (list_paths wide)))))
+          → Says narrow wide (refusal_or Narrow a (refusal_or Wide (list_answer wide)
+          (said_of (covered (list_paths narrow) (list_paths wide)))))
       first lists.Sound p = second p (list_answer wide) refl
       first lists.TooLong p = narrow_refused {a = answers.TooLong Narrow} (rw p long)
       first (lists.Malformed n) p = narrow_refused {a = answers.Malformed Narrow n} (rw p (malformed n))

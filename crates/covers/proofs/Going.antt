@@ -123,7 +123,8 @@ pub ruleset going = (go_start, go_end, go_inside, go_less, go_stop, go_on)
 
 -- ---- what is said
 
-pub wide_serves : {wide t : List ℕ} {a : ListAnswer} → a ≡ list_answer wide → a ≡ lists.Sound → t ≡ tables_of (list_paths wide) → Serves wide t
+pub wide_serves : {wide t : List ℕ} {a : ListAnswer} → a ≡ list_answer wide → a ≡ lists.Sound → t ≡ tables_of (list_paths wide)
+    → Serves wide t
 wide_serves e s q = record { sound = sym e ∙ s; tables = q }
 
 module _ (list : List ℕ) {a : ListAnswer} (e : a ≡ list_answer list) where

@@ -77,7 +77,8 @@ module _ (n : List ℕ) (ns : List (List ℕ)) (s : Step) (ss : List Step) (t : 
       (and_both (far s.kind) (lays passes_name ns (s ∷ ss)) f l)
 
   -- t takes n, or goes past it; s is sent to t, or past it
-  one_name : (passes_name t n && staying passes_name n (lays passes_name ns) ts ≡ true) ⊎ (far t.kind && lays passes_name ns (t ∷ ts) ≡ true)
+  one_name : (passes_name t n && staying passes_name n (lays passes_name ns) ts ≡ true)
+      ⊎ (far t.kind && lays passes_name ns (t ∷ ts) ≡ true)
       → (sends_to s t && staying sends_to t (lays sends_to ts) ss ≡ true) ⊎ (far s.kind && lays sends_to ts (s ∷ ss) ≡ true)
       → lays sends_to (t ∷ ts) (s ∷ ss) ≡ true
       → (passes_name s n && staying passes_name n (lays passes_name ns) ss) || (far s.kind && lays passes_name ns (s ∷ ss)) ≡ true

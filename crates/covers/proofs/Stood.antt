@@ -191,7 +191,8 @@ same_bool false true f g = g refl
 same_bool false false f g = refl
 
 -- the same bytes, the same test
-test_bytes : (x y : Option AttributeTest) → IfAny ProperAttribute x → IfAny ProperAttribute y → print_attribute x ≡ print_attribute y → x ≡ y
+test_bytes : (x y : Option AttributeTest) → IfAny ProperAttribute x → IfAny ProperAttribute y → print_attribute x ≡ print_attribute y
+    → x ≡ y
 test_bytes none none o u e = refl
 test_bytes none (some y) o u e = absurd (let z = ap length e in omega arith)
 test_bytes (some x) none o u e = absurd (let z = ap length e in omega arith)

@@ -55,11 +55,12 @@ rows =
     ∷ []
 
 pub examples : map (λ r. printed (bytes r.list) (bytes r.input)) rows ≡ map (λ r. bytes r.prints) rows
-unfolding rows printed decimal decimal_by answer_of judge_of other_encoding scanned scan_from start_of blank check_of space_end cut_of count_of
-    verdicts verdict_of forest_of tokens_of tokens_from item_at kind_of declares ends_at tag_at end_tag_at tag_of end_tag_of piece_named before gather
-    attribute_of small_tag text_of eq_of space_of skip value_of quoted_of many piece_of is_mark reference_of entity_ref_of char_ref_of is_char name_of
-    expect seek starts run character guess number utf8 is_scalar is_space is_name is_name_start is_name_more list_paths list_answer judge lines
-    sound_at within line_at steps read_all end_at mark_at attribute_at step_at test_at kind_at print_step print_line
+unfolding rows printed decimal decimal_by answer_of judge_of other_encoding scanned scan_from start_of blank check_of space_end cut_of
+    count_of verdicts verdict_of forest_of tokens_of tokens_from item_at kind_of declares ends_at tag_at end_tag_at tag_of end_tag_of
+    piece_named before gather attribute_of small_tag text_of eq_of space_of skip value_of quoted_of many piece_of is_mark reference_of
+    entity_ref_of char_ref_of is_char name_of expect seek starts run character guess number utf8 is_scalar is_space is_name is_name_start
+    is_name_more list_paths list_answer judge lines sound_at within line_at steps read_all end_at mark_at attribute_at step_at test_at
+    kind_at print_step print_line
 examples = refl
 
 -- "else it prints `too long` and LF and nothing more, for every list"

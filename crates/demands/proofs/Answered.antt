@@ -1,7 +1,7 @@
 -- Demand 1: "Every list, document and output buffer gets an answer. A bad list, a bad document or too little room is refused by a number
 -- and a place, never left to the caller to check, and a refused call changes no byte of the output." And under 0 the bytes after the cut
 -- stay.
-use mathlib.Core.Path.{◌≡◌, refl, sym, ap, ◌∙◌}
+use mathlib.Core.Path.{◌≡◌, refl}
 use mathlib.Core.List.{List, ◌++◌}
 use Prim.Native.Nat.{ℕ, ◌≤◌}
 use native.Mathlib.Omega.{arith}

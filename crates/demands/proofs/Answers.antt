@@ -10,10 +10,9 @@ use native.Mathlib.Omega.{arith}
 use borrow.Author.Tests.{ltb-true, ltb-false, lt-ltb, le-ltb}
 use lib.Dec.{ltb}
 use lib.ListN.{length, drop, length-drop}
-use Rattle.xml.specs.Forest.{Name, Forest}
 use Rattle.xml.proofs.Encoding.{other_rule}
-use Rattle.paths.specs.Path.{Path, print_list}
-use Rattle.paths.specs.Answer.{Before, Says}
+use Rattle.paths.specs.Path.{print_list}
+use Rattle.paths.specs.Answer.{Says}
 use Rattle.paths.specs.Answer as list_says
 use Rattle.paths.specs.Judge.{list_answer, list_paths}
 use Rattle.paths.specs.declared.ListAnswer.{ListAnswer}
@@ -32,9 +31,8 @@ use Rattle.cutter.specs.declared.Answer.{Answer}
 use Rattle.cutter.specs.declared.Answer.TheVariants.{Written, ListTooLong, ListMalformed, ListTooLarge, TooLong}
 use Rattle.cutter.specs.declared.Answer.TheVariants.{OtherEncoding, NotChar, Doctype, Malformed, TooLarge, Short}
 use Rattle.demands.specs.Elements.{Element, elements, how_many}
-use Rattle.demands.specs.Judged.{Accepted, DocumentSays}
+use Rattle.demands.specs.Judged.{DocumentSays}
 use Rattle.demands.specs.Judged as document_says
-use Rattle.demands.specs.Rule.{Writes}
 use Rattle.matcher.specs.Tried.{Counted, none, this, other}
 use Rattle.matcher.proofs.Tests.{counted_one}
 use Rattle.demands.specs.Answers.{Cuts, AnswerSays, list_long, list_malformed, list_large, too_long}

@@ -4,13 +4,13 @@ use mathlib.Core.Path.{◌≡◌, refl, sym, ap, ◌∙◌}
 use mathlib.Core.Bool.{Bool, true, false, cond, ◌&&◌}
 use mathlib.Core.List.{List, [], ◌∷◌, ◌++◌}
 use mathlib.Core.Logic.{inl, inr}
-use mathlib.Core.Option.{Option, none, some, none-ne-some}
+use mathlib.Core.Option.{none, some, none-ne-some}
 use Prim.Native.Nat.{ℕ, ◌<◌}
 use lib.Dec.{lit<, eqb}
 use lib.ListN.{drop}
 use Rattle.xml.specs.Notation.{Reads, Star, done, more, char, bytes, among}
 use Rattle.xml.specs.Utf8.{utf8, is_scalar}
-use Rattle.xml.specs.Productions.{is_space, is_name_start, is_name_more, is_name, except, Name, S, PI, Reference}
+use Rattle.xml.specs.Productions.{is_space, is_name_start, is_name_more, is_name, except, Name, S, PI}
 use Rattle.xml.specs.Character.{begins, starts}
 use Rattle.xml.proofs.Bools.{true-false}
 use Rattle.xml.proofs.Character.{begins_split}

@@ -67,10 +67,10 @@ rows =
     ∷ []
 
 pub counts : map (λ r. tests_of r.list r.doc) rows ≡ map (λ r. r.tests) rows
-unfolding rows tests_of name_tests tests_by tests_at tried_of hits_of flood carried carried_at fresh_state deeper_of state_of fit_for column padded
-    stays_of goes_of far_of fit_of ones ones_in forest_of tokens_of tokens_from start_of item_at kind_of declares ends_at tag_at end_tag_at tag_of end_tag_of
-    piece_named before gather attribute_of small_tag text_of eq_of space_of skip value_of quoted_of many piece_of is_mark reference_of entity_ref_of
-    char_ref_of is_char name_of expect seek starts run character guess number utf8 is_scalar is_space is_name is_name_start is_name_more list_paths
-    list_answer judge lines sound_at within line_at steps read_all end_at mark_at attribute_at step_at test_at kind_at print_step print_line
-    is_value except
+unfolding rows tests_of name_tests tests_by tests_at tried_of hits_of flood carried carried_at fresh_state deeper_of state_of fit_for column
+    padded stays_of goes_of far_of fit_of ones ones_in forest_of tokens_of tokens_from start_of item_at kind_of declares ends_at tag_at
+    end_tag_at tag_of end_tag_of piece_named before gather attribute_of small_tag text_of eq_of space_of skip value_of quoted_of many
+    piece_of is_mark reference_of entity_ref_of char_ref_of is_char name_of expect seek starts run character guess number utf8 is_scalar
+    is_space is_name is_name_start is_name_more list_paths list_answer judge lines sound_at within line_at steps read_all end_at mark_at
+    attribute_at step_at test_at kind_at print_step print_line is_value except
 counts = refl

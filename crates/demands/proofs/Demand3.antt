@@ -9,9 +9,8 @@ use Prim.Native.Nat.{ℕ, ◌≤◌}
 use borrow.Author.Tests.{le-ltb}
 use lib.ListN.{length, take, drop}
 use lib.Seq.{take_at}
-use Rattle.xml.specs.Forest.{Forest, render}
+use Rattle.xml.specs.Forest.{render}
 use Rattle.xml.specs.Document.{Document, Small}
-use Rattle.paths.specs.Path.{Path}
 use Rattle.paths.specs.Judge.{list_answer, list_paths}
 use Rattle.paths.specs.declared.ListAnswer.TheVariants as lists
 use Rattle.readers.specs.Meaning.{Chars}
@@ -104,7 +103,8 @@ module _ (narrow wide d : List ℕ) (all : Covered (list_paths narrow) (list_pat
   unfolding answer_of
   answer_again room =
       rw (cut_accepted, sound, cut_again, count_again)
-      (numbers_same (list_answer narrow) Sound room (cut_of narrow d) (count_of narrow d) (tests_of narrow (cut_of wide d)) (tests_of narrow d))
+      (numbers_same (list_answer narrow) Sound room (cut_of narrow d) (count_of narrow d) (tests_of narrow (cut_of wide d))
+      (tests_of narrow d))
 
   pub buffer_again : (o : List ℕ) → bytes_after narrow (cut_of wide d) o ≡ bytes_after narrow d o
   unfolding answer_of bytes_after
@@ -114,7 +114,8 @@ module _ (narrow wide d : List ℕ) (all : Covered (list_paths narrow) (list_pat
 
 -- Of two calls. The wide cut was written: it is the first n bytes of the buffer o. Cutting it by the narrow list into a
 -- buffer o' with room enough answers 0, with the length and the number of the master's narrow cut, and o' then begins with that cut.
-pub cut_of_cut : (narrow wide d o o' : List ℕ) (n k m : ℕ) → list_answer narrow ≡ lists.Sound → Covered (list_paths narrow) (list_paths wide)
+pub cut_of_cut : (narrow wide d o o' : List ℕ) (n k m : ℕ) → list_answer narrow ≡ lists.Sound
+    → Covered (list_paths narrow) (list_paths wide)
     → answer_of wide d (length o) ≡ Written n k m → n ≤ 16777216 → length (cut_of narrow d) ≤ length o'
     → (answer_of narrow (take n (bytes_after wide d o)) (length o')
     ≡ Written (length (cut_of narrow d)) (count_of narrow d) (tests_of narrow (take n (bytes_after wide d o))))

@@ -1,5 +1,5 @@
--- The three demands of the request, each one theorem under its own name. They are about `answer_of` and `bytes_after`, which are the contract
--- of `cut`: two equations, for every list, document and buffer, and no `requires`. The words are those of specs/Answers.antt.
+-- The three demands of the request, each one theorem under its own name. They are about `answer_of` and `bytes_after`, which are the
+-- contract of `cut`: two equations, for every list, document and buffer, and no `requires`. The words are those of specs/Answers.antt.
 use mathlib.Core.Path.{◌≡◌, refl, sym, ap, ◌∙◌}
 use mathlib.Core.List.{List, ◌++◌}
 use mathlib.Core.Logic.{◌↔◌}

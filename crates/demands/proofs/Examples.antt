@@ -20,7 +20,7 @@ use Rattle.paths.specs.Judge.{within, sound_at, lines, judge, list_answer, list_
 use Rattle.matcher.specs.Says.{verdict_of}
 use Rattle.readers.specs.Read.{expect, seek, skip, space_of, many}
 use Rattle.readers.specs.Plain.{is_mark, text_of, comment_of}
-use Rattle.readers.specs.Value.{is_decimal, is_hexadecimal, ends_number, digits_of, char_ref_of, entity_ref_of, reference_of}
+use Rattle.readers.specs.Value.{is_decimal, ends_number, digits_of, char_ref_of, entity_ref_of, reference_of}
 use Rattle.readers.specs.Value.{piece_of, quoted_of, value_of}
 use Rattle.readers.specs.Named.{before, target_of, instruction_end, instruction_of, eq_of, piece_named, attribute_of, gather, tag_of}
 use Rattle.readers.specs.Named.{end_tag_of, small_tag, version_of, is_letter, is_encoding, encoding_of, yes_or_no, declaration_of, other_of}
@@ -161,44 +161,48 @@ abbrev Holds : List Row → Type 0
 Holds rs = map answered rs ≡ map (λ r. r.outcome) rs
 
 pub examples : Holds rows
-unfolding rows answer_of bytes_after judge_of other_encoding scanned scan_from start_of blank check_of space_end cut_of count_of verdicts verdict_of
-    forest_of tokens_of tokens_from item_at kind_of declares ends_at tag_at end_tag_at tag_of end_tag_of piece_named before gather
-    attribute_of small_tag text_of eq_of space_of skip value_of quoted_of many piece_of is_mark reference_of entity_ref_of char_ref_of
-    is_char name_of expect seek starts run character guess number utf8 is_scalar is_space is_name is_name_start is_name_more list_paths
-    list_answer judge lines sound_at within line_at steps read_all end_at mark_at attribute_at step_at test_at kind_at print_step print_line
+unfolding rows answer_of bytes_after judge_of other_encoding scanned scan_from start_of blank check_of space_end cut_of count_of verdicts
+    verdict_of forest_of tokens_of tokens_from item_at kind_of declares ends_at tag_at end_tag_at tag_of end_tag_of piece_named before
+    gather attribute_of small_tag text_of eq_of space_of skip value_of quoted_of many piece_of is_mark reference_of entity_ref_of
+    char_ref_of is_char name_of expect seek starts run character guess number utf8 is_scalar is_space is_name is_name_start is_name_more
+    list_paths list_answer judge lines sound_at within line_at steps read_all end_at mark_at attribute_at step_at test_at kind_at print_step
+    print_line
 examples = refl
 
 pub others : Holds more
-unfolding more answer_of bytes_after judge_of other_encoding scanned scan_from start_of blank check_of space_end cut_of count_of verdicts verdict_of
-    forest_of tokens_of tokens_from item_at kind_of declares ends_at tag_at end_tag_at tag_of end_tag_of piece_named before gather
-    attribute_of small_tag text_of comment_of target_of instruction_end instruction_of eq_of space_of skip value_of quoted_of many
-    piece_of is_mark reference_of entity_ref_of char_ref_of is_char name_of expect seek starts run character guess number utf8
-    is_scalar is_space is_name is_name_start is_name_more list_paths list_answer judge lines sound_at within line_at steps read_all end_at
-    mark_at attribute_at step_at test_at kind_at print_step print_line
+unfolding more answer_of bytes_after judge_of other_encoding scanned scan_from start_of blank check_of space_end cut_of count_of verdicts
+    verdict_of forest_of tokens_of tokens_from item_at kind_of declares ends_at tag_at end_tag_at tag_of end_tag_of piece_named before
+    gather attribute_of small_tag text_of comment_of target_of instruction_end instruction_of eq_of space_of skip value_of quoted_of many
+    piece_of is_mark reference_of entity_ref_of char_ref_of is_char name_of expect seek starts run character guess number utf8 is_scalar
+    is_space is_name is_name_start is_name_more list_paths list_answer judge lines sound_at within line_at steps read_all end_at mark_at
+    attribute_at step_at test_at kind_at print_step print_line
 others = refl
 
 pub encodings : Holds encoded
 unfolding encoded answer_of bytes_after judge_of other_encoding scanned scan_from start_of blank check_of space_end cut_of count_of verdicts
-    verdict_of forest_of tokens_of tokens_from item_at kind_of declares ends_at tag_at end_tag_at tag_of end_tag_of piece_named before gather attribute_of
-    small_tag text_of declaration_of version_of encoding_of other_of yes_or_no is_decimal is_letter is_encoding target_of instruction_end instruction_of
-    eq_of space_of skip value_of quoted_of many piece_of is_mark reference_of entity_ref_of char_ref_of is_char name_of expect seek starts run character
-    guess number utf8 is_scalar is_space is_name is_name_start is_name_more list_paths list_answer judge lines sound_at within line_at steps read_all
-    end_at mark_at attribute_at step_at test_at kind_at print_step print_line
+    verdict_of forest_of tokens_of tokens_from item_at kind_of declares ends_at tag_at end_tag_at tag_of end_tag_of piece_named before
+    gather attribute_of small_tag text_of declaration_of version_of encoding_of other_of yes_or_no is_decimal is_letter is_encoding
+    target_of instruction_end instruction_of eq_of space_of skip value_of quoted_of many piece_of is_mark reference_of entity_ref_of
+    char_ref_of is_char name_of expect seek starts run character guess number utf8 is_scalar is_space is_name is_name_start is_name_more
+    list_paths list_answer judge lines sound_at within line_at steps read_all end_at mark_at attribute_at step_at test_at kind_at print_step
+    print_line
 encodings = refl
 
 pub steps_stay : Holds staying
-unfolding staying answer_of bytes_after judge_of other_encoding scanned scan_from start_of blank check_of space_end cut_of count_of verdicts verdict_of
-    forest_of tokens_of tokens_from item_at kind_of declares ends_at tag_at end_tag_at tag_of end_tag_of piece_named before gather
-    attribute_of small_tag text_of eq_of space_of skip value_of quoted_of many piece_of is_mark reference_of entity_ref_of char_ref_of
-    is_char name_of expect seek starts run character guess number utf8 is_scalar is_space is_name is_name_start is_name_more list_paths
-    list_answer judge lines sound_at within line_at steps read_all end_at mark_at attribute_at step_at test_at kind_at print_step print_line
+unfolding staying answer_of bytes_after judge_of other_encoding scanned scan_from start_of blank check_of space_end cut_of count_of verdicts
+    verdict_of forest_of tokens_of tokens_from item_at kind_of declares ends_at tag_at end_tag_at tag_of end_tag_of piece_named before
+    gather attribute_of small_tag text_of eq_of space_of skip value_of quoted_of many piece_of is_mark reference_of entity_ref_of
+    char_ref_of is_char name_of expect seek starts run character guess number utf8 is_scalar is_space is_name is_name_start is_name_more
+    list_paths list_answer judge lines sound_at within line_at steps read_all end_at mark_at attribute_at step_at test_at kind_at print_step
+    print_line
 steps_stay = refl
 
 pub attributes_tested : Holds tested
-unfolding tested answer_of bytes_after judge_of other_encoding scanned scan_from start_of blank check_of space_end cut_of count_of verdicts verdict_of
-    forest_of tokens_of tokens_from item_at kind_of declares ends_at tag_at end_tag_at tag_of end_tag_of piece_named before gather
-    attribute_of small_tag text_of eq_of space_of skip value_of quoted_of many piece_of is_mark reference_of entity_ref_of char_ref_of digits_of ends_number
-    digit_of is_decimal is_char except name_of expect seek starts run character guess number utf8 is_scalar is_space is_name is_name_start is_name_more
-    list_paths list_answer judge lines sound_at within line_at steps read_all end_at mark_at attribute_at step_at test_at kind_at print_step print_line
-    is_value attributes_of attributes_in held_of normal_at signs_in next_of has_attribute normal lines_of_value lines_from char_of encoded_signs
+unfolding tested answer_of bytes_after judge_of other_encoding scanned scan_from start_of blank check_of space_end cut_of count_of verdicts
+    verdict_of forest_of tokens_of tokens_from item_at kind_of declares ends_at tag_at end_tag_at tag_of end_tag_of piece_named before
+    gather attribute_of small_tag text_of eq_of space_of skip value_of quoted_of many piece_of is_mark reference_of entity_ref_of
+    char_ref_of digits_of ends_number digit_of is_decimal is_char except name_of expect seek starts run character guess number utf8
+    is_scalar is_space is_name is_name_start is_name_more list_paths list_answer judge lines sound_at within line_at steps read_all end_at
+    mark_at attribute_at step_at test_at kind_at print_step print_line is_value attributes_of attributes_in held_of normal_at signs_in
+    next_of has_attribute normal lines_of_value lines_from char_of encoded_signs
 attributes_tested = refl

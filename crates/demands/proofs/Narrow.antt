@@ -7,7 +7,7 @@ use mathlib.Core.List.{List, [], ◌∷◌}
 use mathlib.Core.Option.{Option, none}
 use Rattle.xml.specs.Forest.{Name, Forest}
 use Rattle.attributes.specs.Attribute.{Attribute}
-use Rattle.paths.specs.Path.{AttributeTest, Path, All, none as nil, more}
+use Rattle.paths.specs.Path.{AttributeTest, Path, none as nil, more}
 use Rattle.matcher.specs.Pick.{PassesTest, Picks}
 use Rattle.matcher.specs.Says.{Some, this, later, BySome, ByMarked, Says, verdict_of}
 use Rattle.matcher.specs.declared.Verdict.{Verdict}

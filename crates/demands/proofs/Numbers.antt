@@ -2,7 +2,7 @@
 -- those of document, for a bad sequence, where no other encoding is named, those of chars. So no table of numbers stands beside document
 -- 01's.
 use mathlib.Core.Path.{◌≡◌, refl}
-use mathlib.Core.Bool.{Bool, true, false}
+use mathlib.Core.Bool.{false}
 use mathlib.Core.List.{List}
 use Prim.Native.Nat.{ℕ, ◌≤◌}
 use borrow.Author.Tests.{le-ltb}

@@ -10,7 +10,7 @@ use borrow.Author.Tests.{leb-true, leb-false, le-leb, lt-leb}
 use lib.Dec.{leb}
 use lib.ListN.{length, drop}
 use Rattle.xml.specs.Notation.{Reads, more}
-use Rattle.xml.specs.Productions.{S, same}
+use Rattle.xml.specs.Productions.{S}
 use Rattle.xml.proofs.Bools.{or_left, or_right, or_either}
 use Rattle.xml.proofs.Run.{starts_not}
 use Rattle.xml.proofs.Same.{same_equal, same_refl}
@@ -25,12 +25,12 @@ use Rattle.tags.specs.declared.Item.TheVariants.{Doctype, Malformed, TooLarge, N
 use Rattle.items.specs.Item.{Kind}
 use Rattle.items.specs.Inside.{Inside}
 use Rattle.items.specs.Meaning.{KindSays}
-use Rattle.document.specs.Place.{Opened, some, formed, blank, closes, start_placement, over_placement, placement}
+use Rattle.document.specs.Place.{Opened, some, formed, blank, closes, start_placement, placement}
 use Rattle.document.specs.declared.Placement.{Placement}
 use Rattle.document.specs.declared.Placement.TheVariants.{Fine, Fault, Over}
 use Rattle.document.specs.declared.Why.{Why}
 use Rattle.document.specs.declared.Why.TheVariants as why
-use Rattle.demands.specs.Position.{Outside, Within, Formed, Faulty, StartSays, EndSays, PlaceSays}
+use Rattle.demands.specs.Position.{Formed, Faulty, StartSays, EndSays, PlaceSays}
 use Rattle.demands.proofs.Parts.{blank_space, stops_space}
 
 -- ---- what a test says

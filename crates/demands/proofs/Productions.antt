@@ -7,7 +7,8 @@ use mathlib.Core.Logic.{◌⊎◌, inl, inr}
 use Prim.Native.String.{String}
 use Rattle.xml.specs.Range.{Range, ◌–◌, ◌to◌, only, sign, within}
 use Rattle.xml.specs.Notation.{◌∣◌, text}
-use Rattle.xml.specs.Productions.{is_char, is_space, is_name_start, is_name_more, is_name, except, S, Name, Eq, AttValue, Reference, CharData}
+use Rattle.xml.specs.Productions.{is_char, is_space, is_name_start, is_name_more, is_name, except, S, Name, Eq, AttValue, Reference}
+use Rattle.xml.specs.Productions.{CharData}
 use Rattle.xml.specs.Productions.{Comment, PI, CDSect, VersionNum, VersionInfo, SDDecl}
 use Rattle.xml.specs.Encoding.{EncodingBy, Utf8Name, Utf8Decl}
 use Rattle.xml.proofs.Bools.{and_left, or_either}

@@ -1,7 +1,7 @@
 -- Demand 2, of the answer: by a list that is accepted, the answer is not one of 4 to 8 and not 10, and so is 0 or 9, exactly when the
 -- document has at most 16,777,216 bytes, is UTF-8 of Chars, and is derived by production [1] within the sizes; a declaration that [1] has
 -- names no encoding but UTF-8.
-use mathlib.Core.Path.{◌≡◌, refl, sym, ap, ◌∙◌}
+use mathlib.Core.Path.{◌≡◌, refl}
 use mathlib.Core.Bool.{Bool, true, false, cond}
 use mathlib.Core.Logic.{◌↔◌, ◌⊎◌, inl, inr}
 use mathlib.Core.List.{List}
@@ -58,6 +58,7 @@ module _ (list d : List ℕ) (room : ℕ) (listed : list_answer list ≡ lists.S
   pub taken_iff : Taken (answer_of list d room)
       ↔ ((length d ≤ 16777216) × Chars d × ((f : Forest) × Document Small (drop (start_of d) d) f))
   taken_iff = (
-    (λ t. (accepted d).0 (judged_taken (judge_of d) (by_room room (cut_of list d) (count_of list d) (tests_of list d)) (rw by_document_lem at t))),
+    (λ t. (accepted d).0 (judged_taken (judge_of d) (by_room room (cut_of list d) (count_of list d) (tests_of list d))
+        (rw by_document_lem at t))),
     (λ x. rw (by_document_lem, (accepted d).1 x) (room_taken room (cut_of list d) (count_of list d) (tests_of list d))),
   )

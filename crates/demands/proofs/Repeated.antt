@@ -155,7 +155,8 @@ good_covered (this c) (more g gs) =
 good_covered (later s) (more g gs) = good_covered s gs
 
 -- two accepted lists of the same paths, in any order and each as often as it likes
-pub same_members : (list list' : List ℕ) → list_answer list ≡ Sound → list_answer list' ≡ Sound → AllStand (list_paths list) (list_paths list')
+pub same_members : (list list' : List ℕ) → list_answer list ≡ Sound → list_answer list' ≡ Sound
+    → AllStand (list_paths list) (list_paths list')
     → AllStand (list_paths list') (list_paths list) → SameOutcome list list'
 same_members list list' p q l m = same_lists list list' p q (all_each (λ r. stands_covers) l) (all_each (λ r. stands_covers) m)
 

@@ -126,7 +126,7 @@ never_short list d room n l e = go (rw e at (says_answer list d room))
 -- ---- no smaller number would do: `<g/>` is accepted, and its cut by the empty list has 7 bytes
 
 pub at_most_reached : (judge_of (bytes "<g/>") ≡ Sound) × (length (cut_of [] (bytes "<g/>")) ≡ 2 * length (bytes "<g/>") - 1)
-unfolding judge_of other_encoding scanned scan_from check_of cut_of list_paths verdicts verdict_of forest_of tokens_of tokens_from start_of item_at
-    kind_of declares ends_at tag_at tag_of piece_named before gather attribute_of small_tag space_of skip name_of expect starts run character guess
-    number utf8 is_scalar is_char is_space is_name is_name_start is_name_more list_answer judge lines read_all
+unfolding judge_of other_encoding scanned scan_from check_of cut_of list_paths verdicts verdict_of forest_of tokens_of tokens_from start_of
+    item_at kind_of declares ends_at tag_at tag_of piece_named before gather attribute_of small_tag space_of skip name_of expect starts run
+    character guess number utf8 is_scalar is_char is_space is_name is_name_start is_name_more list_answer judge lines read_all
 at_most_reached = (refl, refl)

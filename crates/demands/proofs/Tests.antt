@@ -100,11 +100,11 @@ table =
 
 -- the cut is as said, with as many selected, and so is the cut of the cut
 unfoldable pub holds : List Row → Bool
-unfolding verdicts verdict_of forest_of tokens_of tokens_from start_of item_at kind_of declares ends_at tag_at end_tag_at tag_of end_tag_of piece_named
-    before gather attribute_of small_tag text_of eq_of space_of skip value_of quoted_of many piece_of is_mark reference_of entity_ref_of char_ref_of
-    digits_of is_char name_of expect seek starts run character guess number utf8 is_scalar is_space is_name is_name_start is_name_more attributes_of
-    attributes_in held_of has_attribute normal_at signs_in next_of except is_decimal is_hexadecimal ends_number digit_of normal lines lines_from
-    char_of encoded
+unfolding verdicts verdict_of forest_of tokens_of tokens_from start_of item_at kind_of declares ends_at tag_at end_tag_at tag_of end_tag_of
+    piece_named before gather attribute_of small_tag text_of eq_of space_of skip value_of quoted_of many piece_of is_mark reference_of
+    entity_ref_of char_ref_of digits_of is_char name_of expect seek starts run character guess number utf8 is_scalar is_space is_name
+    is_name_start is_name_more attributes_of attributes_in held_of has_attribute normal_at signs_in next_of except is_decimal is_hexadecimal
+    ends_number digit_of normal lines lines_from char_of encoded
 holds [] = true
 holds (r ∷ rs) =
     let v = verdicts r.list in

@@ -1,7 +1,7 @@
 -- The name tests tried over a document: the number that is computed is that of document 02's words, `tests_counted`, and no other is; it is
 -- "at most elements times steps in the list, repeats counted", `tests_at_most`. Then answers that differ in this number alone have the same
 -- other numbers and leave the same bytes.
-use mathlib.Core.Path.{◌≡◌, refl, sym, ap, ◌∙◌, subst}
+use mathlib.Core.Path.{◌≡◌, refl, sym, ap, ◌∙◌}
 use mathlib.Core.Bool.{Bool, true, false, cond}
 use mathlib.Core.List.{List, [], ◌∷◌, ◌++◌, append_assoc, map}
 use Prim.Native.Nat.{ℕ, ◌+◌, ◌*◌, ◌≤◌}
@@ -18,7 +18,7 @@ use Rattle.paths.specs.declared.ListAnswer.TheVariants as lists
 use Rattle.document.specs.declared.judge.Judged.{Judged}
 use Rattle.document.specs.declared.judge.Judged.TheVariants as judged
 use Rattle.compiled.proofs.OverLines.{sound_sized}
-use Rattle.matcher.specs.Tried.{Counted, none, this, other as skipped, Placing, steps_of, Tried, NameTests}
+use Rattle.matcher.specs.Tried.{Counted, none, this, other as skipped, Placing, steps_of, Tried}
 use Rattle.matcher.proofs.Tests.{counted_append, counted_most, tests_told}
 use Rattle.trees.specs.Cut.{tally}
 use Rattle.trees.specs.Grown.{forest_of}
@@ -75,7 +75,8 @@ module _ (ps : List Path) (few : length ps ≤ 32) (short : All (λ p. length p.
       (rw (pairs_append inner behind (steps_of ps)) (counted_append (tests_below (t.name ∷ up) kids) (tests_below up rest)))
 
 -- by a list that is accepted
-pub tests_counted : (list d : List ℕ) → list_answer list ≡ lists.Sound → Tests (list_paths list) (elements [] (forest_of d)) (tests_of list d)
+pub tests_counted : (list d : List ℕ) → list_answer list ≡ lists.Sound
+    → Tests (list_paths list) (elements [] (forest_of d)) (tests_of list d)
 unfolding tests_of
 tests_counted list d e =
     let s = sound_sized list e in

@@ -7,7 +7,7 @@ use native.Mathlib.Omega.{arith}
 use lib.ListN.{length, get_or, take, replicate}
 use Rattle.xml.specs.Utf8.{utf8, is_scalar}
 use Rattle.xml.specs.Notation.{bytes}
-use Rattle.xml.specs.Productions.{is_char, is_space, is_name_start, is_name_more, is_name, digit_of}
+use Rattle.xml.specs.Productions.{is_char, is_space, is_name_start, is_name_more, is_name}
 use Rattle.xml.specs.Character.{value_of as number, guess, character, starts, run}
 use Rattle.utf8.specs.Place.{ends_at}
 use Rattle.chars.specs.Name.{name_of}
@@ -18,10 +18,10 @@ use Rattle.paths.specs.Reader.{read_all, kind_at, test_at, step_at, steps, attri
 use Rattle.paths.specs.Judge.{within, sound_at, lines, judge, list_answer, list_paths}
 use Rattle.matcher.specs.Says.{verdict_of}
 use Rattle.readers.specs.Read.{expect, seek, skip, space_of, many}
-use Rattle.readers.specs.Plain.{is_mark, text_of, comment_of}
-use Rattle.readers.specs.Value.{is_decimal, is_hexadecimal, ends_number, digits_of, char_ref_of, entity_ref_of, reference_of}
+use Rattle.readers.specs.Plain.{is_mark, text_of}
+use Rattle.readers.specs.Value.{char_ref_of, entity_ref_of, reference_of}
 use Rattle.readers.specs.Value.{piece_of, quoted_of, value_of}
-use Rattle.readers.specs.Named.{before, target_of, instruction_end, instruction_of, eq_of, piece_named, attribute_of, gather, tag_of}
+use Rattle.readers.specs.Named.{before, eq_of, piece_named, attribute_of, gather, tag_of}
 use Rattle.readers.specs.Named.{end_tag_of, small_tag, other_encoding}
 use Rattle.tags.specs.Tag.{tag_at, end_tag_at}
 use Rattle.items.specs.Item.{declares, kind_of, item_at}
@@ -59,35 +59,39 @@ abbrev doc_b : List ℕ
 doc_b = bytes "<g><p><v/></p></g>"
 
 row_a : answer_of none doc_a 21 ≡ Written 7 0 (tests_of none doc_a)
-unfolding answer_of bytes_after judge_of other_encoding scanned scan_from start_of blank check_of space_end cut_of count_of verdicts verdict_of
-    forest_of tokens_of tokens_from item_at kind_of declares ends_at tag_at end_tag_at tag_of end_tag_of piece_named before gather
-    attribute_of small_tag text_of eq_of space_of skip value_of quoted_of many piece_of is_mark reference_of entity_ref_of char_ref_of
-    is_char name_of expect seek starts run character guess number utf8 is_scalar is_space is_name is_name_start is_name_more list_paths
-    list_answer judge lines sound_at within line_at steps read_all end_at mark_at attribute_at step_at test_at kind_at print_step print_line
+unfolding answer_of bytes_after judge_of other_encoding scanned scan_from start_of blank check_of space_end cut_of count_of verdicts
+    verdict_of forest_of tokens_of tokens_from item_at kind_of declares ends_at tag_at end_tag_at tag_of end_tag_of piece_named before
+    gather attribute_of small_tag text_of eq_of space_of skip value_of quoted_of many piece_of is_mark reference_of entity_ref_of
+    char_ref_of is_char name_of expect seek starts run character guess number utf8 is_scalar is_space is_name is_name_start is_name_more
+    list_paths list_answer judge lines sound_at within line_at steps read_all end_at mark_at attribute_at step_at test_at kind_at print_step
+    print_line
 row_a = refl
 
 row_b : answer_of list_b doc_b 21 ≡ Written 21 1 (tests_of list_b doc_b)
-unfolding answer_of bytes_after judge_of other_encoding scanned scan_from start_of blank check_of space_end cut_of count_of verdicts verdict_of
-    forest_of tokens_of tokens_from item_at kind_of declares ends_at tag_at end_tag_at tag_of end_tag_of piece_named before gather
-    attribute_of small_tag text_of eq_of space_of skip value_of quoted_of many piece_of is_mark reference_of entity_ref_of char_ref_of
-    is_char name_of expect seek starts run character guess number utf8 is_scalar is_space is_name is_name_start is_name_more list_paths
-    list_answer judge lines sound_at within line_at steps read_all end_at mark_at attribute_at step_at test_at kind_at print_step print_line
+unfolding answer_of bytes_after judge_of other_encoding scanned scan_from start_of blank check_of space_end cut_of count_of verdicts
+    verdict_of forest_of tokens_of tokens_from item_at kind_of declares ends_at tag_at end_tag_at tag_of end_tag_of piece_named before
+    gather attribute_of small_tag text_of eq_of space_of skip value_of quoted_of many piece_of is_mark reference_of entity_ref_of
+    char_ref_of is_char name_of expect seek starts run character guess number utf8 is_scalar is_space is_name is_name_start is_name_more
+    list_paths list_answer judge lines sound_at within line_at steps read_all end_at mark_at attribute_at step_at test_at kind_at print_step
+    print_line
 row_b = refl
 
 bytes_a : bytes_after none doc_a dots ≡ bytes "<g></g>" ++ replicate 14 46
-unfolding answer_of bytes_after judge_of other_encoding scanned scan_from start_of blank check_of space_end cut_of count_of verdicts verdict_of
-    forest_of tokens_of tokens_from item_at kind_of declares ends_at tag_at end_tag_at tag_of end_tag_of piece_named before gather
-    attribute_of small_tag text_of eq_of space_of skip value_of quoted_of many piece_of is_mark reference_of entity_ref_of char_ref_of
-    is_char name_of expect seek starts run character guess number utf8 is_scalar is_space is_name is_name_start is_name_more list_paths
-    list_answer judge lines sound_at within line_at steps read_all end_at mark_at attribute_at step_at test_at kind_at print_step print_line
+unfolding answer_of bytes_after judge_of other_encoding scanned scan_from start_of blank check_of space_end cut_of count_of verdicts
+    verdict_of forest_of tokens_of tokens_from item_at kind_of declares ends_at tag_at end_tag_at tag_of end_tag_of piece_named before
+    gather attribute_of small_tag text_of eq_of space_of skip value_of quoted_of many piece_of is_mark reference_of entity_ref_of
+    char_ref_of is_char name_of expect seek starts run character guess number utf8 is_scalar is_space is_name is_name_start is_name_more
+    list_paths list_answer judge lines sound_at within line_at steps read_all end_at mark_at attribute_at step_at test_at kind_at print_step
+    print_line
 bytes_a = refl
 
 bytes_b : bytes_after list_b doc_b dots ≡ bytes "<g><p><v></v></p></g>"
-unfolding answer_of bytes_after judge_of other_encoding scanned scan_from start_of blank check_of space_end cut_of count_of verdicts verdict_of
-    forest_of tokens_of tokens_from item_at kind_of declares ends_at tag_at end_tag_at tag_of end_tag_of piece_named before gather
-    attribute_of small_tag text_of eq_of space_of skip value_of quoted_of many piece_of is_mark reference_of entity_ref_of char_ref_of
-    is_char name_of expect seek starts run character guess number utf8 is_scalar is_space is_name is_name_start is_name_more list_paths
-    list_answer judge lines sound_at within line_at steps read_all end_at mark_at attribute_at step_at test_at kind_at print_step print_line
+unfolding answer_of bytes_after judge_of other_encoding scanned scan_from start_of blank check_of space_end cut_of count_of verdicts
+    verdict_of forest_of tokens_of tokens_from item_at kind_of declares ends_at tag_at end_tag_at tag_of end_tag_of piece_named before
+    gather attribute_of small_tag text_of eq_of space_of skip value_of quoted_of many piece_of is_mark reference_of entity_ref_of
+    char_ref_of is_char name_of expect seek starts run character guess number utf8 is_scalar is_space is_name is_name_start is_name_more
+    list_paths list_answer judge lines sound_at within line_at steps read_all end_at mark_at attribute_at step_at test_at kind_at print_step
+    print_line
 bytes_b = refl
 
 -- ---- the filters

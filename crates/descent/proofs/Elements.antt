@@ -125,7 +125,8 @@ module _ {list d starts lens o₀ : List ℕ} {level : ℕ} {rooted kept : Bool}
       (ew : w ≡ verdict_of (list_paths list) (root_first (names_of d own size (level + 1)))
       (attributes_in 0 (take (h - (at + 1 + n)) (drop (at + 1 + n) d))))
       {kept₁ : Bool} {r₁ : Run} {o₁ : List ℕ}
-      (mv : Moves d own size level kept r o (on_start w (name_at d own size level) (part d at h) (part d at f)) (level + 1) kept₁ r₁ o₁) where
+      (mv : Moves d own size level kept r o (on_start w (name_at d own size level) (part d at h) (part d at f)) (level + 1) kept₁ r₁
+      o₁) where
     abbrev begun' : Engine
     begun' = on_start w (name_at d own size level) (part d at h) (part d at f) v.x
 

@@ -13,7 +13,8 @@ use Rattle.descent.specs.Places.{may_stand, passes_by, can_stand}
 use Rattle.descent.specs.Answer.{without, number_of, second_of, third_of}
 
 -- the step before can stand right above, or further above, or there
-kinds : (may_stand Child true true false ≡ true) × (may_stand Child false true true ≡ false) × (may_stand Descendant false true false ≡ true)
+kinds : (may_stand Child true true false ≡ true) × (may_stand Child false true true ≡ false)
+    × (may_stand Descendant false true false ≡ true)
     × (may_stand Descendant false false true ≡ false) × (may_stand SelfStep true true false ≡ false)
     × (may_stand SelfStep false false true ≡ true) × (may_stand DescendantOrSelf false true false ≡ true)
     × (may_stand DescendantOrSelf false false true ≡ true) × (may_stand DescendantOrSelf false false false ≡ false)

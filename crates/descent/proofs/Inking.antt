@@ -224,7 +224,8 @@ module _ {d starts lens o : List ℕ} {level reached : ℕ} {kept : Bool} {len c
       → Started d starts lens level reached kept len count o v head raw reached len count o
   tag_waits head e q z = rw (e, q) (start_waits h head refl refl z)
 
-  pub tag_root : (head : List ℕ) {raw o' : List ℕ} {r : ℕ} → kept ≡ false → v ≡ said.Unselected → level ≡ 0 → Placed d starts lens (level + 1)
+  pub tag_root : (head : List ℕ) {raw o' : List ℕ} {r : ℕ} → kept ≡ false → v ≡ said.Unselected → level ≡ 0
+      → Placed d starts lens (level + 1)
       → length d ≤ 16777216 → Wrote o len (chain (span (name_at d starts lens) 0 (1 - 0))) r o'
       → Started d starts lens level reached kept len count o v head raw 1 r count o'
   tag_root head e q z p small w = rw (e, q) (start_root h head refl refl z (rw (sym z) at w) (own_small level p small))

@@ -97,11 +97,11 @@ cases =
 
 pub clients_computed :
     map (λ c. map (λ r. alone_of c.doc r.client) c.seats) cases ≡ map (λ c. map (λ r. r.gets) c.seats) cases
-unfolding cases alone_of answer_of bytes_after judge_of other_encoding scanned scan_from start_of blank check_of space_end cut_of count_of verdicts
-    verdict_of tests_of name_tests tests_by tests_at tried_of hits_of flood carried carried_at fresh_state deeper_of state_of fit_for column padded
-    stays_of goes_of far_of fit_of ones ones_in forest_of tokens_of tokens_from item_at kind_of declares ends_at tag_at end_tag_at tag_of end_tag_of
-    piece_named before gather attribute_of small_tag text_of eq_of space_of skip value_of quoted_of many piece_of is_mark reference_of entity_ref_of
-    char_ref_of is_char name_of expect seek starts run character guess number utf8 is_scalar is_space is_name is_name_start is_name_more list_paths
-    list_answer judge lines sound_at within line_at steps read_all end_at mark_at attribute_at step_at test_at kind_at print_step print_line is_value
-    except
+unfolding cases alone_of answer_of bytes_after judge_of other_encoding scanned scan_from start_of blank check_of space_end cut_of count_of
+    verdicts verdict_of tests_of name_tests tests_by tests_at tried_of hits_of flood carried carried_at fresh_state deeper_of state_of
+    fit_for column padded stays_of goes_of far_of fit_of ones ones_in forest_of tokens_of tokens_from item_at kind_of declares ends_at
+    tag_at end_tag_at tag_of end_tag_of piece_named before gather attribute_of small_tag text_of eq_of space_of skip value_of quoted_of many
+    piece_of is_mark reference_of entity_ref_of char_ref_of is_char name_of expect seek starts run character guess number utf8 is_scalar
+    is_space is_name is_name_start is_name_more list_paths list_answer judge lines sound_at within line_at steps read_all end_at mark_at
+    attribute_at step_at test_at kind_at print_step print_line is_value except
 clients_computed = refl

@@ -155,7 +155,7 @@ pub lists_are_answered : (computed of_document02 ≡ expected of_document02) × 
     × (computed names ≡ expected names) × (computed order ≡ expected order) × (computed ends ≡ expected ends)
     × (computed tests ≡ expected tests)
     × (computed others ≡ expected others) × (computed marks ≡ expected marks) × (computed refusals ≡ expected refusals)
-unfolding cover_answer covered stands_for covers list_paths list_answer lines judge sound_at within line_at end_at mark_at attribute_at steps step_at
-    test_at kind_at read_all print_step print_line is_value name_of run character starts utf8 value_of guess is_scalar is_char is_name_start is_name_more
-    is_name except of_document02 other_way names order ends tests others marks refusals
+unfolding cover_answer covered stands_for covers list_paths list_answer lines judge sound_at within line_at end_at mark_at attribute_at
+    steps step_at test_at kind_at read_all print_step print_line is_value name_of run character starts utf8 value_of guess is_scalar is_char
+    is_name_start is_name_more is_name except of_document02 other_way names order ends tests others marks refusals
 lists_are_answered = (refl, refl, refl, refl, refl, refl, refl, refl, refl)

@@ -186,9 +186,9 @@ sound = refl
 
 pub computed : map verdict_in rows ≡ map (λ r. r.verdict) rows
 unfolding rows list_paths list_answer judge lines sound_at within line_at steps read_all end_at mark_at attribute_at step_at test_at kind_at
-    print_step print_line
-    name_of run starts character guess value_of utf8 is_scalar is_name_start is_name_more is_name picked_by passing_of selecting_by hit_at state_of
-    deeper_of fresh_state carried_at carried hits_at hits_of flood fit_for fit_of stays_of goes_of far_of lasts_of marks_of column padded
+    print_step print_line name_of run starts character guess value_of utf8 is_scalar is_name_start is_name_more is_name picked_by passing_of
+    selecting_by hit_at state_of deeper_of fresh_state carried_at carried hits_at hits_of flood fit_for fit_of stays_of goes_of far_of
+    lasts_of marks_of column padded
 computed = refl
 
 all_meant : (rs : List Row) → map (λ r. list_answer r.list) rs ≡ map (λ r. Sound) rs → map verdict_in rs ≡ map (λ r. r.verdict) rs

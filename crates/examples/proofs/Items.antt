@@ -88,9 +88,9 @@ firsts =
     ∷ "<?xml version='1.0' encoding='8'?>" ∷ [])
 
 pub firsts_computed : answers (item_at true) firsts ≡ expected firsts
-unfolding firsts item_at kind_of declares ends_at tag_at tag_of piece_named before gather attribute_of small_tag instruction_of instruction_end
-    target_of declaration_of version_of encoding_of yes_or_no eq_of space_of skip text_of name_of expect seek starts run character guess number utf8
-    is_scalar is_space is_name is_name_start is_name_more is_decimal is_letter is_encoding
+unfolding firsts item_at kind_of declares ends_at tag_at tag_of piece_named before gather attribute_of small_tag instruction_of
+    instruction_end target_of declaration_of version_of encoding_of yes_or_no eq_of space_of skip text_of name_of expect seek starts run
+    character guess number utf8 is_scalar is_space is_name is_name_start is_name_more is_decimal is_letter is_encoding
 firsts_computed = refl
 
 -- ---- kinds, told by their first bytes
@@ -247,7 +247,7 @@ others = kinds ++ instructions ++ doctypes ++ contents ++ references ++ tags ++ 
 
 pub others_computed : answers (item_at false) others ≡ expected others
 unfolding kinds instructions doctypes contents references tags sizes faults places item_at kind_of declares ends_at tag_at end_tag_at tag_of
-    end_tag_of piece_named before gather attribute_of small_tag instruction_of instruction_end target_of text_of comment_of section_of eq_of space_of
-    skip value_of quoted_of many piece_of is_mark reference_of entity_ref_of char_ref_of digits_of ends_number digit_of is_decimal is_hexadecimal is_char
-    name_of expect seek starts run character guess number utf8 is_scalar is_space is_name is_name_start is_name_more
+    end_tag_of piece_named before gather attribute_of small_tag instruction_of instruction_end target_of text_of comment_of section_of eq_of
+    space_of skip value_of quoted_of many piece_of is_mark reference_of entity_ref_of char_ref_of digits_of ends_number digit_of is_decimal
+    is_hexadecimal is_char name_of expect seek starts run character guess number utf8 is_scalar is_space is_name is_name_start is_name_more
 others_computed = refl

@@ -1,6 +1,6 @@
--- Worked examples of `list_answer` and `list_paths`, each table under one statement that antt computes: lists, and beside them the answers by
--- documents 01 and 02. In order: how the lists are written; the lines; the steps and marks of a line; names; kinds of step, and two colons
--- side by side; tests of an attribute; sizes; which fault decides; paths.
+-- Worked examples of `list_answer` and `list_paths`, each table under one statement that antt computes: lists, and beside them the answers
+-- by documents 01 and 02. In order: how the lists are written; the lines; the steps and marks of a line; names; kinds of step, and two
+-- colons side by side; tests of an attribute; sizes; which fault decides; paths.
 use mathlib.Core.Path.{◌≡◌, refl}
 use mathlib.Core.Bool.{true, false}
 use mathlib.Core.List.{List, [], ◌∷◌, ◌++◌}
@@ -12,7 +12,7 @@ use Rattle.xml.specs.Productions.{is_char, is_name_start, is_name_more, is_name,
 use Rattle.xml.specs.Character.{value_of, guess, character, starts, run}
 use Rattle.utf8.proofs.Examples.{Row, ◌at◌gives◌, answers, expected}
 use Rattle.chars.specs.Name.{name_of}
-use Rattle.paths.specs.Path.{Test, any, named, Step, AttributeTest, Path, print_step, print_line, is_value}
+use Rattle.paths.specs.Path.{Test, any, named, Step, Path, print_step, print_line, is_value}
 use Rattle.paths.specs.Reader.{read_all, kind_at, test_at, step_at, steps, attribute_at, mark_at, end_at, line_at}
 use Rattle.paths.specs.Judge.{within, sound_at, lines, judge, list_answer, list_paths}
 use Rattle.paths.specs.declared.Kind.TheVariants.{Child, Descendant, SelfStep, DescendantOrSelf}
@@ -379,13 +379,14 @@ first_fault =
 -- all of them
 abbrev pub lists : List (Row ListAnswer)
 lists =
-    whole_lines ++ blanks ++ bad_steps ++ name_lines ++ kind_lines ++ colon_lines ++ test_lines ++ bad_tests ++ bad_values ++ test_sizes ++ sizes
+    whole_lines ++ blanks ++ bad_steps ++ name_lines ++ kind_lines ++ colon_lines ++ test_lines ++ bad_tests ++ bad_values ++ test_sizes
+    ++ sizes
     ++ first_fault
 
 pub answers_computed : answers (λ s k. list_answer s) lists ≡ expected lists
-unfolding whole_lines blanks bad_steps name_lines kind_lines colon_lines test_lines bad_tests bad_values test_sizes sizes first_fault list_answer judge
-    lines sound_at within line_at steps read_all end_at mark_at attribute_at step_at test_at kind_at print_step print_line name_of run starts character
-    guess value_of utf8 is_scalar is_name_start is_name_more is_name is_value except is_char
+unfolding whole_lines blanks bad_steps name_lines kind_lines colon_lines test_lines bad_tests bad_values test_sizes sizes first_fault
+    list_answer judge lines sound_at within line_at steps read_all end_at mark_at attribute_at step_at test_at kind_at print_step print_line
+    name_of run starts character guess value_of utf8 is_scalar is_name_start is_name_more is_name is_value except is_char
 answers_computed = refl
 
 -- ---- the paths of a list
@@ -444,6 +445,7 @@ path_lists =
     ∷ []
 
 pub paths_computed : answers (λ s k. list_paths s) path_lists ≡ expected path_lists
-unfolding path_lists list_paths list_answer judge lines sound_at within line_at steps read_all end_at mark_at attribute_at step_at test_at kind_at
-    print_step print_line name_of run starts character guess value_of utf8 is_scalar is_name_start is_name_more is_name is_value except is_char
+unfolding path_lists list_paths list_answer judge lines sound_at within line_at steps read_all end_at mark_at attribute_at step_at test_at
+    kind_at print_step print_line name_of run starts character guess value_of utf8 is_scalar is_name_start is_name_more is_name is_value
+    except is_char
 paths_computed = refl

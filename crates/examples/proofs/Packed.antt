@@ -65,16 +65,17 @@ rows =
     ∷ []
 
 pub packed_computed : map (λ r. pack_of r.text) rows ≡ map (λ r. r.form) rows
-unfolding rows pack_of pack_list pack_line pack_record pack_step list_paths list_answer judge lines sound_at within line_at steps read_all end_at
-    mark_at attribute_at step_at test_at kind_at print_step print_line name_of run starts character guess value_of utf8 is_scalar is_name_start
-    is_name_more is_name is_value except is_char
+unfolding rows pack_of pack_list pack_line pack_record pack_step list_paths list_answer judge lines sound_at within line_at steps read_all
+    end_at mark_at attribute_at step_at test_at kind_at print_step print_line name_of run starts character guess value_of utf8 is_scalar
+    is_name_start is_name_more is_name is_value except is_char
 packed_computed = refl
 
 -- and back
 pub texts_computed : map (λ r. text_of r.form) rows ≡ map (λ r. some r.text) rows
-unfolding rows text_of packs same spelled spell_lines spell_line spell_attribute spell_steps spell_step kind_of pack_of pack_list pack_line pack_record
-    pack_step list_paths list_answer judge lines sound_at within line_at steps read_all end_at mark_at attribute_at step_at test_at kind_at print_step
-    print_line name_of run starts character guess value_of utf8 is_scalar is_name_start is_name_more is_name is_value except is_char
+unfolding rows text_of packs same spelled spell_lines spell_line spell_attribute spell_steps spell_step kind_of pack_of pack_list pack_line
+    pack_record pack_step list_paths list_answer judge lines sound_at within line_at steps read_all end_at mark_at attribute_at step_at
+    test_at kind_at print_step print_line name_of run starts character guess value_of utf8 is_scalar is_name_start is_name_more is_name
+    is_value except is_char
 texts_computed = refl
 
 -- ---- inputs that are the packed form of no list
@@ -149,18 +150,19 @@ abbrev pub bad : List (List ℕ)
 bad = bad_fronts ++ bad_lengths ++ bad_steps ++ bad_names ++ bad_tests ++ bad_sizes
 
 pub bad_computed : map text_of bad ≡ map (λ d. none) bad
-unfolding bad_fronts bad_lengths bad_steps bad_names bad_tests bad_sizes text_of packs same spelled spell_lines spell_line spell_attribute spell_steps
-    spell_step kind_of pack_of pack_list pack_line pack_record pack_step list_paths list_answer judge lines sound_at within line_at steps read_all end_at
-    mark_at attribute_at step_at test_at kind_at print_step print_line name_of run starts character guess value_of utf8 is_scalar is_name_start
-    is_name_more is_name is_value except is_char
+unfolding bad_fronts bad_lengths bad_steps bad_names bad_tests bad_sizes text_of packs same spelled spell_lines spell_line spell_attribute
+    spell_steps spell_step kind_of pack_of pack_list pack_line pack_record pack_step list_paths list_answer judge lines sound_at within
+    line_at steps read_all end_at mark_at attribute_at step_at test_at kind_at print_step print_line name_of run starts character guess
+    value_of utf8 is_scalar is_name_start is_name_more is_name is_value except is_char
 bad_computed = refl
 
 -- a text of 8,192 bytes is inside
 pub largest_computed :
     text_of (1 ∷ times 32 (1 ∷ 3 ∷ 0 ∷ 1 ∷ 0 ∷ 254 ∷ letters 254 ++ 0 ∷ [])) ≡ some (times 32 (bytes "/" ++ letters 254 ++ bytes "\n"))
-unfolding text_of packs same spelled spell_lines spell_line spell_attribute spell_steps spell_step kind_of pack_of pack_list pack_line pack_record
-    pack_step list_paths list_answer judge lines sound_at within line_at steps read_all end_at mark_at attribute_at step_at test_at kind_at print_step
-    print_line name_of run starts character guess value_of utf8 is_scalar is_name_start is_name_more is_name is_value except is_char
+unfolding text_of packs same spelled spell_lines spell_line spell_attribute spell_steps spell_step kind_of pack_of pack_list pack_line
+    pack_record pack_step list_paths list_answer judge lines sound_at within line_at steps read_all end_at mark_at attribute_at step_at
+    test_at kind_at print_step print_line name_of run starts character guess value_of utf8 is_scalar is_name_start is_name_more is_name
+    is_value except is_char
 largest_computed = refl
 
 -- ---- answers: in a room one byte too short, and in one that suffices; 1 to 3 and 13 come before 9
@@ -169,15 +171,17 @@ pub answers_computed :
     pack_answer [] 0 ∷ pack_answer [] 1 ∷ pack_answer (bytes "/a\n") 8 ∷ pack_answer (bytes "/a\n") 9 ∷ pack_answer (bytes "/a\n/a") 0
     ∷ pack_answer (times 33 (bytes "/a\n")) 0 ∷ pack_answer (times 8193 (bytes "/")) 0 ∷ []
     ≡ Short 1 ∷ Written 1 ∷ Short 9 ∷ Written 9 ∷ Malformed 2 ∷ TooLarge 33 ∷ TooLong ∷ []
-unfolding pack_answer unpack_answer text_of packs same spelled spell_lines spell_line spell_attribute spell_steps spell_step kind_of pack_of pack_list
-    pack_line pack_record pack_step list_paths list_answer judge lines sound_at within line_at steps read_all end_at mark_at attribute_at step_at test_at
-    kind_at print_step print_line name_of run starts character guess value_of utf8 is_scalar is_name_start is_name_more is_name is_value except is_char
+unfolding pack_answer unpack_answer text_of packs same spelled spell_lines spell_line spell_attribute spell_steps spell_step kind_of pack_of
+    pack_list pack_line pack_record pack_step list_paths list_answer judge lines sound_at within line_at steps read_all end_at mark_at
+    attribute_at step_at test_at kind_at print_step print_line name_of run starts character guess value_of utf8 is_scalar is_name_start
+    is_name_more is_name is_value except is_char
 answers_computed = refl
 
 pub back_computed :
     unpack_answer (1 ∷ []) 0 ∷ unpack_answer (1 ∷ line_a) 2 ∷ unpack_answer (1 ∷ line_a) 3 ∷ unpack_answer (2 ∷ line_a) 0 ∷ []
     ≡ Written 0 ∷ Short 3 ∷ Written 3 ∷ NotPacked ∷ []
-unfolding pack_answer unpack_answer text_of packs same spelled spell_lines spell_line spell_attribute spell_steps spell_step kind_of pack_of pack_list
-    pack_line pack_record pack_step list_paths list_answer judge lines sound_at within line_at steps read_all end_at mark_at attribute_at step_at test_at
-    kind_at print_step print_line name_of run starts character guess value_of utf8 is_scalar is_name_start is_name_more is_name is_value except is_char
+unfolding pack_answer unpack_answer text_of packs same spelled spell_lines spell_line spell_attribute spell_steps spell_step kind_of pack_of
+    pack_list pack_line pack_record pack_step list_paths list_answer judge lines sound_at within line_at steps read_all end_at mark_at
+    attribute_at step_at test_at kind_at print_step print_line name_of run starts character guess value_of utf8 is_scalar is_name_start
+    is_name_more is_name is_value except is_char
 back_computed = refl

@@ -1,6 +1,6 @@
 -- Two results that one contract allows are equal, over the contracts that the toolchain makes of the source: of what C is given by the
 -- library `exported`, with what a function leaves in its buffer. Of the log of `choughbell_cut_with` nothing is said.
-use mathlib.Core.Path.{◌≡◌, sym, ◌∙◌}
+use mathlib.Core.Path.{sym, ◌∙◌}
 use Rattle.contracts.specs.One.{OneResult, OneOutcome}
 use Rattle.exported_c.proofs.choughbell_characters.Reads as characters
 use Rattle.exported_c.proofs.choughbell_judge.Reads as judge

@@ -1,7 +1,7 @@
 -- A client gets what a call made for it alone gives, and nothing of the other three is seen in it: over the contracts that the toolchain
 -- makes of the source.
-use mathlib.Core.Path.{◌≡◌, sym, ap₂, ◌∙◌}
-use Rattle.four.specs.Seats.{client_of, gets_by, alone_of, Seat, first, second, third, fourth, seated, AsAlone, Apart}
+use mathlib.Core.Path.{sym, ap₂, ◌∙◌}
+use Rattle.four.specs.Seats.{client_of, gets_by, alone_of, first, second, third, fourth, seated, AsAlone, Apart}
 use Rattle.four.proofs.four.Reads as four
 use Rattle.four.proofs.four_with.Reads as four_with
 

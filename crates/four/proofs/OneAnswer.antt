@@ -1,6 +1,6 @@
 -- Two results that the contract of `four` or `four_with` allows are equal, the answers and every byte of the four buffers: over the
 -- contracts that the toolchain makes of the source. Of the logs nothing is said.
-use mathlib.Core.Path.{◌≡◌, sym, ap, ◌∙◌}
+use mathlib.Core.Path.{◌≡◌, sym, ◌∙◌}
 use mathlib.Core.List.{List, [], ◌∷◌}
 use Prim.Native.Nat.{ℕ}
 use Rattle.contracts.specs.One.{OneOutcome}

@@ -1,7 +1,7 @@
 -- One client's part in a call: laws of `head_of`, `sound`, `by_list`, `by_pass` and `serve`, one for each way out; then what a client has
 -- when all are served, with no second pass and with one.
 use mathlib.Core.Path.{◌≡◌, refl, sym, ap, ◌∙◌}
-use mathlib.Core.Bool.{Bool, true, false, not, ◌||◌, false≢true}
+use mathlib.Core.Bool.{Bool, true, false, ◌||◌, false≢true}
 use mathlib.Core.List.{List}
 use Prim.Native.Nat.{ℕ, ◌≤◌, ◌<◌}
 use lib.ListN.{length, drop}
@@ -15,11 +15,11 @@ use Rattle.paths.specs.declared.ListAnswer.{ListAnswer}
 use Rattle.paths.specs.declared.ListAnswer.TheVariants as lists
 use Rattle.document.specs.Judge.{start_of, scanned}
 use Rattle.document.specs.declared.Why.{Why}
-use Rattle.document.specs.declared.judge.Judged.TheVariants.{Sound, AtFault}
+use Rattle.document.specs.declared.judge.Judged.TheVariants.{Sound}
 use Rattle.document.proofs.Judging.{judged_named}
 use Rattle.writer.specs.Wrote.{Wrote}
 use Rattle.notes.specs.Notes.{text_of, Within}
-use Rattle.trees.specs.Written.{cut_of, count_of, tests_of}
+use Rattle.trees.specs.Written.{cut_of, count_of}
 use Rattle.passes.specs.Passed.{judged_by, Told, PassedBy, Passed}
 use Rattle.passes.specs.declared.Outcome.{Outcome}
 use Rattle.passes.specs.declared.Outcome.TheVariants.{Fine, Fault}

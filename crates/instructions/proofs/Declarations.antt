@@ -159,7 +159,8 @@ module _ (d : List ℕ) (at : ℕ) where
     unfolding encoding_of
     encoding_none n = rw (letter_starts (not-true x n)) faults
 
-    pub encoding_ends : not x ≡ false → {k : ℕ} → Stands d k (run is_encoding 0 (drop at d)) → Answers d at (Ends k) (encoding_of (drop at d))
+    pub encoding_ends : not x ≡ false → {k : ℕ} → Stands d k (run is_encoding 0 (drop at d))
+        → Answers d at (Ends k) (encoding_of (drop at d))
     unfolding encoding_of
     encoding_ends y s = rw (letter_starts (not-false x y)) (ends s (run_ahead is_encoding d at s (omega arith)))
 
@@ -182,7 +183,8 @@ module _ (d : List ℕ) (from past : ℕ) (l : from ≤ past) (h : past ≤ leng
       let z = length-take-le (past - from) (drop from d) (omega (arith, length-drop from d)) in
       sym (not_five (take (past - from) (drop from d)) (λ e. n (sym z ∙ e)))
 
-  pub utf8_bytes : past - from ≡ 5 → {u t f : Bool} → u ≡ among (bytes "Uu") (get_or d from 0) → t ≡ among (bytes "Tt") (get_or d (from + 1) 0)
+  pub utf8_bytes : past - from ≡ 5 → {u t f : Bool} → u ≡ among (bytes "Uu") (get_or d from 0)
+      → t ≡ among (bytes "Tt") (get_or d (from + 1) 0)
       → f ≡ among (bytes "Ff") (get_or d (from + 2) 0)
       → (((u && t) && f) && eqb (get_or d (from + 3) 0) 0x2D) && eqb (get_or d (from + 4) 0) 0x38
       ≡ is_utf8 (take (past - from) (drop from d))

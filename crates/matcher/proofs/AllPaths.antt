@@ -127,15 +127,18 @@ module _ {A : Type 0} (fits : Step → A → Bool) (ps : List Path) where
       → hits_at (down fit fresh_state above).bits (fit x).passes (fit x).stays (fit x).goes i ≡ path_hits fits (steps_at ps i) above x
   path_hits_lem above x i l =
       hits_at_lem (down fit fresh_state above).bits x i
-      ∙ ap (λ (y : ℕ). hits_of y (fit_bits fits (steps_at ps i) x) (stay_bits (steps_at ps i)) (go_bits (steps_at ps i))) (state_at above i l)
+      ∙ ap (λ (y : ℕ). hits_of y (fit_bits fits (steps_at ps i) x) (stay_bits (steps_at ps i)) (go_bits (steps_at ps i)))
+      (state_at above i l)
 
   -- and the steps of path i that are tried there
   pub path_tried_lem : (above : List A) (x : A) (i : ℕ) → i < 32
-      → tried_of (get_or (down fit fresh_state above).bits i 0) (get_or (fit x).passes i 0) (get_or (fit x).stays i 0) (get_or (fit x).goes i 0)
+      → tried_of (get_or (down fit fresh_state above).bits i 0) (get_or (fit x).passes i 0) (get_or (fit x).stays i 0)
+      (get_or (fit x).goes i 0)
       ≡ path_tried fits (steps_at ps i) above x
   path_tried_lem above x i l =
       tried_at (down fit fresh_state above).bits x i
-      ∙ ap (λ (y : ℕ). tried_of y (fit_bits fits (steps_at ps i) x) (stay_bits (steps_at ps i)) (go_bits (steps_at ps i))) (state_at above i l)
+      ∙ ap (λ (y : ℕ). tried_of y (fit_bits fits (steps_at ps i) x) (stay_bits (steps_at ps i)) (go_bits (steps_at ps i)))
+      (state_at above i l)
 
 some_hit : (b : Bool) (h l : ℕ) → nonzero (bit_and h (cond b l 0)) ≡ b && nonzero (bit_and h l)
 some_hit true h l = refl

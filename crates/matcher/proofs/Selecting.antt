@@ -58,7 +58,8 @@ module _ {state passes stays goes lasts : List ℕ} {p bits : ℕ} (v : Selectin
         let e = v.bits_are in
         omega arith
 
-    pub select_more : {t : ℕ} → t ≡ hits_of (get_or state (p - 1) 0) (get_or passes (p - 1) 0) (get_or stays (p - 1) 0) (get_or goes (p - 1) 0)
+    pub select_more : {t : ℕ} → t ≡ hits_of (get_or state (p - 1) 0) (get_or passes (p - 1) 0) (get_or stays (p - 1) 0)
+        (get_or goes (p - 1) 0)
         → {k : ℕ} → k ≡ bit (nonzero (bit_and t (get_or lasts (p - 1) 0))) → Selecting state passes stays goes lasts (p - 1) (bits * 2 + k)
     unfolding hit_at hits_at
     select_more {t} e {k} g =

@@ -261,7 +261,8 @@ module _ {A : Type 0} (Fits : Step → A → Type 0) (xs : List A) where
         → Tells (ArrivesAt (k + 1)) [] ss (carried x (fit_bits fits ss n) (stay_bits ss) (go_bits ss) (far_bits ss))
     deeper_here ss l x from =
         subst (Tells (ArrivesAt (k + 1)) [] ss) (sym (carried_in_lem x (fit_bits fits ss n) (stay_bits ss) (go_bits ss) (far_bits ss)))
-        (carried_tells ss 15 l [] false nothing_hit (hits_of x (fit_bits fits ss n) (stay_bits ss) (go_bits ss)) x (hits_here ss x from) from)
+        (carried_tells ss 15 l [] false nothing_hit (hits_of x (fit_bits fits ss n) (stay_bits ss) (go_bits ss)) x (hits_here ss x from)
+        from)
 
   -- ---- down a list
 
@@ -297,7 +298,8 @@ module _ {A : Type 0} (Fits : Step → A → Type 0) (fits : Step → A → Bool
       tells_down Fits xs fits decides ss short above [] (n ∷ []) refl 1 0 (length above) refl (omega arith) (tells_fresh Fits xs ss)
 
   pub hits_told : Tells (ReachesAt Fits (above ++ n ∷ []) (length above + 1)) [] ss (path_hits fits ss above n)
-  hits_told = hits_here Fits (above ++ n ∷ []) fits decides (length above) n (at_behind above n []) ss (down_path fits ss 1 above) from_above
+  hits_told = hits_here Fits (above ++ n ∷ []) fits decides (length above) n (at_behind above n []) ss (down_path fits ss 1 above)
+      from_above
 
   pub tried_told : Tells (TriesAt Fits (above ++ n ∷ []) (length above + 1)) [] ss (path_tried fits ss above n)
   tried_told =

@@ -1,6 +1,6 @@
--- The verdict by bits: of the paths whose steps select an element, bit p for path p, those whose attribute test it passes, `passing_of`; and
--- what an element's fit says of it by these bits, `picked_by`. That this is the verdict of specs/Says.antt is shown in proofs/Verdicts.antt.
--- Then lists without a test, for which no attribute is looked at.
+-- The verdict by bits: of the paths whose steps select an element, bit p for path p, those whose attribute test it passes, `passing_of`;
+-- and what an element's fit says of it by these bits, `picked_by`. That this is the verdict of specs/Says.antt is shown in
+-- proofs/Verdicts.antt. Then lists without a test, for which no attribute is looked at.
 use Rattle.std.specs.Prelude.{◌≡◌, Bool, false, ◌&&◌, ◌||◌, List, [], ◌∷◌, ℕ, ◌+◌, ◌*◌, ◌/◌, ◌%◌, eqb}
 use Rattle.std.proofs.Math.Option.{none}
 use Rattle.paths.specs.Path.{Path, All}

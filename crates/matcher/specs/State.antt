@@ -35,7 +35,8 @@ unfoldable pub hits_at : List ℕ → List ℕ → List ℕ → List ℕ → ℕ
 hits_at state passes stays goes p = hits_of (get_or state p 0) (get_or passes p 0) (get_or stays p 0) (get_or goes p 0)
 
 unfoldable pub carried_at : List ℕ → List ℕ → List ℕ → List ℕ → List ℕ → ℕ → ℕ
-carried_at state passes stays goes far p = carried (get_or state p 0) (get_or passes p 0) (get_or stays p 0) (get_or goes p 0) (get_or far p 0)
+carried_at state passes stays goes far p = carried (get_or state p 0) (get_or passes p 0) (get_or stays p 0) (get_or goes p 0)
+    (get_or far p 0)
 
 -- ---- states
 

@@ -239,7 +239,8 @@ module _ {d starts lens : List ℕ} {o : Open} {at : ℕ} {first : Bool} (v : Ke
             go (Fault why) y z u = ap second_of (sym (judge_fault v.judged e q why z))
             go Over y z u = absurd (false≢true (sym (rootless_goes d at i here r) ∙ ap is_over (sym q ∙ z)))
 
-        at_fault : (room : ℕ) (k : Kept) → k ≡ kept_here d starts lens o at → answer_by d k at room ≡ answer_by d k (second_of (scanned d)) room
+        at_fault : (room : ℕ) (k : Kept) → k ≡ kept_here d starts lens o at
+            → answer_by d k at room ≡ answer_by d k (second_of (scanned d)) room
         at_fault room k z = go k.opened.rooted refl
           where
             go : (x : Bool) → k.opened.rooted ≡ x

@@ -31,7 +31,8 @@ fault_at d = fault_of (scanned (readable d))
 unfoldable pub answer_of : List ℕ → ℕ → Answer
 answer_of d room =
     cond (ltb 16777216 (length d)) TooLong
-    (cond (other_encoding (drop (start_of d) d)) (OtherEncoding (start_of d)) (answer_by (readable d) (kept_of (readable d)) (fault_at d) room))
+    (cond (other_encoding (drop (start_of d) d)) (OtherEncoding (start_of d))
+    (answer_by (readable d) (kept_of (readable d)) (fault_at d) room))
 
 -- ---- the buffer
 

@@ -163,7 +163,8 @@ readable_front d = go (check_of d)
     go All = ([], sym (append-nil d))
     go (BadAt o) = (drop o d, sym (take-append-drop o d))
 
-pub readable_names : (d : List ℕ) → other_encoding (drop (start_of d) d) ≡ false → NamesOther (drop (start_of (readable d)) (readable d)) → ⊥
+pub readable_names : (d : List ℕ) → other_encoding (drop (start_of d) d) ≡ false → NamesOther (drop (start_of (readable d)) (readable d))
+    → ⊥
 readable_names d q x =
     let (u, e) = readable_front d in
     named_none (drop (start_of d) d) q (rw (← e) at (front_names (readable d) u x))

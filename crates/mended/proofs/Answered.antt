@@ -1,6 +1,6 @@
--- Document 02's promises, of calls: `answer_of d room` is what is handed back, `bytes_after d o` the buffer after. In order: what is written
--- and what is reported; a buffer that is left alone; "A sound document comes back unchanged with 0 added"; "the result is always accepted
--- by the filter if it is within the document size"; mending a mended document changes nothing; when each refusal is given.
+-- Document 02's promises, of calls: `answer_of d room` is what is handed back, `bytes_after d o` the buffer after. In order: what is
+-- written and what is reported; a buffer that is left alone; "A sound document comes back unchanged with 0 added"; "the result is always
+-- accepted by the filter if it is within the document size"; mending a mended document changes nothing; when each refusal is given.
 use mathlib.Core.Path.{◌≡◌, refl, sym, ap, ◌∙◌}
 use mathlib.Core.Bool.{Bool, true, false, cond, false≢true}
 use mathlib.Core.List.{List, ◌++◌}
@@ -47,7 +47,7 @@ pub record Wrote (d : List ℕ) (room n k a : ℕ) : Type 0 where
   pub added_is : a ≡ tags_added d
   pub fits : n ≤ room
 
--- by the tests that answer_of makes
+-- by the tests that `answer_of` makes
 abbrev by_tests : Bool → Bool → Bool → Bool → List ℕ → Answer
 by_tests long other rooted short d =
     cond long TooLong

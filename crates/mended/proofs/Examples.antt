@@ -19,7 +19,8 @@ use Rattle.readers.specs.Plain.{is_mark, text_of, comment_of, section_of}
 use Rattle.readers.specs.Value.{is_decimal, is_hexadecimal, ends_number, digits_of, char_ref_of, entity_ref_of, reference_of}
 use Rattle.readers.specs.Value.{piece_of, quoted_of, value_of}
 use Rattle.readers.specs.Named.{before, target_of, instruction_end, instruction_of, eq_of, version_of, is_letter, is_encoding, encoding_of}
-use Rattle.readers.specs.Named.{yes_or_no, declaration_of, other_of, other_encoding, piece_named, attribute_of, gather, tag_of, end_tag_of, small_tag}
+use Rattle.readers.specs.Named.{yes_or_no, declaration_of, other_of, other_encoding, piece_named, attribute_of, gather, tag_of, end_tag_of}
+use Rattle.readers.specs.Named.{small_tag}
 use Rattle.tags.specs.Tag.{tag_at, end_tag_at}
 use Rattle.items.specs.Item.{declares, kind_of, item_at}
 use Rattle.document.specs.Place.{blank}
@@ -247,17 +248,19 @@ staged d = answered (record { doc = d; room = 30; outcome = denied 0 0 0 })
 -- ---- all of it
 
 pub examples : map answered (rows ++ (marked ++ sizes)) ≡ map (λ r. r.outcome) (rows ++ (marked ++ sizes))
-unfolding rows marked sizes answer_of bytes_after fault_at mended_of readable kept_of kept_from scanned scan_from start_of blank check_of space_end
-    item_at kind_of declares ends_at tag_at end_tag_at tag_of end_tag_of piece_named before gather attribute_of small_tag instruction_of instruction_end
-    target_of declaration_of version_of encoding_of other_of other_encoding yes_or_no text_of comment_of section_of eq_of space_of skip value_of quoted_of
-    many piece_of is_mark reference_of entity_ref_of char_ref_of digits_of ends_number digit_of is_decimal is_hexadecimal is_letter is_encoding is_char
-    name_of expect seek starts run character guess number utf8 is_scalar is_space is_name is_name_start is_name_more
+unfolding rows marked sizes answer_of bytes_after fault_at mended_of readable kept_of kept_from scanned scan_from start_of blank check_of
+    space_end item_at kind_of declares ends_at tag_at end_tag_at tag_of end_tag_of piece_named before gather attribute_of small_tag
+    instruction_of instruction_end target_of declaration_of version_of encoding_of other_of other_encoding yes_or_no text_of comment_of
+    section_of eq_of space_of skip value_of quoted_of many piece_of is_mark reference_of entity_ref_of char_ref_of digits_of ends_number
+    digit_of is_decimal is_hexadecimal is_letter is_encoding is_char name_of expect seek starts run character guess number utf8 is_scalar
+    is_space is_name is_name_start is_name_more
 examples = refl
 
 pub every_prefix : map staged (prefixes 0 26) ≡ stages
-unfolding whole stages answer_of bytes_after fault_at mended_of readable kept_of kept_from scanned scan_from start_of blank check_of space_end item_at
-    kind_of declares ends_at tag_at end_tag_at tag_of end_tag_of piece_named before gather attribute_of small_tag instruction_of instruction_end target_of
-    declaration_of version_of encoding_of other_of other_encoding yes_or_no text_of comment_of section_of eq_of space_of skip value_of quoted_of many
-    piece_of is_mark reference_of entity_ref_of char_ref_of digits_of ends_number digit_of is_decimal is_hexadecimal is_letter is_encoding is_char name_of
-    expect seek starts run character guess number utf8 is_scalar is_space is_name is_name_start is_name_more
+unfolding whole stages answer_of bytes_after fault_at mended_of readable kept_of kept_from scanned scan_from start_of blank check_of
+    space_end item_at kind_of declares ends_at tag_at end_tag_at tag_of end_tag_of piece_named before gather attribute_of small_tag
+    instruction_of instruction_end target_of declaration_of version_of encoding_of other_of other_encoding yes_or_no text_of comment_of
+    section_of eq_of space_of skip value_of quoted_of many piece_of is_mark reference_of entity_ref_of char_ref_of digits_of ends_number
+    digit_of is_decimal is_hexadecimal is_letter is_encoding is_char name_of expect seek starts run character guess number utf8 is_scalar
+    is_space is_name is_name_start is_name_more
 every_prefix = refl

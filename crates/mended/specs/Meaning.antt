@@ -1,6 +1,6 @@
 -- What is kept of a document of characters, in document 02's words over the grammar: "every whole item before the first fault of kinds 5 to
 -- 8", where kind 5 is gone by the cut. That all before a place stand in their places is `Reaches`, what an item is and whether it may stand
--- there are `ItemSays` and `PlaceSays`. proofs/Told.antt shows that kept_of keeps just so, and proofs/Only.antt that nothing else does.
+-- there are `ItemSays` and `PlaceSays`. proofs/Told.antt shows that `kept_of` keeps just so, and proofs/Only.antt that nothing else does.
 use Rattle.std.specs.Prelude.{Bool, true, List, ℕ, ◌≤◌, length}
 use Rattle.tags.specs.declared.Item.{Item}
 use Rattle.tags.specs.declared.Item.TheVariants.{Text, Nothing}

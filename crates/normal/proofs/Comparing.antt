@@ -79,7 +79,8 @@ pub record Comparing (w : Where) (d t : List ℕ) (at i k : ℕ) (after : Bool) 
   pub fits : k ≤ length t
   pub agrees : same (left_of w after (drop i d)) (drop k t) ≡ same (normal_at (drop at d)) t
 
-pub compare_start : {w : Where} {d t : List ℕ} {at : ℕ} → at < length d → w ≡ quotes_of (get_or d at 0) → Comparing w d t at (at + 1) 0 false
+pub compare_start : {w : Where} {d t : List ℕ} {at : ℕ} → at < length d → w ≡ quotes_of (get_or d at 0)
+    → Comparing w d t at (at + 1) 0 false
 unfolding normal_at normal lines
 compare_start {d = d} {t = t} {at = at} l e = record { fits = omega arith; agrees = rw (drop_step d at l, e) refl }
 

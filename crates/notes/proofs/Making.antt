@@ -118,7 +118,8 @@ module _ (g : List ℕ) (k at : ℕ) where
       pub extend_count : k ≡ count_joined g k at
       extend_count = rw (sym e ∙ t)
 
-      pub extend_log : {v a : ℕ} (n size : ℕ) → v ≡ word_of 0 a (n + size) → a ≡ from_of (get_or g (k - 1) 0) → n ≡ size_of (get_or g (k - 1) 0)
+      pub extend_log : {v a : ℕ} (n size : ℕ) → v ≡ word_of 0 a (n + size) → a ≡ from_of (get_or g (k - 1) 0)
+          → n ≡ size_of (get_or g (k - 1) 0)
           → set g (k - 1) v ≡ log_joined g k at size
       extend_log n size ev ea en = rw (sym e ∙ t, ev, ea, en)
 

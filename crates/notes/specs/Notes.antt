@@ -1,7 +1,8 @@
 -- What notes stand for. In order: a note, which is one number; the text of one; the text of the first k; whether they are inside the
 -- document; and the log after a note is made. A log has room for so many notes as it is long. A count over that says that some were left
 -- out.
-use Rattle.std.specs.Prelude.{◌≡◌, Bool, false, cond, List, [], ◌∷◌, ◌++◌, ℕ, zero, suc, ◌+◌, ◌-◌, ◌*◌, ◌/◌, ◌%◌, ◌≤◌, ◌<◌, ltb, eqb, length, get_or, set}
+use Rattle.std.specs.Prelude.{◌≡◌, Bool, false, cond, List, [], ◌∷◌, ◌++◌, ℕ, zero, suc, ◌+◌, ◌-◌, ◌*◌, ◌/◌, ◌%◌, ◌≤◌, ◌<◌, ltb, eqb}
+use Rattle.std.specs.Prelude.{length, get_or, set}
 use Rattle.xml.specs.Forest.{start_tag, end_tag}
 use Rattle.trees.specs.Grown.{part}
 

@@ -152,7 +152,8 @@ module _ {d starts lens : List ℕ} (level : ℕ) (p : Placed d starts lens (lev
   pub start_inside : get_or starts level 0 + get_or lens level 0 ≤ length d
   start_inside = name_inside p small (omega arith)
 
-  pub start_bare : (head : List ℕ) {o g o' g' raw : List ℕ} {reached kept at e len count m r m' : ℕ} {v : Verdict} → at ≤ e → reached ≤ level
+  pub start_bare : (head : List ℕ) {o g o' g' raw : List ℕ} {reached kept at e len count m r m' : ℕ} {v : Verdict} → at ≤ e
+      → reached ≤ level
       → kept ≡ 0 → v ≡ Unselected → level ≡ 0 → Inked d o g len m (start_tag (lent d starts lens level)) r m' o' g'
       → Moved d starts lens level reached kept at len count m o g (on_start v (name_at d starts lens level) head raw) 1 (level + 1) 1 0 e r
       count m' o' g'

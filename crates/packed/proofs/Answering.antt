@@ -50,7 +50,8 @@ pub ruleset equating = (equal_long, equal_bytes)
 laid_front : {w o o' : List ℕ} {n : ℕ} → Wrote o 0 w n o' → length w ≤ length o → o' ≡ w ++ drop (length w) o
 laid_front {w} {o} v l = v.laid ∙ laid_whole w o l
 
-room_short : (w o : List ℕ) {n : ℕ} → n ≡ length w → length o < n → (Short n ≡ by_room (length o) w) × (o ≡ after (by_room (length o) w) w o)
+room_short : (w o : List ℕ) {n : ℕ} → n ≡ length w → length o < n
+    → (Short n ≡ by_room (length o) w) × (o ≡ after (by_room (length o) w) w o)
 room_short w o e l = rw (e, lt-ltb (length o) (length w) (omega arith)) (refl, refl)
 
 room_enough : (w o : List ℕ) {o' : List ℕ} {n m : ℕ} → n ≡ length w → n ≤ length o → Wrote o 0 w m o'

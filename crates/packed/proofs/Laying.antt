@@ -119,7 +119,8 @@ test_size_lem : (t : Test) → test_size t ≤ length (print_test t)
 test_size_lem any = omega arith
 test_size_lem (named n) = omega arith
 
-module _ (d : List ℕ) (at : ℕ) {r : StepEnd} (q : r ≡ step_end_at d at) {k : Kind} {name len next : ℕ} (f : r ≡ StepTo k name len next) where
+module _ (d : List ℕ) (at : ℕ) {r : StepEnd} (q : r ≡ step_end_at d at) {k : Kind} {name len next : ℕ}
+    (f : r ≡ StepTo k name len next) where
   here : StepHere d at k name len next
   here = step_here d at q f
 
@@ -237,7 +238,8 @@ end_inside : {d : List ℕ} {at name len value size : ℕ} {m : Bool} {next : �
     → (name + len ≤ length d) × (value + size ≤ length d)
 end_inside {d} {at} {name} {len} {value} {size} {m} {next} h = go h.ending.test h.ending.marked h.placed
   where
-    go : (x : Option AttributeTest) (y : Bool) → LineEnds name len value size m next ≡ end_placed at (some (record { test = x; marked = y }))
+    go : (x : Option AttributeTest) (y : Bool) → LineEnds name len value size m next
+        ≡ end_placed at (some (record { test = x; marked = y }))
         → (name + len ≤ length d) × (value + size ≤ length d)
     go none y z =
         let a : name ≡ 0 = cc in

@@ -309,7 +309,8 @@ unfolding spell_lines
 lines_none zero = refl
 lines_none (suc k) = refl
 
-pub lines_more : (k : ℕ) (s : List ℕ) → 0 < length s → spell_lines (suc k) s ≡ (spell_line s).text ++ spell_lines k (drop (spell_line s).size s)
+pub lines_more : (k : ℕ) (s : List ℕ) → 0 < length s → spell_lines (suc k) s ≡ (spell_line s).text
+    ++ spell_lines k (drop (spell_line s).size s)
 unfolding spell_lines
 lines_more k [] l = absurd (let z : 0 < 0 = l in omega arith)
 lines_more k (b ∷ s) l = refl

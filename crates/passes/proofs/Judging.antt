@@ -31,7 +31,8 @@ module _ (list d : List ℕ) (at n h : ℕ) (m : MatchState) (f : Fit) where
   judged_untested s e g y = untested e (any_untested s (sym y ∙ g))
 
   pub judged_tested : {g : Fit} → g ≡ f → {k : ℕ} → k ≡ selecting_by m g → {j : ℕ}
-      → j ≡ passing_of (list_paths list) k (attributes_in 0 (take (h - (at + 1 + n)) (drop (at + 1 + n) d))) → {w : Verdict} → w ≡ picked_by g j
+      → j ≡ passing_of (list_paths list) k (attributes_in 0 (take (h - (at + 1 + n)) (drop (at + 1 + n) d))) → {w : Verdict}
+      → w ≡ picked_by g j
       → Judges w
   judged_tested eg ek ej ew = tested (rw eg at (rw (rw ek at ej) at ew))
 

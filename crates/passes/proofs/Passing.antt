@@ -23,7 +23,7 @@ use Rattle.tags.specs.Kept.{name_from}
 use Rattle.tags.specs.declared.Item.{Item}
 use Rattle.tags.specs.declared.Item.TheVariants.{Declaration, Instruction, Comment, Section, Reference, Text, Start, Finish}
 use Rattle.tags.specs.declared.Item.TheVariants.{Doctype, Malformed, TooLarge, Nothing}
-use Rattle.document.specs.Place.{Opened, placement, closed, after_item, end_of}
+use Rattle.document.specs.Place.{placement, closed, after_item, end_of}
 use Rattle.document.specs.Levels.{names_of, opened_of, Names, deeper, open_after, len_of}
 use Rattle.document.specs.Judge.{start_of, scanned}
 use Rattle.document.specs.declared.Open.{Open}
@@ -68,7 +68,7 @@ use Rattle.passes.specs.declared.Outcome.TheVariants.{Fine as Ended, Fault}
 use Rattle.quick.proofs.Opened.{start_named}
 use Rattle.passes.proofs.Telling.{opens_none, opens_kept, opens_more}
 use Rattle.passes.proofs.Rests.{Rest, rest_start, rest_over, sum_over, rest_tag, rest_other}
-use Rattle.passes.proofs.States.{none, above, Held, Stored, name_here, span_below, held_start, held_kept, held_deeper, held_same}
+use Rattle.passes.proofs.States.{none, above, Held, Stored, name_here, span_below, held_start, held_deeper, held_same}
 use Rattle.passes.proofs.States.{parent_is, stored_long}
 
 -- ---- what is known of elements, and the name tests

@@ -2,9 +2,9 @@
 -- `next_item`. Then the names of the open elements when one more is kept.
 use mathlib.Core.Path.{◌≡◌, refl, sym, ap, ◌∙◌}
 use mathlib.Core.Bool.{Bool, true, false, cond, not, ◌&&◌, ◌||◌, and-false}
-use mathlib.Core.List.{List, [], ◌∷◌}
+use mathlib.Core.List.{List, []}
 use mathlib.Core.Logic.{⊎_elim}
-use Prim.Native.Nat.{ℕ, zero, suc, ◌+◌, ◌-◌, ◌≤◌, ◌<◌}
+use Prim.Native.Nat.{ℕ, ◌+◌, ◌-◌, ◌≤◌, ◌<◌}
 use native.Mathlib.Nat.{eq-or-lt_of_le}
 use native.Mathlib.Omega.{arith}
 use borrow.Author.Tests.{ne_eqb, not-true}
@@ -13,7 +13,6 @@ use mir.Val.{Fits}
 use lib.Dec.{eqb}
 use lib.ListN.{length, get_or, set, drop}
 use lib.Seq.{get_or-set_same, get_or-set_other}
-use denote.Enum.Declared.{tag_of}
 use Rattle.xml.specs.Productions.{same as same_bytes}
 use Rattle.xml.proofs.Same.{same_refl}
 use Rattle.chars.specs.Name.{reading_at}
@@ -23,7 +22,6 @@ use Rattle.readers.specs.Plain.{text_of}
 use Rattle.tags.specs.Kept.{name_from}
 use Rattle.tags.specs.Tag.{tag_at}
 use Rattle.tags.specs.Usual.{ToldMark}
-use Rattle.tags.specs.contracts.Item as item
 use Rattle.tags.specs.declared.Item.{Item}
 use Rattle.tags.specs.declared.Item.TheVariants.{Start, Finish, Text, Nothing}
 use Rattle.items.specs.Item.{item_at}

@@ -269,6 +269,7 @@ pub lines_print : (ps : List Path) (t : List ℕ) → All Good ps → lines (pri
 unfolding lines print_list
 lines_print ps t ok = run_print sound_undoes line_long t (λ x xs. tt) ps ok
 
-pub lines_whole : (ps : List Path) (t : List ℕ) → All Good ps → sound_at t ≡ none → lines (print_list ps ++ t) ≡ record { all = ps; rest = t }
+pub lines_whole : (ps : List Path) (t : List ℕ) → All Good ps → sound_at t ≡ none
+    → lines (print_list ps ++ t) ≡ record { all = ps; rest = t }
 unfolding lines print_list
 lines_whole ps t ok e = run_whole sound_undoes line_long t (λ x xs. tt) ps ok e

@@ -1,5 +1,5 @@
--- `list_answer` is the answer that specs/Answer.antt says, and the only one; and printing and reading undo each other. In order: the readers
--- in the words of the answer; one answer only (`says_only`); an answer always (`says`); lists and their paths.
+-- `list_answer` is the answer that specs/Answer.antt says, and the only one; and printing and reading undo each other. In order: the
+-- readers in the words of the answer; one answer only (`says_only`); an answer always (`says`); lists and their paths.
 use mathlib.Core.Path.{◌≡◌, refl, sym, ap, ◌∙◌}
 use mathlib.Core.Bool.{Bool, true, false, cond}
 use mathlib.Core.List.{List, [], ◌∷◌, ◌++◌, append_assoc, append-nil}

@@ -105,7 +105,8 @@ pub ruleset testing = (test_star, test_fault, test_refused, test_name, name_on, 
 
 -- ---- a step
 
-step_kind : (d : List ℕ) (at : ℕ) (k : Kind) → kind_at (drop at d) ≡ some k → test_end_at k d (at + length (print_kind k)) ≡ step_end_at d at
+step_kind : (d : List ℕ) (at : ℕ) (k : Kind) → kind_at (drop at d) ≡ some k
+    → test_end_at k d (at + length (print_kind k)) ≡ step_end_at d at
 unfolding step_end_at step_at test_end_at print_step
 step_kind d at k e = rw (e, drop-drop (length (print_kind k)) at d) (go (test_at (drop (at + length (print_kind k)) d)))
   where

@@ -5,7 +5,8 @@ use Rattle.std.proofs.Math.Option.{Option, none, some}
 use Rattle.xml.specs.Notation.{bytes}
 use Rattle.xml.specs.Character.{run}
 use Rattle.utf8.specs.Place.{ends_at}
-use Rattle.paths.specs.Path.{Test, Step, AttributeTest, test_size, print_kind, print_test, print_step, print_attribute, print_mark, is_value}
+use Rattle.paths.specs.Path.{Test, Step, AttributeTest, test_size, print_kind, print_test, print_step, print_attribute, print_mark}
+use Rattle.paths.specs.Path.{is_value}
 use Rattle.paths.specs.Reader.{test_at, step_at, attribute_at, Ending, print_end, mark_at, end_at}
 use Rattle.paths.specs.declared.Kind.{Kind}
 use Rattle.paths.specs.declared.StepEnd.{StepEnd}

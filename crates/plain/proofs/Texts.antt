@@ -52,7 +52,8 @@ module _ (d : List ℕ) (i : ℕ) where
   module _ (h : i < length d) where
     text_markup : is_mark 0x5D (get_or d i 0) ≡ true → (get_or d i 0 ≡ 0x5D → ⊥) → text_of (drop i d) ≡ some (drop i d)
     unfolding text_of is_mark
-    text_markup m n = rw (drop_step d i h) (go _ _ (eqb (get_or d i 0) 0x3C) (eqb (get_or d i 0) 0x26) (rw (ne_eqb (get_or d i 0) 0x5D n) at m))
+    text_markup m n = rw (drop_step d i h) (go _ _ (eqb (get_or d i 0) 0x3C) (eqb (get_or d i 0) 0x26)
+        (rw (ne_eqb (get_or d i 0) 0x5D n) at m))
       where
         go : (t o : Option (List ℕ)) (x y : Bool) → x || (y || false) ≡ true → cond (x || y) t o ≡ t
         go t o true y e = refl

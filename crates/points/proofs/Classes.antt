@@ -61,7 +61,8 @@ module _ {t : List ℕ} (e : t ≡ class_table) {c : ℕ} (h : c < 768) {k : ℕ
   unfolding bit_at class_table
   start_bit q =
       let l = bytes_length is_name_start 0 96 in
-      let a : get_or (bytes_from is_name_start 0 96 ++ bytes_from is_name 0 96) (0 + c / 8) 0 ≡ get_or (bytes_from is_name_start 0 96) (c / 8) 0
+      let a : get_or (bytes_from is_name_start 0 96 ++ bytes_from is_name 0 96) (0 + c / 8) 0
+      ≡ get_or (bytes_from is_name_start 0 96) (c / 8) 0
       = ap (λ (x : ℕ). get_or (bytes_from is_name_start 0 96 ++ bytes_from is_name 0 96) x 0) (zero-add (c / 8))
       ∙ get_or-append (bytes_from is_name_start 0 96) (bytes_from is_name 0 96) 0 (c / 8) (omega arith) in
       ap (λ (x : ℕ). eqb x 1)
@@ -75,7 +76,8 @@ module _ {t : List ℕ} (e : t ≡ class_table) {c : ℕ} (h : c < 768) {k : ℕ
   unfolding bit_at class_table
   more_bit q =
       let a : get_or (bytes_from is_name_start 0 96 ++ bytes_from is_name 0 96) (96 + c / 8) 0 ≡ get_or (bytes_from is_name 0 96) (c / 8) 0
-      = ap (λ (x : ℕ). get_or (bytes_from is_name_start 0 96 ++ bytes_from is_name 0 96) (x + c / 8) 0) (sym (bytes_length is_name_start 0 96))
+      = ap (λ (x : ℕ). get_or (bytes_from is_name_start 0 96 ++ bytes_from is_name 0 96) (x + c / 8) 0)
+      (sym (bytes_length is_name_start 0 96))
       ∙ get_or-append-add (bytes_from is_name_start 0 96) (bytes_from is_name 0 96) (c / 8) 0 in
       ap (λ (x : ℕ). eqb x 1)
       (q

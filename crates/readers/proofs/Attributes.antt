@@ -72,7 +72,7 @@ pub record AttributeIs (s : List ℕ) (p : Piece) : Type 0 where
   pub equal : Reads Eq to value
   pub valued : Reads AttValue value p.rest
 
--- what attribute_of went through
+-- what `attribute_of` went through
 record Stages (s : List ℕ) (p : Piece) : Type 0 where
   piece : Piece
   from : List ℕ

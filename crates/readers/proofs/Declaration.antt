@@ -59,7 +59,8 @@ swap a b s t (inr x) = inl x
 
 -- ---- a setting
 
-setting_decides : {o : Rest} {q : Rule} (f : List ℕ → Option (List ℕ)) (w : List ℕ) → all_low w ≡ true → Off is_space (lit w) → Off is_space q
+setting_decides : {o : Rest} {q : Rule} (f : List ℕ → Option (List ℕ)) (w : List ℕ) → all_low w ≡ true → Off is_space (lit w)
+    → Off is_space q
     → DecidesOn o q (in_quotes f) → DecidesOn o (S ⨾ lit w ⨾ Eq ⨾ q) (setting_of w f)
 setting_decides f w l n o k = space_then (lit_then w l (eq_then k o)) (off_then n)
 

@@ -89,8 +89,8 @@ declarations =
     ∷ "<?xml version='1.0'>" ∷ "<?xml version='1.0'" ∷ [])
 
 pub declarations_computed : read declaration_of declarations ≡ expected declarations
-unfolding declarations written utf8 is_scalar declaration_of version_of encoding_of yes_or_no eq_of space_of skip expect starts run character guess
-    number is_space is_decimal is_letter is_encoding
+unfolding declarations written utf8 is_scalar declaration_of version_of encoding_of yes_or_no eq_of space_of skip expect starts run
+    character guess number is_space is_decimal is_letter is_encoding
 declarations_computed = refl
 
 -- ---- another encoding
@@ -116,8 +116,8 @@ encodings =
     ∷ "<?xml version='1.0' standalone='yes' encoding='ISO-8859-1'?>" ∷ " <?xml version='1.0' encoding='ISO-8859-1'?>" ∷ [])
 
 pub encodings_computed : read other_encoding encodings ≡ expected encodings
-unfolding encodings written utf8 is_scalar other_encoding other_of before version_of encoding_of yes_or_no eq_of skip space_of expect is_decimal
-    is_letter is_encoding is_space starts run character guess number
+unfolding encodings written utf8 is_scalar other_encoding other_of before version_of encoding_of yes_or_no eq_of skip space_of expect
+    is_decimal is_letter is_encoding is_space starts run character guess number
 encodings_computed = refl
 
 -- ---- end tags
@@ -136,8 +136,8 @@ end_tags =
     ("" ∷ "</a b>" ∷ "</ a>" ∷ "</a b='1'>" ∷ "</a" ∷ "< /a>" ∷ "</a/>" ∷ "</>" ∷ "</ >" ∷ "<a>" ∷ "</1>" ∷ "</a,>" ∷ [])
 
 pub end_tags_computed : read end_tag_of end_tags ≡ expected end_tags
-unfolding end_tags written utf8 is_scalar end_tag_of piece_named before name_of skip expect starts run character guess number is_space is_name
-    is_name_start is_name_more
+unfolding end_tags written utf8 is_scalar end_tag_of piece_named before name_of skip expect starts run character guess number is_space
+    is_name is_name_start is_name_more
 end_tags_computed = refl
 
 -- ---- tags
@@ -167,9 +167,9 @@ tags =
     ∷ "<a='1'>" ∷ "<a b='1'" ∷ "<a b='1'/" ∷ "<!a>" ∷ "<?a>" ∷ [])
 
 pub tags_computed : read tag_of tags ≡ expected tags
-unfolding tags written utf8 is_scalar tag_of piece_named before name_of gather attribute_of space_of skip eq_of value_of quoted_of many piece_of
-    is_mark reference_of entity_ref_of char_ref_of digits_of ends_number digit_of is_decimal is_hexadecimal is_char expect starts run character guess
-    number is_space is_name is_name_start is_name_more
+unfolding tags written utf8 is_scalar tag_of piece_named before name_of gather attribute_of space_of skip eq_of value_of quoted_of many
+    piece_of is_mark reference_of entity_ref_of char_ref_of digits_of ends_number digit_of is_decimal is_hexadecimal is_char expect starts
+    run character guess number is_space is_name is_name_start is_name_more
 tags_computed = refl
 
 -- ---- repeated names, and sizes
@@ -204,14 +204,16 @@ repeats =
     ∷ []
 
 pub repeats_computed : read (of_tag (λ v. repeated v.attributes)) repeats ≡ expected repeats
-unfolding repeats written utf8 is_scalar tag_of piece_named before name_of gather attribute_of space_of skip eq_of value_of quoted_of many piece_of
-    is_mark reference_of entity_ref_of char_ref_of expect starts run character guess number is_space is_name is_name_start is_name_more
+unfolding repeats written utf8 is_scalar tag_of piece_named before name_of gather attribute_of space_of skip eq_of value_of quoted_of many
+    piece_of is_mark reference_of entity_ref_of char_ref_of expect starts run character guess number is_space is_name is_name_start
+    is_name_more
 repeats_computed = refl
 
 pub sizes : List (Row (Option Bool))
 sizes = (wide 32 gives true) ∷ (wide 33 gives false) ∷ (long 255 gives true) ∷ (long 256 gives false) ∷ []
 
 pub sizes_computed : read (of_tag small_tag) sizes ≡ expected sizes
-unfolding sizes small_tag written utf8 is_scalar tag_of piece_named before name_of gather attribute_of space_of skip eq_of value_of quoted_of many
-    piece_of is_mark reference_of entity_ref_of char_ref_of expect starts run character guess number is_space is_name is_name_start is_name_more
+unfolding sizes small_tag written utf8 is_scalar tag_of piece_named before name_of gather attribute_of space_of skip eq_of value_of
+    quoted_of many piece_of is_mark reference_of entity_ref_of char_ref_of expect starts run character guess number is_space is_name
+    is_name_start is_name_more
 sizes_computed = refl

@@ -278,6 +278,6 @@ values =
     ∷ []
 
 pub values_computed : left value_of values ≡ expected values
-unfolding values value_of quoted_of piece_of is_mark many reference_of entity_ref_of char_ref_of digits_of ends_number is_decimal is_hexadecimal
-    digit_of is_char expect
+unfolding values value_of quoted_of piece_of is_mark many reference_of entity_ref_of char_ref_of digits_of ends_number is_decimal
+    is_hexadecimal digit_of is_char expect
 values_computed = refl

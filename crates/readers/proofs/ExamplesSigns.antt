@@ -45,8 +45,8 @@ texts =
     ∷ []
 
 pub texts_computed : signed in_text texts ≡ expected texts
-unfolding texts signs_in next_of many except is_char utf8 is_scalar character guess number reference_of entity_ref_of char_ref_of digits_of ends_number
-    digit_of is_decimal is_hexadecimal expect
+unfolding texts signs_in next_of many except is_char utf8 is_scalar character guess number reference_of entity_ref_of char_ref_of digits_of
+    ends_number digit_of is_decimal is_hexadecimal expect
 texts_computed = refl
 
 -- ---- in a section: all stand for themselves, up to `]]>`
@@ -79,8 +79,8 @@ doubles =
     ∷ []
 
 pub doubles_computed : signed in_double doubles ≡ expected doubles
-unfolding doubles signs_in next_of many except is_char utf8 is_scalar character guess number reference_of entity_ref_of char_ref_of digits_of
-    ends_number digit_of is_decimal is_hexadecimal expect
+unfolding doubles signs_in next_of many except is_char utf8 is_scalar character guess number reference_of entity_ref_of char_ref_of
+    digits_of ends_number digit_of is_decimal is_hexadecimal expect
 doubles_computed = refl
 
 pub singles : List (Row Signed)
@@ -92,6 +92,6 @@ singles =
     ∷ []
 
 pub singles_computed : signed in_single singles ≡ expected singles
-unfolding singles signs_in next_of many except is_char utf8 is_scalar character guess number reference_of entity_ref_of char_ref_of digits_of
-    ends_number digit_of is_decimal is_hexadecimal expect
+unfolding singles signs_in next_of many except is_char utf8 is_scalar character guess number reference_of entity_ref_of char_ref_of
+    digits_of ends_number digit_of is_decimal is_hexadecimal expect
 singles_computed = refl

@@ -274,7 +274,8 @@ text_pass c m k p = go (ltb c 0x80) refl
         rw (begins_other 0x5D c (bytes "]>") m (lit< tt) k (λ q. omega arith))
         (pass_high text_of (λ b s g. rw (ne_eqb b 0x3C (omega arith), ne_eqb b 0x26 (omega arith), ne_eqb b 0x5D (omega arith))) c m l)
 
-text_on : {t : List ℕ} (c : ℕ) (m : List ℕ) → is_scalar c ≡ true → except "<&" c ≡ true → text_of (utf8 c ++ m) ≡ some t → text_of m ≡ some t
+text_on : {t : List ℕ} (c : ℕ) (m : List ℕ) → is_scalar c ≡ true → except "<&" c ≡ true → text_of (utf8 c ++ m) ≡ some t
+    → text_of m ≡ some t
 text_on {t} c m k p e = go (begins (bytes "]]>") (utf8 c ++ m)) (sym (text_pass c m k p) ∙ e)
   where
     go : (b : Bool) → cond b none (text_of m) ≡ some t → text_of m ≡ some t

@@ -242,7 +242,8 @@ decimal_first : (x : ℕ) (m : List ℕ) → x < 0x3A → reference_of (0x26 ∷
 unfolding reference_of entity_ref_of char_ref_of expect
 decimal_first x m l = rw (ne_eqb x 0x78 (omega arith))
 
-hexadecimal_first : (a : List ℕ) (r : Said) → digits_of is_hexadecimal 16 0 false a ≡ some r → reference_of (0x26 ∷ 0x23 ∷ 0x78 ∷ a) ≡ some r
+hexadecimal_first : (a : List ℕ) (r : Said) → digits_of is_hexadecimal 16 0 false a ≡ some r
+    → reference_of (0x26 ∷ 0x23 ∷ 0x78 ∷ a) ≡ some r
 unfolding reference_of entity_ref_of char_ref_of expect
 hexadecimal_first a r e = rw e
 

@@ -126,7 +126,8 @@ held s p b u =
 abbrev closing : List ℕ → Piece → Option Tag
 closing s p =
     let e = skip (gather 0 p.rest).rest in
-    or_else (and_then (expect (bytes ">") e) (λ u. some (held s p false u))) (and_then (expect (bytes "/>") e) (λ u. some (held s p true u)))
+    or_else (and_then (expect (bytes ">") e) (λ u. some (held s p false u)))
+    (and_then (expect (bytes "/>") e) (λ u. some (held s p true u)))
 
 closing_found : (s : List ℕ) (p : Piece) (v : Tag) → closing s p ≡ some v
     → (b : Bool) × (u : List ℕ) × Reads (tag_end b) (skip (gather 0 p.rest).rest) u × (held s p b u ≡ v)

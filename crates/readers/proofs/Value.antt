@@ -87,7 +87,8 @@ module _ (q : ℕ) (xs : String) (low : q < 0x80) (other : q ≡ 0x26 → ⊥) (
       one b s h = many_step (piece_shrinks q) (b ∷ s) s (piece_plain q b s h)
 
   -- a reference is passed
-  pieces_reference : (s t : List ℕ) → (m : List ℕ) × (s ≡ 0x26 ∷ m) → reference_end s ≡ some t → many (piece_of q) 0 s ≡ many (piece_of q) 0 t
+  pieces_reference : (s t : List ℕ) → (m : List ℕ) × (s ≡ 0x26 ∷ m) → reference_end s ≡ some t
+      → many (piece_of q) 0 s ≡ many (piece_of q) 0 t
   unfolding is_mark
   pieces_reference s t (m, e) h =
       many_step (piece_shrinks q) s t (ap (piece_of q) e ∙ piece_marked q 0x26 m refl ∙ ap reference_end (sym e) ∙ h)

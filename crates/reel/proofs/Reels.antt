@@ -4,7 +4,7 @@ use mathlib.Core.Path.{◌≡◌, refl, sym, ap, ap₂, ◌∙◌}
 use mathlib.Core.Bool.{Bool, true, false}
 use mathlib.Core.List.{List}
 use mathlib.Core.Logic.{◌⊎◌, ⊎_elim}
-use Prim.Native.Nat.{ℕ, zero, suc, ◌+◌, ◌-◌, ◌*◌, ◌≤◌, ◌<◌}
+use Prim.Native.Nat.{ℕ, suc, ◌+◌, ◌-◌, ◌*◌, ◌≤◌, ◌<◌}
 use native.Mathlib.Nat.{eq-or-lt_of_le}
 use native.Mathlib.Numerals.{add-one}
 use native.Mathlib.Omega.{arith}
@@ -32,7 +32,6 @@ use Rattle.tape.specs.Taped.{Spot, spot_of, item_of, next_of, behind, tags_in, T
 use Rattle.tape.proofs.Entries.{put_here, put_begins, put_before, put_began, put_long}
 use Rattle.tape.proofs.Counting.{one_most, tag_before}
 use Rattle.reel.specs.Reeling.{Reeling, placed_at, Stopped}
-use Rattle.reel.specs.declared.Stop.{Stop}
 use Rattle.reel.specs.declared.Stop.TheVariants.{Over, Fault}
 
 -- ---- the names of the open elements after an item

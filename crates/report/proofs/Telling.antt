@@ -96,7 +96,8 @@ answer_stands list d o =
     (tests_of list d)))
 
 -- the same of the numbers and the bytes that `choughbell_cut` gives
-module _ (list d o : List ℕ) {r : FourNumbers} {o' : List ℕ} (q : r ≡ numbers_of (answer_of list d (length o))) (b : o' ≡ bytes_after list d o)
+module _ (list d o : List ℕ) {r : FourNumbers} {o' : List ℕ} (q : r ≡ numbers_of (answer_of list d (length o)))
+    (b : o' ≡ bytes_after list d o)
     (z : r.number ≡ 0) where
   stands : (second_of (answer_of list d (length o)) ≡ length (cut_of list d)) × (length (cut_of list d) ≤ length o)
       × (after (answer_of list d (length o)) (cut_of list d) o ≡ cut_of list d ++ drop (length (cut_of list d)) o)

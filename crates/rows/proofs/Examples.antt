@@ -37,8 +37,8 @@ says : (said_of (bytes "a b") ≡ bytes "a b") × (said_of (0x61 ∷ 0xD ∷ 0xA
     × (said_of (bytes "<![CDATA[" ++ (0xD ∷ bytes "]]>")) ≡ 0xA ∷ []) × (said_of (bytes "<!--a-->") ≡ []) × (said_of (bytes "<?a b?>") ≡ [])
     × (said_of (bytes "&lt;") ≡ bytes "<") × (said_of (bytes "&#13;") ≡ 0xD ∷ []) × (said_of (bytes "&#xA;") ≡ 0xA ∷ [])
     × (said_of (bytes "&#233;") ≡ 0xC3 ∷ 0xA9 ∷ []) × (said_of (bytes "&#x10FFFF;") ≡ 0xF4 ∷ 0x8F ∷ 0xBF ∷ 0xBF ∷ [])
-unfolding said_of lines lines_from line_by content reference_of entity_ref_of char_ref_of digits_of ends_number is_decimal is_hexadecimal digit_of is_char
-    expect utf8
+unfolding said_of lines lines_from line_by content reference_of entity_ref_of char_ref_of digits_of ends_number is_decimal is_hexadecimal
+    digit_of is_char expect utf8
 says = (refl, refl, refl, refl, refl, refl, refl, refl, refl, refl, refl, refl)
 
 -- ---- elements: one of a name with these items, before others
@@ -75,6 +75,6 @@ tables : (records every [] sample
     ≡ ended (bytes "g,\"a" ++ (0xA ∷ 0xA ∷ 0xA ∷ 0xA ∷ bytes "\"")) ++ (ended (bytes "g/p,bc") ++ ended (bytes "g/p/v,")))
     × (records below [] sample ≡ ended (bytes "g/p,bc") ++ ended (bytes "g/p/v,")) × (records never [] sample ≡ [])
     × (header ≡ ended (bytes "path,text"))
-unfolding record_of header field said_of lines lines_from line_by content reference_of entity_ref_of char_ref_of digits_of ends_number is_decimal
-    is_hexadecimal digit_of is_char expect utf8
+unfolding record_of header field said_of lines lines_from line_by content reference_of entity_ref_of char_ref_of digits_of ends_number
+    is_decimal is_hexadecimal digit_of is_char expect utf8
 tables = (refl, refl, refl, refl)

@@ -481,7 +481,8 @@ module _ {counts : Bool} {list tb d t : List ℕ} {items tags : ℕ} {starts₀ 
   -- behind all tags, and all items
   finish : (n k : ℕ) {a : ℕ} {f : Bool} → items ≤ k + n
       → Going counts list tb d t items tags starts₀ lens₀ s o₁ g₁ states memo slots starts lens opened run a f tests k o g
-      → tags ≤ tags_in d (seat_spot d starts₀ lens₀ s) k → {to : ℕ} → (behind d (seat_spot d starts₀ lens₀ s) items).at ≡ to → {first : Bool}
+      → tags ≤ tags_in d (seat_spot d starts₀ lens₀ s) k → {to : ℕ} → (behind d (seat_spot d starts₀ lens₀ s) items).at ≡ to
+      → {first : Bool}
       → (behind d (seat_spot d starts₀ lens₀ s) items).first ≡ first
       → Going counts list tb d t items tags starts₀ lens₀ s o₁ g₁ states memo slots starts lens opened run to first tests items o g
   finish zero k h w q e b = ended w (omega (arith, w.turn)) e b

@@ -122,7 +122,8 @@ standing_some ps d starts lens level =
 module _ {counts : Bool} {list d o₀ starts lens : List ℕ} {s : Seat} {o g : List ℕ} (v : Seated counts list d o₀ starts lens s o g)
     {i : Item} (e : i ≡ item_at s.first d s.at) {p : Placement}
     (q : p ≡ placement d s.at i (opened_of d starts lens s.opened)) where
-  some_pass : Passing counts list [] d o₀ g (row (λ (j : ℕ). state_of (list_paths list) (above d starts lens j)) 0 64) (replicate 64 unknown)
+  some_pass : Passing counts list [] d o₀ g (row (λ (j : ℕ). state_of (list_paths list) (above d starts lens j)) 0 64)
+      (replicate 64 unknown)
       (replicate 64 0) starts lens s.opened s.run s.at s.first s.tests o g
   some_pass = seated_passing v (standing_some (list_paths list) d starts lens s.opened.level.0) refl []
 

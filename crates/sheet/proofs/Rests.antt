@@ -145,7 +145,8 @@ tag_selected v d at n h e false t up ts = refl
 pub rest_tag : {v : Judge} {d : List ℕ} {at : ℕ} {first : Bool} {up : List Name} {w : List ℕ} {k : ℕ} → Rest v d at first up w k
     → {n h e : ℕ} {m t : Bool} → Start n h e m t ≡ item_at first d at → at < e → e ≤ length d
     → Rest v d e false (opens m (name_from d (at + 1) n) up)
-    (w ++ record_by (on v (tag_of d at n h e) up) (name_from d (at + 1) n ∷ up) (element_text m d e)) (k + one (on v (tag_of d at n h e) up))
+    (w ++ record_by (on v (tag_of d at n h e) up) (name_from d (at + 1) n ∷ up) (element_text m d e))
+    (k + one (on v (tag_of d at n h e) up))
 rest_tag {v} {d} {at} {up = up} r {n} {h} {e} {m} {t} q l g =
     let j = left r q in
     let room : length d - e < j.0 = omega (arith, r.enough, j.1) in

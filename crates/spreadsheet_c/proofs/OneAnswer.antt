@@ -1,6 +1,6 @@
--- Two results that the contract of `choughbell_rows` allows are equal, with what is left in the buffer, over the contract that the toolchain
--- makes of the source.
-use mathlib.Core.Path.{◌≡◌, sym, ◌∙◌}
+-- Two results that the contract of `choughbell_rows` allows are equal, with what is left in the buffer, over the contract that the
+-- toolchain makes of the source.
+use mathlib.Core.Path.{sym, ◌∙◌}
 use Rattle.contracts.specs.One.{OneOutcome}
 use Rattle.spreadsheet_c.proofs.choughbell_rows.Reads as rows
 

@@ -62,9 +62,10 @@ worked r =
     record { table = w; selected = count_of r.list r.doc; needed = length w }
 
 pub examples : map worked rows ≡ map (λ r. r.told) rows
-unfolding rows table_of header record_of field said_of lines lines_from line_by content count_of verdicts verdict_of forest_of tokens_of tokens_from
-    start_of item_at kind_of declares ends_at tag_at end_tag_at tag_of end_tag_of piece_named before gather attribute_of small_tag text_of comment_of
-    section_of eq_of space_of skip value_of quoted_of many piece_of is_mark reference_of entity_ref_of char_ref_of digits_of ends_number digit_of is_decimal
-    is_hexadecimal is_char name_of expect seek starts run character guess number utf8 is_scalar is_space is_name is_name_start is_name_more list_paths
-    list_answer judge list_lines sound_at within line_at steps read_all end_at mark_at attribute_at step_at test_at kind_at print_step print_line
+unfolding rows table_of header record_of field said_of lines lines_from line_by content count_of verdicts verdict_of forest_of tokens_of
+    tokens_from start_of item_at kind_of declares ends_at tag_at end_tag_at tag_of end_tag_of piece_named before gather attribute_of
+    small_tag text_of comment_of section_of eq_of space_of skip value_of quoted_of many piece_of is_mark reference_of entity_ref_of
+    char_ref_of digits_of ends_number digit_of is_decimal is_hexadecimal is_char name_of expect seek starts run character guess number utf8
+    is_scalar is_space is_name is_name_start is_name_more list_paths list_answer judge list_lines sound_at within line_at steps read_all
+    end_at mark_at attribute_at step_at test_at kind_at print_step print_line
 examples = refl

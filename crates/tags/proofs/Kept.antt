@@ -172,7 +172,8 @@ module _ {d starts lens : List ℕ} {count a n : ℕ} where
 
       -- what holds of the entries kept and of the new one holds of all
       each : (P : ℕ → ℕ → List ℕ → Type 0)
-          → ((k : ℕ) → k < length (take 32 ns) → P (get_or starts k 0) (get_or lens k 0) (get_or (take 32 ns) k [])) → P a n (name_from d a n)
+          → ((k : ℕ) → k < length (take 32 ns) → P (get_or starts k 0) (get_or lens k 0) (get_or (take 32 ns) k []))
+          → P a n (name_from d a n)
           → (k : ℕ) → k < length (ns ++ name_from d a n ∷ [])
           → P (get_or (set starts count a) k 0) (get_or (set lens count n) k 0) (get_or (ns ++ name_from d a n ∷ []) k [])
       each P old new k g = go (eqb k count) refl

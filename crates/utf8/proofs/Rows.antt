@@ -89,7 +89,8 @@ unfolding cells_of
 row_start = record { in_rows = omega arith; same = refl }
 
 module _ {a i : ℕ} (v : Rowing a i) (h : i < 9) where
-  pub row_here : get_or (get_or (cell_rows rows) i []) 0 0 ≤ a → a ≤ get_or (get_or (cell_rows rows) i []) 1 0 → get_or (cell_rows rows) i [] ≡ cells_of a
+  pub row_here : get_or (get_or (cell_rows rows) i []) 0 0 ≤ a → a ≤ get_or (get_or (cell_rows rows) i []) 1 0
+      → get_or (cell_rows rows) i [] ≡ cells_of a
   unfolding rows
   row_here l m = sym (cells_step rows i a h ∙ rw (le-leb _ _ l, le-leb _ _ m)) ∙ v.same
 

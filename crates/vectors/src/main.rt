@@ -9,23 +9,22 @@
 mod digest; // what a buffer holds, before the call and after it
 mod pack; // a pack's cases, one after the other
 
-use std::io::{BufReader, BufWriter, Write};
+use std::io::Write;
 use std::rt::Files;
 use std::{fs, io};
 
 // A line with the pack's name, then one for each case. A pack that can't be opened has none.
-fn tell<R: Files + AllocGlobal, W: Write>(rt: &R, out: &mut W, name: &str) -> io::Result<()> {
+fn tell<R: Files, W: Write>(rt: &R, out: &mut W, name: &str) -> io::Result<()> {
     writeln!(out, "{name}")?;
     match fs::open(rt, name) {
-        Ok(file) => pack::cases(&mut BufReader::new(rt.alloc(), file)?, out),
+        Ok(mut file) => pack::cases(&mut file, out),
         Err(_) => Ok(()),
     }
 }
 
 fn main(rt: HostRuntime) -> io::Result<()> {
-    let mut out = BufWriter::new(rt.alloc(), io::writer(&rt))?;
+    let mut out = io::writer(&rt);
     tell(&rt, &mut out, "suite")?;
     tell(&rt, &mut out, "named")?;
-    tell(&rt, &mut out, "made")?;
-    out.flush()
+    tell(&rt, &mut out, "made")
 }

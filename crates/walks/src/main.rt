@@ -18,7 +18,7 @@ use list::put_list;
 use mode::{Mode, mode_of};
 use paths::ListAnswer;
 use std::io;
-use std::io::{BufWriter, Write};
+use std::io::Write;
 use walk::{Tally, walk};
 
 const ROUNDS: usize = 400;
@@ -74,9 +74,9 @@ fn round<W: Write>(out: &mut W, r: usize) -> io::Result<()> {
 }
 
 fn main(rt: HostRuntime) -> io::Result<()> {
-    let mut out = BufWriter::new(rt.alloc(), io::writer(&rt))?;
+    let mut out = io::writer(&rt);
     for r in 0..ROUNDS {
         round(&mut out, r)?;
     }
-    out.flush()
+    Ok(())
 }

@@ -115,7 +115,8 @@ module _ (x y z : ℕ) (hx : x < 128) (hy : y < 128) (hz : z < 128) where
   abbrev others : ℕ → ℕ
   others b = bit_and (bit_and (other x b) (other y b)) (other z b)
 
-  tests : (b : ℕ) → b < 256 → not (leb 128 b || ((not (eqb (b % 128) x) && not (eqb (b % 128) y)) && not (eqb (b % 128) z))) ≡ one_of x y z b
+  tests : (b : ℕ) → b < 256 → not (leb 128 b || ((not (eqb (b % 128) x) && not (eqb (b % 128) y)) && not (eqb (b % 128) z)))
+      ≡ one_of x y z b
   unfolding one_of
   tests b h = go (leb 128 b) refl
     where

@@ -110,7 +110,8 @@ module _ {w : ℕ} (h : w < 2 ^ 64) where
   abbrev lines : ℕ
   lines = (2 ^ 64 - 1) - (bit_xor (ascii_of w) 0x5F5F5F5F5F5F5F5F + 0x7F7F7F7F7F7F7F7F)
 
-  pub endings_are : bit_and (bit_or ((2 ^ 64 - 1) - bit_or (bit_or letters digits) lines) w) 0x8080808080808080 ≡ marks_of is_no_name (bytes_of 8 w)
+  pub endings_are : bit_and (bit_or ((2 ^ 64 - 1) - bit_or (bit_or letters digits) lines) w) 0x8080808080808080
+      ≡ marks_of is_no_name (bytes_of 8 w)
   endings_are =
       let letter_is = each_and letter_over (each_not letter_under) in
       let digit_is = each_and (each_and digit_over (each_not digit_under)) no_slash in

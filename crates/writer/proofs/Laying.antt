@@ -1,5 +1,5 @@
 -- Laws of text laid into a buffer: nothing, one text after another, past the end, all of it where there is room; and tags of a name.
--- A result is one: `Wrote-one`.
+-- A result is one: `wrote_one`.
 use mathlib.Core.Path.{◌≡◌, refl, sym, ap, ◌∙◌}
 use mathlib.Core.List.{List, [], ◌∷◌, ◌++◌}
 use Prim.Native.Nat.{ℕ, suc, ◌+◌, ◌≤◌}

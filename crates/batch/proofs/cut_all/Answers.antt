@@ -2,7 +2,6 @@
 -- a list at fault decides, and a sound one leaves it to the batch.
 use mathlib.Core.Path.{sym, ◌∙◌}
 use Rattle.batch.proofs.Answering.{list_sound, list_long, list_malformed, list_large}
-use borrow.Author.Rules.{rules}
 use Rattle.batch.proofs.cut_all.Goals as goal
 
 pub cut_all_by-requires : goal.cut_all_by-requires

@@ -2,7 +2,6 @@
 -- a layout at fault decides, and a sound one leaves it to the room.
 use mathlib.Core.Path.{sym, ◌∙◌}
 use Rattle.batch.proofs.Answering.{fault_says}
-use borrow.Author.Rules.{rules}
 use Rattle.batch.proofs.cut_all_by.Goals as goal
 
 pub written-requires : goal.written-requires

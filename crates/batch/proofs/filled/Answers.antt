@@ -1,7 +1,6 @@
 -- `filled` meets its contract:
 -- the result is laid, and its numbers are the answer's.
 use Rattle.batch.proofs.Answering.{filled_says}
-use borrow.Author.Rules.{rules}
 use Rattle.batch.proofs.filled.Goals as goal
 
 pub returns : goal.returns

@@ -1,7 +1,6 @@
 -- `written` meets its contract:
 -- there is room by the bound, or by what was measured, or too little.
 use Rattle.batch.proofs.Answering.{twice_enough, short_says}
-use borrow.Author.Rules.{rules}
 use Rattle.batch.proofs.written.Goals as goal
 
 pub filled-requires : goal.filled-requires

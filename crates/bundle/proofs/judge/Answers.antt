@@ -2,9 +2,7 @@
 -- The measure is what is left of the batch.
 use Prim.Native.Nat.{◌-◌}
 use native.Mathlib.Omega.{arith}
-use lib.ListN.{length}
-use borrow.Author.Rules.{rules}
-use Rattle.bundle.proofs.Judging.{Judging, judge_empty, judge_over, judge_version, judge_start, judge_short, judge_past, judge_next}
+use Rattle.bundle.proofs.Judging.{judge_empty, judge_over, judge_version, judge_start, judge_short, judge_past, judge_next}
 use Rattle.bundle.proofs.Judging.{judge_sound}
 use Rattle.bundle.proofs.judge.Goals as goal
 

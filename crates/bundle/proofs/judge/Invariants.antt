@@ -1,11 +1,8 @@
 -- `judge` meets its contract. The loop's invariant: whole entries reach from the place as far as they do from the front.
 -- The measure is what is left of the batch.
 use Prim.Native.Nat.{◌-◌}
-use native.Mathlib.Omega.{arith}
 use lib.ListN.{length}
-use borrow.Author.Rules.{rules}
-use Rattle.bundle.proofs.Judging.{Judging, judge_empty, judge_over, judge_version, judge_start, judge_short, judge_past, judge_next}
-use Rattle.bundle.proofs.Judging.{judge_sound}
+use Rattle.bundle.proofs.Judging.{Judging}
 use Rattle.bundle.proofs.judge.Given as goal
 
 abbrev pub invariant-loop-at : goal.invariant-loop-at

@@ -3,7 +3,6 @@
 use mathlib.Core.Path.{sym, ◌∙◌}
 use Rattle.document.proofs.Judging.{judged_named}
 use Rattle.cutter.proofs.Cutting.{both_by, by_long, by_other, by_char, used_short}
-use borrow.Author.Rules.{rules}
 use Rattle.cutter.proofs.cut_by_with.Goals as goal
 
 pub returns-then-doc-gt-BYTES : goal.returns-then-doc-gt-BYTES

@@ -2,7 +2,6 @@
 -- a list at fault decides, and a sound one leaves it to the document.
 use mathlib.Core.Path.{sym, ◌∙◌}
 use Rattle.cutter.proofs.Cutting.{both, cut_sound, cut_long, cut_malformed, cut_large}
-use borrow.Author.Rules.{rules}
 use Rattle.cutter.proofs.cut_with.Goals as goal
 
 pub cut_by_with-requires : goal.cut_by_with-requires

@@ -1,7 +1,6 @@
 -- `written` meets its contract:
 -- the pass that measured says what is answered; its notes, or the same pass into the buffer, leave the cut there.
 use Rattle.std.proofs.Common.{arith}
-use borrow.Author.Rules.{rules}
 use Rattle.cutter.proofs.Cutting.{both_by, written_fault, written_short, noted_within, written_noted, written_whole}
 use Rattle.cutter.proofs.written.Goals as goal
 

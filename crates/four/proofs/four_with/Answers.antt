@@ -1,6 +1,5 @@
 -- `four_with` meets its contract:
 -- of a log of any length a part is used that is not too long.
-use borrow.Author.Rules.{rules}
 use Rattle.cutter.proofs.Cutting.{used_short}
 use Rattle.four.proofs.four_with.Goals as goal
 

@@ -1,6 +1,5 @@
 -- `listed` meets its contract:
 -- a document that is refused before its items are read is refused to each client whose list is sound; else they are read.
-use borrow.Author.Rules.{rules}
 use Rattle.four.proofs.Serving.{head_readable, refused_both}
 use Rattle.four.proofs.listed.Goals as goal
 

@@ -1,6 +1,6 @@
 -- `mend` meets its contract:
 -- too long, another encoding, or what is mended of the document of characters.
-use Rattle.mend.proofs.Mending.{mending, both, mend_long, mend_other, mend_rest}
+use Rattle.mend.proofs.Mending.{both, mend_long, mend_other, mend_rest}
 use Rattle.mend.proofs.mend.Goals as goal
 
 pub returns-then-doc-gt-BYTES : goal.returns-then-doc-gt-BYTES

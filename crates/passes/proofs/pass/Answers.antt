@@ -6,9 +6,8 @@ use mathlib.Core.Logic.{inl, inr}
 use native.Mathlib.Omega.{arith}
 use Prim.Native.Nat.{◌-◌}
 use borrow.Author.Rules.{rules}
-use lib.ListN.{length}
 use Rattle.matcher.proofs.Serving.{row_few, row_fit}
-use Rattle.passes.proofs.Passing.{Passing, pass_start, pass_fault, pass_over, pass_ready, pass_many, pass_deep, pass_within}
+use Rattle.passes.proofs.Passing.{pass_start, pass_fault, pass_over, pass_ready, pass_many, pass_deep, pass_within}
 use Rattle.passes.proofs.Passing.{pass_next, Remembered, kept_there, known_there, known_stored, known_recalls, tests_told}
 use Rattle.passes.proofs.Passing.{below_told, verdict_told_by}
 use Rattle.passes.proofs.Passing.{pass_fits, pass_inside, pass_less, pass_placed, pass_other, tag_level, tag_from, tag_to}

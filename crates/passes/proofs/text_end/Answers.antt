@@ -2,11 +2,8 @@
 -- The measure is what is left of the document.
 use Prim.Native.Nat.{◌-◌}
 use borrow.Author.Rules.{rules}
-use lib.ListN.{length}
-use Rattle.blocks.specs.Block.{Skips}
 use Rattle.blocks.proofs.Until.{seek_block}
-use Rattle.readers.specs.Plain.{is_mark}
-use Rattle.tags.proofs.Usuals.{marked, mark_told}
+use Rattle.tags.proofs.Usuals.{mark_told}
 use Rattle.passes.proofs.text_end.Goals as goal
 
 pub returns-then-n-lt16 : goal.returns-then-n-lt16

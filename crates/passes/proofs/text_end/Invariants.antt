@@ -1,12 +1,9 @@
 -- `text_end` meets its contract. The loop's invariant: no mark stands from the place up to i, a place inside.
 -- The measure is what is left of the document.
 use Prim.Native.Nat.{◌-◌}
-use borrow.Author.Rules.{rules}
 use lib.ListN.{length}
 use Rattle.blocks.specs.Block.{Skips}
-use Rattle.blocks.proofs.Until.{seek_block}
 use Rattle.readers.specs.Plain.{is_mark}
-use Rattle.tags.proofs.Usuals.{marked, mark_told}
 use Rattle.passes.proofs.text_end.Given as goal
 
 abbrev pub invariant-loop-i : goal.invariant-loop-i

@@ -1,12 +1,8 @@
 -- `items` meets its contract. The loop's invariant is `Reeling`: the tape has the tags among the items so far, and the spot reached is the
 -- one behind them. The measure is what is left of the document.
-use mathlib.Core.Path.{◌≡◌, refl, ◌∙◌}
+use mathlib.Core.Path.{refl, ◌∙◌}
 use mathlib.Core.Logic.{inl, inr}
-use Prim.Native.Nat.{◌-◌, ◌≤◌}
-use lib.ListN.{length}
-use Rattle.points.specs.Class.{class_table}
-use Rattle.tape.specs.Taped.{spot_of}
-use Rattle.reel.specs.Reeling.{Reeling}
+use Prim.Native.Nat.{◌-◌}
 use Rattle.reel.proofs.Reels.{reel_on, reels}
 use Rattle.reel.proofs.items.Goals.{in-Start, in_default}
 use Rattle.reel.proofs.items.Goals as goal

@@ -5,11 +5,10 @@ use mathlib.Core.Logic.{inl, inr}
 use native.Mathlib.Omega.{arith}
 use Prim.Native.Nat.{◌-◌}
 use borrow.Author.Rules.{rules}
-use lib.ListN.{length}
 use Rattle.matcher.proofs.Serving.{row_few, row_fit}
 use Rattle.passes.proofs.Passing.{known_recalls, below_told, verdict_told_by}
 use Rattle.passes.proofs.States.{stored}
-use Rattle.sheet.proofs.Walking.{Walking, walk_start, walk_fault, walk_over, walk_near, walk_few, walk_other, walk_tag}
+use Rattle.sheet.proofs.Walking.{walk_start, walk_fault, walk_over, walk_near, walk_few, walk_other, walk_tag}
 use Rattle.sheet.proofs.Walking.{header_short, item_next, item_fits, item_less, tag_level, tag_inside, tag_name, tag_fits}
 use Rattle.sheet.proofs.Walking.{tag_less, tag_behind, tag_head, tag_plain, tag_judged}
 use Rattle.sheet.proofs.pass.Goals.{then-level-lt-LEVELS, else-level-lt-LEVELS}
@@ -35,7 +34,8 @@ returns-in-Fault c =
 
 pub returns-in-Over : goal.returns-in-Over
 returns-in-Over c =
-    walk_over c.loop-why.invariant c.next_item-seen.ensures.item_value c.next_item-seen.ensures.placed_value c.lay_header-header.ensures c.in-Over.is
+    walk_over c.loop-why.invariant c.next_item-seen.ensures.item_value c.next_item-seen.ensures.placed_value c.lay_header-header.ensures
+    c.in-Over.is
 
 pub keep-requires : goal.keep-requires
 keep-requires c =

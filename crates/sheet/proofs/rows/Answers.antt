@@ -1,6 +1,5 @@
 -- `rows` meets its contract: a list at fault decides, and a sound one leaves it to the document.
 use mathlib.Core.Path.{sym, ◌∙◌}
-use borrow.Author.Rules.{rules}
 use Rattle.sheet.proofs.Answering.{both, rows_sound, rows_long, rows_malformed, rows_large}
 use Rattle.sheet.proofs.rows.Goals as goal
 

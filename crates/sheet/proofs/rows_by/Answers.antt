@@ -1,6 +1,5 @@
 -- `rows_by` meets its contract: too long, another encoding, a sequence that is no character, or what is said of a document of characters.
 use mathlib.Core.Path.{sym, ◌∙◌}
-use borrow.Author.Rules.{rules}
 use Rattle.document.proofs.Judging.{judged_named}
 use Rattle.sheet.proofs.Answering.{both_by, by_long, by_other, by_char}
 use Rattle.sheet.proofs.rows_by.Goals as goal

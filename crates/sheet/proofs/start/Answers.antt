@@ -1,6 +1,5 @@
 -- `start` meets its contract: the record of an element that is selected, and none of another.
 use mathlib.Core.Path.{refl}
-use borrow.Author.Rules.{rules}
 use Rattle.sheet.proofs.Answering.{started_one, started_none}
 use Rattle.sheet.proofs.start.Goals as goal
 

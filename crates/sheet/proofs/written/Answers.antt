@@ -1,5 +1,4 @@
 -- `written` meets its contract: the pass that measured says what is answered, and the same pass into the buffer leaves the table there.
-use borrow.Author.Rules.{rules}
 use Rattle.sheet.proofs.Answering.{both_by, written_fault, written_short, written_whole}
 use Rattle.sheet.proofs.written.Goals as goal
 

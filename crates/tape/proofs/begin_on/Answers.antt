@@ -1,7 +1,6 @@
 -- `begin_on` meets its contract:
 -- the second number of the entry.
 use mathlib.Core.Path.{refl}
-use borrow.Author.Rules.{rules}
 use Rattle.tape.specs.Tape.{begin_at}
 use Rattle.tape.proofs.begin_on.Goals as goal
 

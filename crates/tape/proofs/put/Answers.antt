@@ -1,6 +1,6 @@
 -- `put` meets its contract:
 -- a start tag or empty tag; an end tag; an item that is none of these.
-use Rattle.tape.proofs.Entries.{put_start, put_finish, put_other, entries}
+use Rattle.tape.proofs.Entries.{put_start, put_finish, put_other}
 use Rattle.tape.proofs.put.Goals as goal
 
 pub returns-in-Start : goal.returns-in-Start

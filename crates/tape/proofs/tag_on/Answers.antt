@@ -1,7 +1,6 @@
 -- `tag_on` meets its contract:
 -- the four numbers of the entry say the tag.
 use Rattle.tape.specs.Tape.{entry_at}
-use Rattle.tape.proofs.Entries.{entries}
 use Rattle.tape.proofs.tag_on.Goals as goal
 
 pub returns : goal.returns

@@ -1,10 +1,7 @@
 -- `pass_of_four` meets its contract. Between two tapes the reader is where each client is that takes part: `Reading`, and four times
 -- `Going`. The measure is what is left of the document. Each need is handed its law of proofs/Going.antt.
 use Prim.Native.Nat.{◌-◌}
-use borrow.Author.Rules.{rules}
-use lib.ListN.{length}
-use Rattle.tape.specs.Taped.{spot_of}
-use Rattle.together.proofs.Going.{Reading, read_start, read_on, read_lies, read_less, Going, go_start, go_small, go_sits}
+use Rattle.together.proofs.Going.{read_start, read_on, read_lies, read_less, go_start, go_small, go_sits}
 use Rattle.together.proofs.Going.{next_going, next_over, next_fault}
 use Rattle.together.proofs.pass_of_four.Goals as goal
 

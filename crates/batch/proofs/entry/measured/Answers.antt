@@ -1,7 +1,6 @@
 -- `measured` meets its contract:
 -- whatever the room, the answer tells how long the entry is.
 use Rattle.batch.proofs.Entering.{measured_is}
-use borrow.Author.Rules.{rules}
 use Rattle.batch.proofs.entry.measured.Goals as goal
 
 pub returns : goal.returns

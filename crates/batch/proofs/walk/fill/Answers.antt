@@ -1,14 +1,11 @@
 -- `fill` meets its contract. The loop's invariant: what is laid so far, and the entries of the documents from the place on, is the result.
 -- The measure is what is left of the batch.
-use mathlib.Core.Path.{◌≡◌, refl}
+use mathlib.Core.Path.{refl}
 use Rattle.batch.proofs.Walking.{fill_same}
-use borrow.Author.Rules.{rules}
 use Rattle.batch.proofs.Walking.{fill_some, fill_start, fill_whole, fill_four, fill_inside, fill_room, fill_fits, fill_few}
 use Rattle.batch.proofs.Walking.{fill_next, fill_end}
 use Prim.Native.Nat.{◌-◌}
 use native.Mathlib.Omega.{arith}
-use lib.ListN.{length}
-use Rattle.batch.proofs.Walking.{Filling}
 use Rattle.batch.proofs.walk.fill.Goals as goal
 
 pub bounds-out-0 : goal.bounds-out-0
@@ -74,7 +71,8 @@ loop-at-smaller c =
 
 pub loop-at-preserved : goal.loop-at-preserved
 loop-at-preserved c = (
-  fill_next _ _ _ c.loop-at.invariant.0 c.loop-at-test.true c.length_at.ensures c.lay_entry-part.ensures.value c.lay_entry-part.ensures.out_after,
+  fill_next _ _ _ c.loop-at.invariant.0 c.loop-at-test.true c.length_at.ensures c.lay_entry-part.ensures.value
+      c.lay_entry-part.ensures.out_after,
   omega (arith, c.loop-at.invariant.1),
 )
 

@@ -1,12 +1,7 @@
 -- `fill` meets its contract. The loop's invariant: what is laid so far, and the entries of the documents from the place on, is the result.
 -- The measure is what is left of the batch.
-use mathlib.Core.Path.{◌≡◌, refl}
-use Rattle.batch.proofs.Walking.{fill_same}
-use borrow.Author.Rules.{rules}
-use Rattle.batch.proofs.Walking.{fill_some, fill_start, fill_whole, fill_four, fill_inside, fill_room, fill_fits, fill_few}
-use Rattle.batch.proofs.Walking.{fill_next, fill_end}
+use mathlib.Core.Path.{◌≡◌}
 use Prim.Native.Nat.{◌-◌}
-use native.Mathlib.Omega.{arith}
 use lib.ListN.{length}
 use Rattle.batch.proofs.Walking.{Filling}
 use Rattle.batch.proofs.walk.fill.Given as goal

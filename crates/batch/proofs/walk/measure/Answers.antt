@@ -1,11 +1,9 @@
 -- `measure` meets its contract. The loop's invariant: what is needed so far, and what the documents from the place on add, is the length
 -- of the result. The measure is what is left of the batch.
-use mathlib.Core.Path.{◌≡◌, refl}
-use borrow.Author.Rules.{rules}
+use mathlib.Core.Path.{refl}
 use Prim.Native.Nat.{◌-◌}
 use native.Mathlib.Omega.{arith}
-use lib.ListN.{length}
-use Rattle.batch.proofs.Walking.{Measuring, measure_start, measure_whole, measure_four, measure_fits, measure_next, measure_end}
+use Rattle.batch.proofs.Walking.{measure_start, measure_whole, measure_four, measure_fits, measure_next, measure_end}
 use Rattle.batch.proofs.walk.measure.Goals as goal
 
 pub loop-at-init : goal.loop-at-init

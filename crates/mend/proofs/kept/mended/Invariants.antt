@@ -1,11 +1,10 @@
 -- `mended` meets its contract. The invariant is `Keeping`: what is kept from the place on is what is kept of the document. The buffer stays
 -- as it was until the loop is left. The measure is what is left of the document.
-use mathlib.Core.Path.{◌≡◌, ap, ◌∙◌}
+use mathlib.Core.Path.{◌≡◌}
 use Prim.Native.Nat.{◌-◌, ◌≤◌}
 use lib.ListN.{length}
 use Rattle.points.specs.Class.{class_table}
-use Rattle.mend.proofs.Keeping.{Keeping, keeping, kept_answer}
-use borrow.Author.Rules.{rules}
+use Rattle.mend.proofs.Keeping.{Keeping}
 use Rattle.mend.proofs.kept.mended.Given as goal
 
 abbrev pub invariant-loop-table : goal.invariant-loop-table

@@ -1,6 +1,6 @@
 -- `end_tags` meets its contract. The invariant is `Closing`: the end tags of the levels above `level` are laid.
 -- The measure is the level.
-use Rattle.mend.proofs.Closing.{Closing, closing}
+use Rattle.mend.proofs.Closing.{closing}
 use Rattle.mend.proofs.laid.end_tags.Goals as goal
 
 pub loop-level-preserved : goal.loop-level-preserved

@@ -1,6 +1,6 @@
 -- `lay` meets its contract: a quote twice in a quoted field, any other byte once.
 -- proofs/Laying.antt has the laws.
-use Rattle.rows.proofs.Laying.{lay_twice, lay_once, byting}
+use Rattle.rows.proofs.Laying.{lay_twice, lay_once}
 use Rattle.rows.proofs.field.lay.Goals as goal
 
 pub returns-then-quoted-b : goal.returns-then-quoted-b

@@ -3,7 +3,6 @@
 use native.Mathlib.Omega.{arith}
 use Rattle.rows.specs.Tokens.{text_from}
 use Rattle.rows.proofs.Rowing.{field_laid, quoted_near}
-use borrow.Author.Rules.{rules}
 use Rattle.rows.proofs.gather.lay_field.Goals as goal
 
 pub lay_text-laid-requires : goal.lay_text-laid-requires

@@ -3,10 +3,9 @@
 use Rattle.rows.proofs.Gathering.{gathering}
 use native.Mathlib.Omega.{arith}
 use Rattle.rows.proofs.Gathering.{aside_stops, closes_stops, opens_stops, whole_stops, nearer, ahead_by, said_ready}
-use Rattle.rows.proofs.Gathering.{Gathered, gathered_stop, gathered_close, gathered_down, gathered_whole, gathered_up, gathered_over}
+use Rattle.rows.proofs.Gathering.{gathered_stop, gathered_close, gathered_down, gathered_whole, gathered_up, gathered_over}
 use Rattle.rows.proofs.Gathering.{gathered_said}
 use Prim.Native.Nat.{◌-◌}
-use lib.ListN.{length}
 use Rattle.rows.proofs.gather.lay_text.Goals as goal
 
 pub loop-depth-init : goal.loop-depth-init

@@ -1,10 +1,6 @@
 -- `lay_text` meets its contract. The invariant is `Gathered`: what is gathered up to the place i, and how deep that place is.
 -- The measure is what is left of the document.
-use Rattle.rows.proofs.Gathering.{gathering}
-use native.Mathlib.Omega.{arith}
-use Rattle.rows.proofs.Gathering.{aside_stops, closes_stops, opens_stops, whole_stops, nearer, ahead_by, said_ready}
-use Rattle.rows.proofs.Gathering.{Gathered, gathered_stop, gathered_close, gathered_down, gathered_whole, gathered_up, gathered_over}
-use Rattle.rows.proofs.Gathering.{gathered_said}
+use Rattle.rows.proofs.Gathering.{Gathered}
 use Prim.Native.Nat.{◌-◌}
 use lib.ListN.{length}
 use Rattle.rows.proofs.gather.lay_text.Given as goal

@@ -1,6 +1,6 @@
 -- `lay_joint` meets its contract: a slash, but none before the first name.
 -- proofs/Gathering.antt has the laws.
-use Rattle.rows.proofs.Gathering.{joint_laid, joint_none, joining}
+use Rattle.rows.proofs.Gathering.{joint_laid, joint_none}
 use Rattle.rows.proofs.row.lay_joint.Goals as goal
 
 pub returns-then-k-eq0 : goal.returns-then-k-eq0

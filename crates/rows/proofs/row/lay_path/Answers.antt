@@ -1,7 +1,6 @@
 -- `lay_path` meets its contract. The invariant is `Joined`: the names of the first k levels are laid. The measure is the levels left.
 -- proofs/Rowing.antt has the laws.
-use Rattle.rows.proofs.Rowing.{joined}
-use Rattle.rows.proofs.Rowing.{Joined, joined_fits, joined_inside, joined_room, joined_step, joined_end}
+use Rattle.rows.proofs.Rowing.{joined_fits, joined_inside, joined_room, joined_step, joined_end}
 use mathlib.Core.Path.{refl}
 use Prim.Native.Nat.{◌-◌}
 use Rattle.rows.proofs.row.lay_path.Goals as goal

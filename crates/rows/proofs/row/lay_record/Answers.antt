@@ -1,6 +1,5 @@
 -- `lay_record` meets its contract: a path, a comma, a field, which is empty for an empty tag, and a line end.
 -- proofs/Rowing.antt has the laws.
-use borrow.Author.Rules.{rules}
 use Rattle.rows.proofs.Rowing.{record_bare, record_full}
 use Rattle.rows.proofs.row.lay_record.Goals as goal
 

@@ -1,6 +1,6 @@
 -- `lay_char` meets its contract: by the four cases of UTF-8.
 -- proofs/Laying.antt has the laws.
-use Rattle.rows.proofs.Laying.{char_four, char_three, char_two, char_one, encoding}
+use Rattle.rows.proofs.Laying.{char_four, char_three, char_two, char_one}
 use Rattle.rows.proofs.said.lay_char.Goals as goal
 
 pub returns-then-c-lt128 : goal.returns-then-c-lt128

@@ -1,6 +1,6 @@
 -- `lay_line` meets its contract: CR, LF behind CR, and any other byte.
 -- proofs/Laying.antt has the laws.
-use Rattle.rows.proofs.Laying.{lay_kept, lay_skipped, lay_cr, lining}
+use Rattle.rows.proofs.Laying.{lay_kept, lay_skipped, lay_cr}
 use Rattle.rows.proofs.said.lay_line.Goals as goal
 
 pub returns-then-b-eq13 : goal.returns-then-b-eq13

@@ -1,9 +1,7 @@
 -- `lay_lines` meets its contract. The invariant is `Lined`: the bytes before the place i are laid.
 -- The measure is what is left of the text.
 use Rattle.rows.proofs.Laying.{lined_over, lining}
-use Rattle.rows.proofs.Laying.{Lined}
 use Prim.Native.Nat.{◌-◌}
-use lib.ListN.{length}
 use Rattle.rows.proofs.said.lay_lines.Goals as goal
 
 pub loop-i-init : goal.loop-i-init

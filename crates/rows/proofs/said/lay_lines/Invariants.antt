@@ -1,6 +1,5 @@
 -- `lay_lines` meets its contract. The invariant is `Lined`: the bytes before the place i are laid.
 -- The measure is what is left of the text.
-use Rattle.rows.proofs.Laying.{lined_over, lining}
 use Rattle.rows.proofs.Laying.{Lined}
 use Prim.Native.Nat.{◌-◌}
 use lib.ListN.{length}

@@ -1,6 +1,6 @@
 -- `lay_said` meets its contract: by the first bytes of the item.
 -- proofs/Saying.antt has the laws.
-use Rattle.rows.proofs.Saying.{said_text, said_reference, said_markup, said_section, itemising}
+use Rattle.rows.proofs.Saying.{said_text, said_reference, said_markup, said_section}
 use Rattle.rows.proofs.said.lay_said.Goals as goal
 
 pub returns-then-stands : goal.returns-then-stands

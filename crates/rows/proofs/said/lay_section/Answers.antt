@@ -1,7 +1,7 @@
 -- `lay_section` meets its contract: what stands between its marks, or nothing where they do not fit.
 -- proofs/Saying.antt has the laws.
 use mathlib.Core.Path.{refl}
-use Rattle.rows.proofs.Saying.{section_laid, section_none, sectioning}
+use Rattle.rows.proofs.Saying.{section_laid, section_none}
 use Rattle.rows.proofs.said.lay_section.Goals as goal
 
 pub returns-then-raw-lt12 : goal.returns-then-raw-lt12

@@ -1,6 +1,6 @@
 -- `lay_two` meets its contract: one byte behind another.
 -- proofs/Laying.antt has the law.
-use Rattle.rows.proofs.Laying.{lays_two, pairing}
+use Rattle.rows.proofs.Laying.{lays_two}
 use Rattle.rows.proofs.said.lay_two.Goals as goal
 
 pub returns : goal.returns

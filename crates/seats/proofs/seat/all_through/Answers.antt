@@ -2,18 +2,15 @@
 -- it stands behind k tags. Each need is handed its law of proofs/Going.antt.
 -- where the client began, and whether at the document's first item, is asked for no more
 use mathlib.Core.Path.{refl}
-use mathlib.Core.Bool.{Bool}
 use mathlib.Core.Logic.{inl, inr}
 use native.Mathlib.Omega.{arith}
-use Prim.Native.Nat.{ℕ, ◌-◌}
+use Prim.Native.Nat.{◌-◌}
 use borrow.Author.Rules.{rules}
 use Rattle.matcher.proofs.Serving.{row_few, row_fit}
 use Rattle.passes.proofs.Passing.{pass_ready, pass_many, pass_deep, Remembered, kept_there, known_there, known_stored, known_recalls}
 use Rattle.passes.proofs.Passing.{tests_told, below_told, verdict_told_by}
 use Rattle.passes.proofs.States.{stored}
-use Rattle.seats.specs.Seated.{Begun, seat_spot}
-use Rattle.seats.specs.Went.{Lies}
-use Rattle.seats.proofs.Going.{Gone, begun_placed, gone_start, going, going_near, going_placed, going_level, going_from, going_to}
+use Rattle.seats.proofs.Going.{begun_placed, gone_start, going, going_near, going_placed, going_level, going_from, going_to}
 use Rattle.seats.proofs.Going.{going_end, going_name, going_behind, going_head, going_deeper, going_tag}
 use Rattle.seats.proofs.Going.{turn, turn_on, turn_start, turn_inside, turn_other, gone_over}
 use Rattle.seats.proofs.seat.all_through.Goals.{then-not-is_of, else-not-is_of, then-level-lt-LEVELS, else-level-lt-LEVELS}
@@ -322,17 +319,20 @@ loop-k-smaller c =
 pub loop-k-preserved : goal.loop-k-preserved
 loop-k-preserved c =
     λ a b g y.
-    turn_other (turn (c.loop-k.invariant a b g y) c.loop-k-test.true c.begin_on-at.ensures) c.tag_on-next.ensures c.in_default.not-Start c.other_step-run.ensures
+    turn_other (turn (c.loop-k.invariant a b g y) c.loop-k-test.true c.begin_on-at.ensures) c.tag_on-next.ensures c.in_default.not-Start
+    c.other_step-run.ensures
     c.after-opened-in-loop-k.ensures
 
 pub shape_of-out : goal.shape_of-out
 shape_of-out c =
-    let e = (gone_over (c.loop-k.invariant _ _ c.requires.5 c.requires.6) c.loop-k-test.false c.requires.6.to_is c.requires.6.first_is).room in
+    let e = (gone_over (c.loop-k.invariant _ _ c.requires.5 c.requires.6) c.loop-k-test.false c.requires.6.to_is
+    c.requires.6.first_is).room in
     search (rules, e)
 
 pub shape_of-log : goal.shape_of-log
 shape_of-log c =
-    let e = (gone_over (c.loop-k.invariant _ _ c.requires.5 c.requires.6) c.loop-k-test.false c.requires.6.to_is c.requires.6.first_is).log_room in
+    let e = (gone_over (c.loop-k.invariant _ _ c.requires.5 c.requires.6) c.loop-k-test.false c.requires.6.to_is
+    c.requires.6.first_is).log_room in
     search (rules, e)
 
 pub returns : goal.returns

@@ -2,7 +2,6 @@
 -- a client that is live goes through the tags, and one that sits out stays as it is.
 use mathlib.Core.Path.{refl, sym, ◌∙◌}
 use mathlib.Core.Bool.{false≢true}
-use borrow.Author.Rules.{rules}
 use Rattle.seats.proofs.seat.through.Goals as goal
 
 pub all_through-requires : goal.all_through-requires

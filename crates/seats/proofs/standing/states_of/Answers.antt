@@ -4,9 +4,7 @@ use mathlib.Core.Path.{refl, ◌∙◌}
 use native.Mathlib.Omega.{arith}
 use Prim.Native.Nat.{◌-◌}
 use borrow.Author.Rules.{rules}
-use Rattle.paths.specs.Judge.{list_paths}
 use Rattle.matcher.proofs.Serving.{row_few, row_fit}
-use Rattle.seats.specs.Standing.{Standing}
 use Rattle.seats.proofs.Restanding.{standing_start, standing_next, standing_last, standing_less}
 use Rattle.seats.proofs.standing.states_of.Goals as goal
 
@@ -39,7 +37,8 @@ fit_by-fit-requires c =
 
 pub loop-k-preserved : goal.loop-k-preserved
 loop-k-preserved c =
-    standing_next c.loop-k.invariant (omega arith) refl (c.fit_by-fit.ensures ∙ row_fit c.requires.0 _ c.row_of-row.ensures) c.deeper-below.ensures
+    standing_next c.loop-k.invariant (omega arith) refl (c.fit_by-fit.ensures ∙ row_fit c.requires.0 _ c.row_of-row.ensures)
+    c.deeper-below.ensures
 
 pub returns : goal.returns
 returns c =

@@ -1,13 +1,8 @@
 -- `states_of` meets its contract. The invariant: the states of the first k levels are made, as the laws of proofs/Restanding.antt have
 -- them.
-use mathlib.Core.Path.{refl, ◌∙◌}
-use native.Mathlib.Omega.{arith}
 use Prim.Native.Nat.{◌-◌}
-use borrow.Author.Rules.{rules}
 use Rattle.paths.specs.Judge.{list_paths}
-use Rattle.matcher.proofs.Serving.{row_few, row_fit}
 use Rattle.seats.specs.Standing.{Standing}
-use Rattle.seats.proofs.Restanding.{standing_start, standing_next, standing_last, standing_less}
 use Rattle.seats.proofs.standing.states_of.Given as goal
 
 abbrev pub invariant-loop-k : goal.invariant-loop-k

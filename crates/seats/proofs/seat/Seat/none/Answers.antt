@@ -1,6 +1,5 @@
 -- `Seat::none` meets its contract:
 -- each field is as it says.
-use borrow.Author.Rules.{rules}
 use Rattle.seats.proofs.seat.Seat.none.Goals as goal
 
 pub returns : goal.returns
