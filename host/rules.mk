@@ -7,7 +7,7 @@
 NATIVE = target/native
 MAKE_LIBRARY = host/native.sh
 PROVED = $(shell find crates/*/src crates/*/specs crates/*/proofs -name '*.rt' -o -name '*.antt')
-$(NATIVE)/libexported.a: host/native.sh crates.txt $(PROVED) | rt rust
+$(NATIVE)/libexported.a: host/native.sh host/include/choughbell.h crates.txt $(PROVED) | rt rust
 	@mkdir -p $(NATIVE) && { $(MAKE_LIBRARY) $(NATIVE) 2>&1; echo $$? > $(NATIVE)/status; } | tee $(NATIVE)/log | \
 	    sed -u -n -e '/^crate /h' -e '/^logic=proved/{x;s/^crate \(.*\): .*/\1 proved/p}'; [ "$$(cat $(NATIVE)/status)" = 0 ] || { \
 	    cat $(NATIVE)/log; exit 1; }
