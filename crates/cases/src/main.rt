@@ -1,5 +1,6 @@
 // Runs the libraries on many cases and prints what they find. The file `stdout` has what is right: ordinary Rust in docs/src/expected makes
-// it, from the standard library, the Recommendation's ranges and the words of document 01, with nothing of Rattle.
+// it, from the standard library, the Recommendation's ranges and the words of document 01, with nothing of Rattle. A write that fails ends
+// the program with its error, and nothing else does; what was written before it stays.
 #![tactic(auto)]
 
 mod out; // bytes, written in hexadecimal

@@ -1,5 +1,5 @@
 // The program `cut` of document 01. It only reads and writes: what is printed is `told` of the crate `report`. What can't be read ends
-// there: the bytes before it are the document, or the list.
+// there: the bytes before it are the document, or the list. A write that fails ends the program with its error, and nothing else does.
 //
 //     standard input    the document, and one byte more than it may have, so that a longer one is told
 //     paths.lst         the list, in the same way              a file that can't be opened: an empty list

@@ -1,5 +1,6 @@
 // Cuts the cases of three packs and prints what each answer is: number, second, third and fourth, and a digest of the whole buffer
-// afterwards. The file `stdout` has what is right: the second program, docs/src/second, makes it from the same packs.
+// afterwards. The file `stdout` has what is right: the second program, docs/src/second, makes it from the same packs. A write that fails
+// ends the program with its error, and nothing else does; what was written before it stays.
 //
 //     suite    the files of the W3C's conformance suite that have no document type
 //     named    cases chosen by hand

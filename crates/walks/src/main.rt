@@ -1,8 +1,8 @@
 // Tries the matcher on random lists and on random walks through trees of names, round by round. Prints of each round its number; the list's
 // bytes and their sum; how deep the walk went and the sum of the names' numbers; how many elements are not selected, selected and marked,
 // and the sum of the verdicts. The file `stdout` has what is right: ordinary Rust in docs/src/expected makes it, with the same draws, by
-// trying places for the steps of each path as documents 01 and 02 word it.
-
+// trying places for the steps of each path as documents 01 and 02 word it. A write that fails ends the program with its error, and nothing
+// else does; what was written before it stays.
 #![tactic(auto)]
 
 mod draw; // numbers drawn, and sums
