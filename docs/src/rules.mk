@@ -106,8 +106,8 @@ x86-trials: x86-library
 # The library as the toolchain compiles it, for the machine at hand, and the crates' source, read as Rust. UNCHECKED= leaves index checks in
 # there. One unit, so that what is inlined does not go by modules.
 TIMED = utf8 points blocks words chars paths lookup compiled matcher recall covers scans plain references values instructions tags items \
-    quick normal attribute tests document writer packed notes output tape passes cutter reel seats together four descent bundle batch mend \
-    rows sheet exported clients spreadsheet
+    quick normal attribute tests document writer packed notes output tape passes refusals cutter reel seats together four descent bundle \
+    batch mend rows sheet exported clients spreadsheet
 UNCHECKED = --unchecked
 WHAT = characters matcher cut
 

@@ -13,8 +13,7 @@ use Rattle.xml.specs.Character.{begins}
 use Rattle.xml.specs.Productions.{same}
 use Rattle.xml.proofs.Same.{same_other, begins-same}
 use Rattle.chars.specs.Name.{name_at, reading_at}
-use Rattle.chars.specs.declared.name.Reading.{Reading}
-use Rattle.chars.specs.declared.name.Reading.TheVariants.{Ends, Fault}
+use Rattle.std.specs.Prelude.{Option, Some, None}
 use Rattle.readers.specs.Read.{space_of}
 use Rattle.readers.specs.Value.{value_of}
 use Rattle.readers.specs.Named.{eq_of}
@@ -67,30 +66,30 @@ module _ {d n t : List ℕ} {i : ℕ} (w : Having d n t i) where
   pub have_inside : i ≤ length d
   have_inside = w.inside
 
-  module _ {r : Reading} (a : Answers d i r (space_of (drop i d))) where
-    pub have_blankless : r ≡ Fault → false ≡ has_attribute (attributes_in 0 d) n t
+  module _ {r : Option ℕ} (a : Answers d i r (space_of (drop i d))) where
+    pub have_blankless : r ≡ None → false ≡ has_attribute (attributes_in 0 d) n t
     unfolding held_of
     have_blankless q = have_none (rw (fault_none a q))
 
-    module _ {x : ℕ} (q : r ≡ Ends x) {m : Reading} (b : m ≡ name_at d x) where
-      pub have_nameless : m ≡ Fault → false ≡ has_attribute (attributes_in 0 d) n t
+    module _ {x : ℕ} (q : r ≡ Some x) {m : Option ℕ} (b : m ≡ name_at d x) where
+      pub have_nameless : m ≡ None → false ≡ has_attribute (attributes_in 0 d) n t
       unfolding held_of
       have_nameless f = have_none (rw (ends_some a q, piece_none d x b f))
 
-      module _ {e : ℕ} (g : m ≡ Ends e) {u : Reading} (c : Answers d e u (eq_of (drop e d))) where
-        pub have_unequal : u ≡ Fault → false ≡ has_attribute (attributes_in 0 d) n t
+      module _ {e : ℕ} (g : m ≡ Some e) {u : Option ℕ} (c : Answers d e u (eq_of (drop e d))) where
+        pub have_unequal : u ≡ None → false ≡ has_attribute (attributes_in 0 d) n t
         unfolding held_of
         have_unequal f = have_none (rw (ends_some a q, piece_some d x b g, fault_none c f))
 
-        module _ {v : ℕ} (h : u ≡ Ends v) {o : Reading} (k : o ≡ reading_at d v (value_of (drop v d))) where
+        module _ {v : ℕ} (h : u ≡ Some v) {o : Option ℕ} (k : o ≡ reading_at d v (value_of (drop v d))) where
           valued : Answers d v o (value_of (drop v d))
           valued = reading_answers value_shrinks d v k
 
-          pub have_valueless : o ≡ Fault → false ≡ has_attribute (attributes_in 0 d) n t
+          pub have_valueless : o ≡ None → false ≡ has_attribute (attributes_in 0 d) n t
           unfolding held_of
           have_valueless f = have_none (rw (ends_some a q, piece_some d x b g, ends_some c h, fault_none valued f))
 
-          module _ {end : ℕ} (f : o ≡ Ends end) where
+          module _ {end : ℕ} (f : o ≡ Some end) where
             further : i < end
             further =
                 let p = ends_ahead a q in

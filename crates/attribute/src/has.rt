@@ -3,15 +3,14 @@
 // stands twice, which it does in no accepted document, one of the two is enough.
 ghost use Rattle.std.specs.Prelude.{◌≡◌, ◌&&◌, ◌-◌, ◌≤◌, length, drop};
 ghost use Rattle.xml.specs.Productions.{same};
-ghost use Rattle.points.specs.Class.{class_table};
 ghost use Rattle.tags.specs.Kept.{name_from};
 ghost use Rattle.attributes.specs.Held.{normal_at, attributes_in, has_attribute};
 
-use chars::name::{Reading, name_by};
+use chars::name::name_by;
 use chars::text::stands;
 use instructions::steps::{eq, space};
 use normal::value::value_is;
-use points::table::Classes;
+use points::class::Classes;
 use values::value::value;
 
 // Whether the name from a to e is the given one, and the value from v on the text.
@@ -31,21 +30,21 @@ fn is(tag: &[u8], a: usize, e: usize, v: usize, name: &[u8], text: &[u8]) -> boo
 
 // Whether among the attributes at the front of the tag there is one with the name and the text for its value.
 pub fn has(classes: &Classes, tag: &[u8], name: &[u8], text: &[u8]) -> bool
-    requires { classes.now ≡ class_table }
     ensures { result ≡ has_attribute (attributes_in 0 tag.now) name.now text.now }
 {
     let mut i: usize = 0;
+    // Each turn goes on where the reader of a value ended, so the place is no count.
     loop {
-        let Reading::Ends(a) = space(tag, i) else {
+        let Some(a) = space(tag, i) else {
             return false;
         };
-        let Reading::Ends(e) = name_by(classes, tag, a) else {
+        let Some(e) = name_by(classes, tag, a) else {
             return false;
         };
-        let Reading::Ends(v) = eq(tag, e) else {
+        let Some(v) = eq(tag, e) else {
             return false;
         };
-        let Reading::Ends(end) = value(tag, v) else {
+        let Some(end) = value(tag, v) else {
             return false;
         };
         if is(tag, a, e, v, name, text) {

@@ -5,6 +5,7 @@ use mathlib.Core.List.{List, [], ◌∷◌, map}
 use Prim.Native.Nat.{ℕ, ◌-◌, ◌*◌, ◌≤◌}
 use native.Mathlib.Omega.{arith}
 use lib.ListN.{length, length-append, length-drop}
+use Rattle.std.specs.Prelude.{Result, Ok, Err, ⊤}
 use Rattle.xml.specs.Notation.{Rule}
 use Rattle.xml.specs.Forest.{Name, Tag, Forest, nil, other, elem, render}
 use Rattle.xml.specs.Document.{Opens}
@@ -12,8 +13,7 @@ use Rattle.paths.specs.Judge.{list_paths}
 use Rattle.matcher.specs.declared.Verdict.{Verdict}
 use Rattle.matcher.specs.declared.Verdict.TheVariants.{Unselected, Selected, Marked}
 use Rattle.document.specs.Judge.{start_of, judge_of}
-use Rattle.document.specs.declared.judge.Judged.{Judged}
-use Rattle.document.specs.declared.judge.Judged.TheVariants as judged
+use Rattle.document.specs.declared.DocumentError.{DocumentError}
 use Rattle.trees.specs.Cut.{Judge, on, one, count}
 use Rattle.trees.specs.Grown.{forest_of}
 use Rattle.trees.specs.Written.{verdicts, cut_of, count_of}
@@ -49,7 +49,7 @@ count_most v up (elem t kids close rest) (h, i, j) =
     let o = one_most (on v t up) in
     simp length-append (omega arith)
 
-count_under : (list d : List ℕ) → judge_of d ≡ judged.Sound → count_of list d ≤ length d
+count_under : (list d : List ℕ) → judge_of d ≡ Ok tt → count_of list d ≤ length d
 unfolding count_of
 count_under list d e =
     let h = document_each Some (λ v ns s t o. opens_some o) (λ v ns raw s a b t o x. opens_some o) (sound_document d e).2 in
@@ -64,23 +64,17 @@ pub entry_under : (list d : List ℕ) → length (entry_of list d) ≤ 2 * lengt
 unfolding entry_of
 entry_under list d = go (judge_of d) refl
   where
-    go : (j : Judged) → judge_of d ≡ j → length (of_sound j (cut_of list d) []) ≤ 2 * length d
-    go judged.Sound e = omega (arith, cut_at_most list d e)
-    go judged.TooLong e = omega arith
-    go (judged.OtherEncoding o) e = omega arith
-    go (judged.NotChar o) e = omega arith
-    go (judged.AtFault why o) e = omega arith
+    go : (j : Result ⊤ DocumentError) → judge_of d ≡ j → length (of_sound j (cut_of list d) []) ≤ 2 * length d
+    go (Ok _) e = omega (arith, cut_at_most list d e)
+    go (Err x) e = omega arith
 
 pub selected_under : (list d : List ℕ) → selected_of list d ≤ length d
 unfolding selected_of
 selected_under list d = go (judge_of d) refl
   where
-    go : (j : Judged) → judge_of d ≡ j → of_sound j (count_of list d) 0 ≤ length d
-    go judged.Sound e = count_under list d e
-    go judged.TooLong e = omega arith
-    go (judged.OtherEncoding o) e = omega arith
-    go (judged.NotChar o) e = omega arith
-    go (judged.AtFault why o) e = omega arith
+    go : (j : Result ⊤ DocumentError) → judge_of d ≡ j → of_sound j (count_of list d) 0 ≤ length d
+    go (Ok _) e = count_under list d e
+    go (Err x) e = omega arith
 
 -- ---- a whole result
 

@@ -9,15 +9,14 @@ use borrow.Author.Tests.{ltb-true}
 use lib.Dec.{ltb}
 use lib.ListN.{length, take, drop, length-append, length-drop, drop_of_length-le}
 use lib.Seq.{sets, sets-eq, take_all, drop-drop, drop_at, length-take-le}
+use Rattle.std.specs.Prelude.{Result, Ok, Err, ⊤}
 use Rattle.document.specs.Judge.{judge_of}
-use Rattle.document.specs.declared.Why.TheVariants as why
-use Rattle.document.specs.declared.judge.Judged.{Judged}
-use Rattle.document.specs.declared.judge.Judged.TheVariants as judged
+use Rattle.document.specs.declared.DocumentError.{DocumentError}
 use Rattle.trees.specs.Written.{cut_of, count_of, tests_of}
 use Rattle.cutter.specs.Answer.{by_document, by_room, answer_by, after, bytes_by}
-use Rattle.cutter.specs.declared.Answer.{Answer}
-use Rattle.cutter.specs.declared.Answer.TheVariants.{Written, ListTooLong, ListMalformed, ListTooLarge, TooLong}
-use Rattle.cutter.specs.declared.Answer.TheVariants.{OtherEncoding, NotChar, Doctype, Malformed, TooLarge, Short}
+use Rattle.cutter.specs.declared.answer.Cut.{Cut}
+use Rattle.refusals.specs.declared.CutError.{CutError}
+use Rattle.refusals.specs.declared.CutError.TheVariants as errors
 use Rattle.bundle.specs.Batch.{big}
 use Rattle.batch.specs.Answer.{of_sound, entry_of, selected_of}
 use Rattle.batch.specs.Told.{part, told_of, part_of}
@@ -25,26 +24,13 @@ use Rattle.batch.specs.declared.entry.Part.{Part}
 
 -- ---- `told`
 
-pub told_case : {a b : Answer} {p : Part} → a ≡ b → p ≡ told_of b → p ≡ told_of a
+pub told_case : {a b : Result Cut CutError} {p : Part} → a ≡ b → p ≡ told_of b → p ≡ told_of a
 told_case h q = q ∙ sym (ap told_of h)
-
--- every answer but two refuses
-pub told_none : (a : Answer) → ((n c t : ℕ) → a ≡ Written n c t → ⊥) → ((n : ℕ) → a ≡ Short n → ⊥) → part 0 0 ≡ told_of a
-told_none (Written n c t) h k = absurd (h n c t refl)
-told_none ListTooLong h k = refl
-told_none (ListMalformed n) h k = refl
-told_none (ListTooLarge n) h k = refl
-told_none TooLong h k = refl
-told_none (OtherEncoding n) h k = refl
-told_none (NotChar n) h k = refl
-told_none (Doctype n) h k = refl
-told_none (Malformed n) h k = refl
-told_none (TooLarge n) h k = refl
-told_none (Short n) h k = absurd (k n refl)
 
 -- ---- the length of an entry, whatever the room
 
-abbrev told_room : (x : Bool) (n c t : ℕ) → (told_of (cond x (Short n) (Written n c t))).length ≡ n
+abbrev told_room : (x : Bool) (n c t : ℕ)
+    → (told_of (cond x (Err (errors.Short n)) (Ok (record { length = n; selected = c; tests = t })))).length ≡ n
 told_room true n c t = refl
 told_room false n c t = refl
 
@@ -52,17 +38,12 @@ told_long : (list d : List ℕ) (room : ℕ) → (told_of (answer_by list d room
 unfolding entry_of
 told_long list d room = go (judge_of d)
   where
-    go : (j : Judged) → (told_of (by_document j (by_room room (cut_of list d) (count_of list d) (tests_of list d)))).length
+    go : (j : Result ⊤ DocumentError) → (told_of (by_document j (by_room room (cut_of list d) (count_of list d) (tests_of list d)))).length
         ≡ length (of_sound j (cut_of list d) [])
-    go judged.Sound = told_room (ltb room (length (cut_of list d))) (length (cut_of list d)) (count_of list d) (tests_of list d)
-    go judged.TooLong = refl
-    go (judged.OtherEncoding o) = refl
-    go (judged.NotChar o) = refl
-    go (judged.AtFault why.Doctype o) = refl
-    go (judged.AtFault why.Malformed o) = refl
-    go (judged.AtFault why.TooLarge o) = refl
+    go (Ok _) = told_room (ltb room (length (cut_of list d))) (length (cut_of list d)) (count_of list d) (tests_of list d)
+    go (Err e) = refl
 
-pub measured_is : (list d : List ℕ) (room : ℕ) {a : Answer} {p : Part} → a ≡ answer_by list d room → p ≡ told_of a
+pub measured_is : (list d : List ℕ) (room : ℕ) {a : Result Cut CutError} {p : Part} → a ≡ answer_by list d room → p ≡ told_of a
     → p.length ≡ length (entry_of list d)
 measured_is list d room e q = ap (λ (x : Part). x.length) (q ∙ ap told_of e) ∙ told_long list d room
 
@@ -75,30 +56,27 @@ pub entered : (list d o : List ℕ) → length (entry_of list d) ≤ length o
 unfolding entry_of selected_of bytes_by
 entered list d o l = go (judge_of d) l
   where
+    written : Bool → Result Cut CutError
+    written x =
+        cond x (Err (errors.Short (length (cut_of list d))))
+        (Ok (record { length = length (cut_of list d); selected = count_of list d; tests = tests_of list d }))
+
     room : (x : Bool) → ltb (length o) (length (cut_of list d)) ≡ x → length (cut_of list d) ≤ length o
-        → (told_of (cond x (Short (length (cut_of list d))) (Written (length (cut_of list d)) (count_of list d) (tests_of list d)))
-        ≡ part_of (cut_of list d) (count_of list d))
-        × (after (cond x (Short (length (cut_of list d))) (Written (length (cut_of list d)) (count_of list d) (tests_of list d)))
-        (cut_of list d) o
-        ≡ cut_of list d ++ drop (length (cut_of list d)) o)
+        → (told_of (written x) ≡ part_of (cut_of list d) (count_of list d))
+        × (after (written x) (cut_of list d) o ≡ cut_of list d ++ drop (length (cut_of list d)) o)
     room true e l = absurd (omega (arith, ltb-true (length o) (length (cut_of list d)) e))
     room false e l = (refl, refl)
 
-    go : (j : Judged) → length (of_sound j (cut_of list d) []) ≤ length o
+    go : (j : Result ⊤ DocumentError) → length (of_sound j (cut_of list d) []) ≤ length o
         → (told_of (by_document j (by_room (length o) (cut_of list d) (count_of list d) (tests_of list d)))
         ≡ part_of (of_sound j (cut_of list d) []) (of_sound j (count_of list d) 0))
         × (after (by_document j (by_room (length o) (cut_of list d) (count_of list d) (tests_of list d))) (cut_of list d) o
         ≡ of_sound j (cut_of list d) [] ++ drop (length (of_sound j (cut_of list d) [])) o)
-    go judged.Sound l = room (ltb (length o) (length (cut_of list d))) refl l
-    go judged.TooLong l = (refl, refl)
-    go (judged.OtherEncoding o) l = (refl, refl)
-    go (judged.NotChar o) l = (refl, refl)
-    go (judged.AtFault why.Doctype o) l = (refl, refl)
-    go (judged.AtFault why.Malformed o) l = (refl, refl)
-    go (judged.AtFault why.TooLarge o) l = (refl, refl)
+    go (Ok _) l = room (ltb (length o) (length (cut_of list d))) refl l
+    go (Err e) l = (refl, refl)
 
 -- behind its length, in a buffer that has room for both: the part behind four bytes is lent to the cut, and given back as x
-pub entry_laid : (list d o : List ℕ) → 4 + length (entry_of list d) ≤ length o → {a : Answer} {p : Part} {x o' : List ℕ}
+pub entry_laid : (list d o : List ℕ) → 4 + length (entry_of list d) ≤ length o → {a : Result Cut CutError} {p : Part} {x o' : List ℕ}
     → a ≡ answer_by list d (length (take (length o - 4) (drop 4 o))) → x ≡ bytes_by list d (take (length o - 4) (drop 4 o)) → p ≡ told_of a
     → o' ≡ sets (take 4 o ++ (x ++ drop (length o - 4) (drop 4 o))) 0 (big p.length)
     → (p ≡ part_of (entry_of list d) (selected_of list d))

@@ -3,20 +3,21 @@
 -- `batch_of` and `batch_bytes`, which are the contract of `cut_all`: two equations, for every list, batch and buffer, and no `requires`.
 use mathlib.Core.Path.{◌≡◌, refl, sym, ap, ◌∙◌}
 use mathlib.Core.List.{List, [], ◌∷◌, ◌++◌, map}
-use Prim.Native.Nat.{ℕ, ◌+◌, ◌≤◌}
+use Rattle.std.specs.Prelude.{Result, Ok, Err}
+use Prim.Native.Nat.{ℕ, ◌≤◌}
 use native.Mathlib.Omega.{arith}
 use borrow.Author.Tests.{le-ltb}
 use lib.Dec.{ltb}
 use mathlib.Core.Bool.{Bool, true, false, cond}
 use lib.ListN.{length, get_or, take, drop}
 use lib.Seq.{take_at}
+use Rattle.std.specs.Prelude.{Result, Ok, Err, ⊤}
 use Rattle.paths.specs.Path.{All, none, more}
 use Rattle.paths.specs.Judge.{list_answer, list_paths}
-use Rattle.paths.specs.declared.ListAnswer.{ListAnswer}
-use Rattle.paths.specs.declared.ListAnswer.TheVariants as lists
+use Rattle.paths.specs.declared.ListError.{ListError}
+use Rattle.paths.specs.declared.ListError.TheVariants as lists
 use Rattle.document.specs.Judge.{judge_of}
-use Rattle.document.specs.declared.judge.Judged.{Judged}
-use Rattle.document.specs.declared.judge.Judged.TheVariants as judged
+use Rattle.document.specs.declared.DocumentError.{DocumentError}
 use Rattle.trees.specs.Written.{cut_of, count_of}
 use Rattle.cutter.specs.Answer as single
 use Rattle.covers.specs.Cover.{Covered}
@@ -26,15 +27,15 @@ use Rattle.demands.proofs.Demands.{Answered, demand_1}
 use Rattle.demands.proofs.Demand3.{cut_accepted, cut_again, count_again}
 use Rattle.bundle.specs.Batch.{print_batch, entries_of, layout_of}
 use Rattle.bundle.specs.Layout.{Bytes, sound}
-use Rattle.bundle.specs.declared.Layout.{Layout}
-use Rattle.bundle.specs.declared.Layout.TheVariants as layout
+use Rattle.bundle.specs.declared.LayoutError.{LayoutError}
 use Rattle.bundle.proofs.Layouts.{only_layout}
 use Rattle.batch.specs.Answer.{of_sound, entry_of, selected_of, result_of, sum, selected_in, by_list, by_layout}
 use Rattle.batch.specs.Answer.{batch_of}
 use Rattle.batch.specs.Answer.{after, batch_bytes, number_of, second_of, third_of}
 use Rattle.batch.specs.Says.{BatchSays}
-use Rattle.batch.specs.declared.BatchAnswer.{BatchAnswer}
-use Rattle.batch.specs.declared.BatchAnswer.TheVariants.{Written, ListTooLong, ListMalformed, ListTooLarge, BadBatch, Short}
+use Rattle.batch.specs.declared.Batch.{Batch}
+use Rattle.batch.specs.declared.BatchError.{BatchError}
+use Rattle.batch.specs.declared.BatchError.TheVariants as errors
 use Rattle.batch.proofs.Bounds.{selected_under}
 use Rattle.batch.proofs.Saying.{says_batch, only_batch}
 use Rattle.batch.proofs.Alone.{Alone, entry_alone, empty_entry, entries_result, entry_at}
@@ -52,7 +53,7 @@ pub record EntryAt (list b : List ℕ) (i : ℕ) (o : List ℕ) : Type 0 where
       → Alone (single.answer_of list document (length o)) o (single.bytes_after list document o) entry (selected_of list document)
   pub answered : Answered list document o (single.answer_of list document (length o)) (single.bytes_after list document o)
 
-pub entry_i : (list b : List ℕ) (i : ℕ) (o : List ℕ) → list_answer list ≡ lists.Sound → layout_of b ≡ layout.Sound → EntryAt list b i o
+pub entry_i : (list b : List ℕ) (i : ℕ) (o : List ℕ) → list_answer list ≡ Ok tt → layout_of b ≡ Ok tt → EntryAt list b i o
 entry_i list b i o p e =
     let d = get_or (entries_of b) i [] in
     record {
@@ -66,10 +67,10 @@ entry_i list b i o p e =
 
 -- ---- demand 1: every list, batch and buffer gets an answer, and a refusal of the whole changes no byte
 
-pub record BatchAnswered (list b o : List ℕ) (a : BatchAnswer) (o' : List ℕ) : Type 0 where
+pub record BatchAnswered (list b o : List ℕ) (a : Result Batch BatchError) (o' : List ℕ) : Type 0 where
   -- the answer that document 02 says, with its place, and the only one
   pub says : BatchSays list b (length o) a
-  pub only : (x : BatchAnswer) → BatchSays list b (length o) x → x ≡ a
+  pub only : (x : Result Batch BatchError) → BatchSays list b (length o) x → x ≡ a
   -- under 0 the numbers are the result's own, and it stands at the front of the buffer; the bytes after it stay
   pub written : number_of a ≡ 0
       → (second_of a ≡ length (result_of list b)) × (third_of a ≡ selected_in list b) × (o' ≡ result_of list b ++ drop (second_of a) o)
@@ -82,27 +83,23 @@ written_is : (list b o : List ℕ) → number_of (batch_of list b (length o)) �
 unfolding batch_of batch_bytes
 written_is list b o = go (list_answer list) (layout_of b) (ltb (length o) (length (result_of list b)))
   where
-    said : ListAnswer → Layout → Bool → BatchAnswer
-    said l y x = by_list l (by_layout y (cond x (Short (length (result_of list b)))
-        (Written (length (result_of list b)) (selected_in list b))))
+    said : Result ⊤ ListError → Result ⊤ LayoutError → Bool → Result Batch BatchError
+    said l y x = by_list l (by_layout y (cond x (Err (errors.Short (length (result_of list b))))
+        (Ok (record { length = length (result_of list b); selected = selected_in list b }))))
 
-    go : (l : ListAnswer) (y : Layout) (x : Bool) → number_of (said l y x) ≡ 0
+    go : (l : Result ⊤ ListError) (y : Result ⊤ LayoutError) (x : Bool) → number_of (said l y x) ≡ 0
         → (second_of (said l y x) ≡ length (result_of list b)) × (third_of (said l y x) ≡ selected_in list b)
         × (after (said l y x) (result_of list b) o ≡ result_of list b ++ drop (second_of (said l y x)) o)
-    go lists.Sound layout.Sound false z = (refl, refl, refl)
-    go lists.Sound layout.Sound true z = absurd (omega (arith, z))
-    go lists.Sound (layout.AtFault k) x z = absurd (omega (arith, z))
-    go lists.TooLong y x z = absurd (omega (arith, z))
-    go (lists.Malformed k) y x z = absurd (omega (arith, z))
-    go (lists.TooLarge k) y x z = absurd (omega (arith, z))
+    go (Ok _) (Ok _) false z = (refl, refl, refl)
+    go (Ok _) (Ok _) true z = absurd (omega (arith, z))
+    go (Ok _) (Err k) x z = absurd (omega (arith, z))
+    go (Err lists.TooLong) y x z = absurd (omega (arith, z))
+    go (Err (lists.Malformed k)) y x z = absurd (omega (arith, z))
+    go (Err (lists.TooLarge k)) y x z = absurd (omega (arith, z))
 
-refused_is : (a : BatchAnswer) (w o : List ℕ) → (number_of a ≡ 0 → ⊥) → (third_of a ≡ 0) × (after a w o ≡ o)
-refused_is (Written n c) w o h = absurd (h refl)
-refused_is ListTooLong w o h = (refl, refl)
-refused_is (ListMalformed n) w o h = (refl, refl)
-refused_is (ListTooLarge n) w o h = (refl, refl)
-refused_is (BadBatch n) w o h = (refl, refl)
-refused_is (Short n) w o h = (refl, refl)
+refused_is : (a : Result Batch BatchError) (w o : List ℕ) → (number_of a ≡ 0 → ⊥) → (third_of a ≡ 0) × (after a w o ≡ o)
+refused_is (Ok x) w o h = absurd (h refl)
+refused_is (Err e) w o h = (refl, refl)
 
 pub batch_demand_1 : (list b o : List ℕ) → Bytes b → BatchAnswered list b o (batch_of list b (length o)) (batch_bytes list b o)
 unfolding batch_bytes
@@ -122,14 +119,11 @@ module _ (narrow wide : List ℕ) (covered : Covered (list_paths narrow) (list_p
   unfolding entry_of
   entry_again d l = go (judge_of d) refl l
     where
-      go : (j : Judged) → judge_of d ≡ j → length (of_sound j (cut_of wide d) []) ≤ 16777216
+      go : (j : Result ⊤ DocumentError) → judge_of d ≡ j → length (of_sound j (cut_of wide d) []) ≤ 16777216
           → of_sound (judge_of (of_sound j (cut_of wide d) [])) (cut_of narrow (of_sound j (cut_of wide d) [])) []
           ≡ of_sound j (cut_of narrow d) []
-      go judged.Sound e l = rw (cut_accepted narrow wide d covered e l) (cut_again narrow wide d covered e l)
-      go judged.TooLong e l = empty_entry narrow
-      go (judged.OtherEncoding k) e l = empty_entry narrow
-      go (judged.NotChar k) e l = empty_entry narrow
-      go (judged.AtFault why k) e l = empty_entry narrow
+      go (Ok _) e l = rw (cut_accepted narrow wide d covered e l) (cut_again narrow wide d covered e l)
+      go (Err x) e l = empty_entry narrow
 
   empty_selected : selected_of narrow [] ≡ 0
   empty_selected = omega (arith, selected_under narrow [])
@@ -138,14 +132,11 @@ module _ (narrow wide : List ℕ) (covered : Covered (list_paths narrow) (list_p
   unfolding entry_of selected_of
   selected_again d l = go (judge_of d) refl l
     where
-      go : (j : Judged) → judge_of d ≡ j → length (of_sound j (cut_of wide d) []) ≤ 16777216
+      go : (j : Result ⊤ DocumentError) → judge_of d ≡ j → length (of_sound j (cut_of wide d) []) ≤ 16777216
           → of_sound (judge_of (of_sound j (cut_of wide d) [])) (count_of narrow (of_sound j (cut_of wide d) [])) 0
           ≡ of_sound j (count_of narrow d) 0
-      go judged.Sound e l = rw (cut_accepted narrow wide d covered e l) (count_again narrow wide d covered e l)
-      go judged.TooLong e l = empty_selected
-      go (judged.OtherEncoding k) e l = empty_selected
-      go (judged.NotChar k) e l = empty_selected
-      go (judged.AtFault why k) e l = empty_selected
+      go (Ok _) e l = rw (cut_accepted narrow wide d covered e l) (count_again narrow wide d covered e l)
+      go (Err x) e l = empty_selected
 
   entries_again : (ds : List (List ℕ)) → All (λ d. length (entry_of wide d) ≤ 16777216) ds
       → map (entry_of narrow) (map (entry_of wide) ds) ≡ map (entry_of narrow) ds
@@ -159,7 +150,7 @@ module _ (narrow wide : List ℕ) (covered : Covered (list_paths narrow) (list_p
   sums_again [] none = refl
   sums_again (d ∷ ds) (more h hs) = omega (arith, selected_again d h, sums_again ds hs)
 
-  module _ (b : List ℕ) (e : layout_of b ≡ layout.Sound) (sizes : All (λ d. length (entry_of wide d) ≤ 16777216) (entries_of b)) where
+  module _ (b : List ℕ) (e : layout_of b ≡ Ok tt) (sizes : All (λ d. length (entry_of wide d) ≤ 16777216) (entries_of b)) where
     pub result_again : result_of narrow (result_of wide b) ≡ result_of narrow b
     unfolding result_of
     result_again =
@@ -172,23 +163,25 @@ module _ (narrow wide : List ℕ) (covered : Covered (list_paths narrow) (list_p
         ap (λ (ds : List (List ℕ)). sum (map (selected_of narrow) ds)) (entries_result wide b e) ∙ sums_again (entries_of b) sizes
 
 -- a result is a sound batch itself, where it is not too long for one
-pub result_sound : (list b : List ℕ) → length (result_of list b) ≤ 67108864 → layout_of (result_of list b) ≡ layout.Sound
+pub result_sound : (list b : List ℕ) → length (result_of list b) ≤ 67108864 → layout_of (result_of list b) ≡ Ok tt
 unfolding result_of
 result_sound list b l = sym (only_layout (result_of list b) (sound (map (entry_of list) (entries_of b)) refl l))
 
 -- what is answered and left by a sound list, of a sound batch and with room enough
-batch_answers : (list b o : List ℕ) → list_answer list ≡ lists.Sound → layout_of b ≡ layout.Sound → length (result_of list b) ≤ length o
-    → (batch_of list b (length o) ≡ Written (length (result_of list b)) (selected_in list b))
+batch_answers : (list b o : List ℕ) → list_answer list ≡ Ok tt → layout_of b ≡ Ok tt → length (result_of list b) ≤ length o
+    → (batch_of list b (length o) ≡ Ok (record { length = length (result_of list b); selected = selected_in list b }))
     × (batch_bytes list b o ≡ result_of list b ++ drop (length (result_of list b)) o)
 unfolding batch_of batch_bytes
 batch_answers list b o p e l = rw (p, e, le-ltb (length o) (length (result_of list b)) l) (refl, refl)
 
 -- Of two calls: the first writes the wide result, n bytes, at the front of the buffer o; the second takes these bytes as a batch, into the
 -- buffer o'. "as long as the wide result is within the batch size and its cuts within the document size".
-pub batch_demand_3_covered : (narrow wide b o o' : List ℕ) (n k : ℕ) → list_answer narrow ≡ lists.Sound → list_answer wide ≡ lists.Sound
-    → Covered (list_paths narrow) (list_paths wide) → layout_of b ≡ layout.Sound → batch_of wide b (length o) ≡ Written n k → n ≤ 67108864
+pub batch_demand_3_covered : (narrow wide b o o' : List ℕ) (n k : ℕ) → list_answer narrow ≡ Ok tt → list_answer wide ≡ Ok tt
+    → Covered (list_paths narrow) (list_paths wide) → layout_of b ≡ Ok tt
+    → batch_of wide b (length o) ≡ Ok (record { length = n; selected = k }) → n ≤ 67108864
     → All (λ d. length (entry_of wide d) ≤ 16777216) (entries_of b) → length (result_of narrow b) ≤ length o'
-    → (batch_of narrow (take n (batch_bytes wide b o)) (length o') ≡ Written (length (result_of narrow b)) (selected_in narrow b))
+    → (batch_of narrow (take n (batch_bytes wide b o)) (length o')
+    ≡ Ok (record { length = length (result_of narrow b); selected = selected_in narrow b }))
     × (batch_bytes narrow (take n (batch_bytes wide b o)) o' ≡ result_of narrow b ++ drop (length (result_of narrow b)) o')
 batch_demand_3_covered narrow wide b o o' n k p q covered e a size sizes room =
     let z = written_is wide b o (ap number_of a) in
@@ -201,10 +194,12 @@ batch_demand_3_covered narrow wide b o o' n k p q covered e a size sizes room =
     rw t (rw (r, sum_again narrow wide covered b e sizes) at y)
 
 -- the same where each narrow path stands in the wide list
-pub batch_demand_3 : (narrow wide b o o' : List ℕ) (n k : ℕ) → list_answer narrow ≡ lists.Sound → list_answer wide ≡ lists.Sound
-    → Within (list_paths narrow) (list_paths wide) → layout_of b ≡ layout.Sound → batch_of wide b (length o) ≡ Written n k → n ≤ 67108864
+pub batch_demand_3 : (narrow wide b o o' : List ℕ) (n k : ℕ) → list_answer narrow ≡ Ok tt → list_answer wide ≡ Ok tt
+    → Within (list_paths narrow) (list_paths wide) → layout_of b ≡ Ok tt
+    → batch_of wide b (length o) ≡ Ok (record { length = n; selected = k }) → n ≤ 67108864
     → All (λ d. length (entry_of wide d) ≤ 16777216) (entries_of b) → length (result_of narrow b) ≤ length o'
-    → (batch_of narrow (take n (batch_bytes wide b o)) (length o') ≡ Written (length (result_of narrow b)) (selected_in narrow b))
+    → (batch_of narrow (take n (batch_bytes wide b o)) (length o')
+    ≡ Ok (record { length = length (result_of narrow b); selected = selected_in narrow b }))
     × (batch_bytes narrow (take n (batch_bytes wide b o)) o' ≡ result_of narrow b ++ drop (length (result_of narrow b)) o')
 batch_demand_3 narrow wide b o o' n k p q within =
     batch_demand_3_covered narrow wide b o o' n k p q (within_covered within)

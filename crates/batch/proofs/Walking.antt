@@ -2,12 +2,12 @@
 -- before and the entries of the documents from there on. In order: the next document; measuring; filling.
 use mathlib.Core.Path.{◌≡◌, refl, sym, ap, ◌∙◌}
 use mathlib.Core.List.{List, [], ◌∷◌, ◌++◌, map, append_assoc, append-nil}
+use Rattle.std.specs.Prelude.{Ok}
 use Prim.Native.Nat.{ℕ, ◌+◌, ◌-◌, ◌≤◌, ◌<◌}
 use native.Mathlib.Omega.{arith}
 use lib.ListN.{length, take, drop, set, length-append, length-drop, length-set, drop_of_length-le}
 use lib.Seq.{drop-drop, drop_at, take_at, take_all, drop-set-lt}
 use Rattle.bundle.specs.Batch.{big, print_entries, number_at, entries_from, entries_of, layout_of}
-use Rattle.bundle.specs.declared.Layout.TheVariants.{Sound}
 use Rattle.bundle.proofs.Entries.{document_at, next_at, at_whole, at_end, Stands, stands_whole, stands_next, entry_long}
 use Rattle.bundle.proofs.Judging.{sound_whole}
 use Rattle.batch.specs.Answer.{entry_of, selected_of, result_of, sum, selected_in}
@@ -52,7 +52,7 @@ module _ (list b : List ℕ) where
     pub under : length (result_of list b) ≤ 134217728
     pub is : length (result_of list b) ≡ needed + length (rest_from at)
 
-  pub measure_start : layout_of b ≡ Sound → Measuring 1 1
+  pub measure_start : layout_of b ≡ Ok tt → Measuring 1 1
   unfolding result_of entries_of
   measure_start e =
       let w = sound_whole b e in
@@ -220,7 +220,7 @@ module _ (list b o : List ℕ) where
   unfolding result_of
   fill_some l = omega arith
 
-  pub fill_start : layout_of b ≡ Sound → length (result_of list b) ≤ length o → Filling list b (set o 0 1) 1 1 0 (set o 0 1)
+  pub fill_start : layout_of b ≡ Ok tt → length (result_of list b) ≤ length o → Filling list b (set o 0 1) 1 1 0 (set o 0 1)
   unfolding result_of entries_of selected_in
   fill_start e l =
       let w = sound_whole b e in

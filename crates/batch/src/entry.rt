@@ -7,7 +7,9 @@ ghost use Rattle.batch.specs.Told.{told_of, part_of};
 
 use bundle::lay_length;
 use compiled::Compiled;
-use cutter::{Answer, cut_by_with};
+use cutter::answer::Cut;
+use cutter::cut_by_with;
+use refusals::CutError;
 
 // How many bytes, and how many elements selected: of one entry behind its length, or of a whole result.
 #[derive(Drop)]
@@ -17,20 +19,23 @@ pub struct Part {
 }
 
 // What a document's answer says of its entry; where there was no room, its length.
-fn told(a: Answer) -> Part
+fn told(a: Result<Cut, CutError>) -> Part
     ensures { result ≡ told_of a }
 {
     match a {
-        Answer::Written {
-            length,
-            selected,
-            tests: _,
-        } => Part { length, selected },
-        Answer::Short(length) => Part {
+        Ok(cut) => Part {
+            length: cut.length,
+            selected: cut.selected,
+        },
+        Err(CutError::Short(length)) => Part {
             length,
             selected: 0,
         },
-        _ => Part {
+        Err(CutError::List(_)) => Part {
+            length: 0,
+            selected: 0,
+        },
+        Err(CutError::Document(_)) => Part {
             length: 0,
             selected: 0,
         },

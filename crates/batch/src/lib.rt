@@ -12,54 +12,71 @@
 // measured first, document by document.
 #![tactic(auto)]
 
-ghost use Rattle.std.specs.Prelude.{◌≡◌, ◌≤◌, length};
+ghost use Rattle.std.specs.Prelude.{◌≡◌, ◌≤◌, length, Ok};
 ghost use Rattle.matcher.specs.Fit.{Serves};
 ghost use Rattle.bundle.specs.Batch.{layout_of};
-ghost use Rattle.bundle.specs.declared.Layout.TheVariants.{Sound};
 ghost use Rattle.batch.specs.Answer.{result_of, batch_by, batch_bytes_by, batch_of, batch_bytes};
+ghost use Rattle.batch.specs.declared.BatchError.TheVariants as errors;
 
-use bundle::{Layout, judge};
+use bundle::{LayoutError, judge};
 use compiled::Compiled;
 use compiled::compile::read;
-use paths::ListAnswer;
+use paths::ListError;
 use walk::{fill, measure};
 
 mod entry; // one document
 mod walk; // all of them
 
-// What is answered: the result is written, with its length and the number of elements selected in all documents; the list is too long; a
-// line of it is malformed, or too large; the version byte or a length of the batch, at a place, is at fault; the buffer is too short for
-// the result, which has this length.
-#[derive(Drop)]
-pub enum BatchAnswer {
-    Written { length: usize, selected: usize },
-    ListTooLong,
-    ListMalformed(usize),
-    ListTooLarge(usize),
+// A result that is written: its length and the number of elements selected in all documents.
+#[derive(Clone, Copy, Debug, PartialEq, Eq)]
+pub struct Batch {
+    pub length: usize,
+    pub selected: usize,
+}
+
+// Why no result is written: the list is refused; the version byte or a length of the batch, at a place, is at fault; the buffer is too
+// short for the result, which has this length.
+#[derive(Clone, Copy, Debug, PartialEq, Eq)]
+pub enum BatchError {
+    List(ListError),
     BadBatch(usize),
     Short(usize),
+}
+
+impl From<ListError> for BatchError {
+    ghost from_gives = { λ e r. r ≡ errors.List e };
+
+    fn from(e: ListError) -> BatchError {
+        BatchError::List(e)
+    }
 }
 
 // The length of the log that a call has of its own, for all documents: 32 KiB of stack.
 const NOTES: usize = 4096;
 
 // By the tables of a sound list, a batch whose layout is sound, in a buffer with room for the result.
-fn filled(list: &[u8], t: &Compiled, batch: &[u8], out: &mut [u8], log: &mut [u64]) -> BatchAnswer
-    requires { Serves list.now t.now × (layout_of batch.now ≡ Sound)
+fn filled(
+    list: &[u8],
+    t: &Compiled,
+    batch: &[u8],
+    out: &mut [u8],
+    log: &mut [u64],
+) -> Result<Batch, BatchError>
+    requires { Serves list.now t.now × (layout_of batch.now ≡ Ok tt)
         × (length (result_of list.now batch.now) ≤ length out.old) }
     ensures value { result ≡ batch_by list.now batch.now (length out.old) }
     ensures out_after { out.new ≡ batch_bytes_by list.now batch.now out.old }
 {
     let part = fill(list, t, batch, out, log);
-    BatchAnswer::Written {
+    Ok(Batch {
         length: part.length,
         selected: part.selected,
-    }
+    })
 }
 
 // The same in any buffer: the result is measured where the room may be short.
-fn written(list: &[u8], t: &Compiled, batch: &[u8], out: &mut [u8]) -> BatchAnswer
-    requires { Serves list.now t.now × (layout_of batch.now ≡ Sound) }
+fn written(list: &[u8], t: &Compiled, batch: &[u8], out: &mut [u8]) -> Result<Batch, BatchError>
+    requires { Serves list.now t.now × (layout_of batch.now ≡ Ok tt) }
     ensures value { result ≡ batch_by list.now batch.now (length out.old) }
     ensures out_after { out.new ≡ batch_bytes_by list.now batch.now out.old }
 {
@@ -69,33 +86,34 @@ fn written(list: &[u8], t: &Compiled, batch: &[u8], out: &mut [u8]) -> BatchAnsw
     }
     let needed = measure(list, t, batch, &mut log);
     if out.len() < needed {
-        return BatchAnswer::Short(needed);
+        return Err(BatchError::Short(needed));
     }
     filled(list, t, batch, out, &mut log)
 }
 
 // By the tables of a sound list, any batch and any buffer.
-pub fn cut_all_by(list: &[u8], t: &Compiled, batch: &[u8], out: &mut [u8]) -> BatchAnswer
+pub fn cut_all_by(
+    list: &[u8],
+    t: &Compiled,
+    batch: &[u8],
+    out: &mut [u8],
+) -> Result<Batch, BatchError>
     requires { Serves list.now t.now }
     ensures value { result ≡ batch_by list.now batch.now (length out.old) }
     ensures out_after { out.new ≡ batch_bytes_by list.now batch.now out.old }
 {
     match judge(batch) {
-        Layout::Sound => written(list, t, batch, out),
-        Layout::AtFault(at) => BatchAnswer::BadBatch(at),
+        Ok(()) => written(list, t, batch, out),
+        Err(LayoutError { at }) => Err(BatchError::BadBatch(at)),
     }
 }
 
 // Any list, any batch and any buffer. Only under 0 is a byte of the buffer changed, and then none after the result.
-pub fn cut_all(list: &[u8], batch: &[u8], out: &mut [u8]) -> BatchAnswer
+pub fn cut_all(list: &[u8], batch: &[u8], out: &mut [u8]) -> Result<Batch, BatchError>
     ensures value { result ≡ batch_of list.now batch.now (length out.old) }
     ensures out_after { out.new ≡ batch_bytes list.now batch.now out.old }
 {
     let mut t = [0u16; compiled::layout::LENGTH];
-    match read(list, &mut t) {
-        ListAnswer::Sound => cut_all_by(list, &t, batch, out),
-        ListAnswer::TooLong => BatchAnswer::ListTooLong,
-        ListAnswer::Malformed(line) => BatchAnswer::ListMalformed(line),
-        ListAnswer::TooLarge(line) => BatchAnswer::ListTooLarge(line),
-    }
+    read(list, &mut t)?;
+    cut_all_by(list, &t, batch, out)
 }

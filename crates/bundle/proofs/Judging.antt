@@ -1,32 +1,16 @@
--- The functions over a batch's bytes. In order: the length at a place, and one that is laid; the layout, one law for each way out, and for
--- the loop an invariant, `Judging`: whole entries reach from the place as far as they do from the front; what a sound layout says.
+-- The functions over a batch's bytes. In order: the layout, one law for each way out, and for the loop an invariant, `Judging`: whole
+-- entries reach from the place as far as they do from the front; what a sound layout says.
 use mathlib.Core.Path.{◌≡◌, refl, sym, ap, ◌∙◌}
 use mathlib.Core.Bool.{Bool, true, false, cond}
 use mathlib.Core.List.{List, []}
-use Prim.Native.Nat.{ℕ, zero, suc, ◌+◌, ◌-◌, ◌*◌, ◌≤◌, ◌<◌}
-use native.Mathlib.Nat.{add-zero}
+use Rattle.std.specs.Prelude.{Ok}
+use Prim.Native.Nat.{ℕ, zero, suc, ◌+◌, ◌-◌, ◌≤◌, ◌<◌}
 use native.Mathlib.Omega.{arith}
 use borrow.Author.Tests.{eq-eqb, ne_eqb, lt-ltb, le-ltb, eqb-true, eqb-false, ltb-false}
 use lib.Dec.{ltb, eqb}
-use lib.ListN.{length, get_or, drop, set, length-set}
-use lib.Seq.{get_or-drop}
-use Rattle.bundle.specs.Batch.{print_entries, number_at, entries_from, entries_of, reach_of, layout_of}
-use Rattle.bundle.specs.declared.Layout.TheVariants.{Sound, AtFault}
+use lib.ListN.{length, get_or, drop}
+use Rattle.bundle.specs.Batch.{print_entries, number_at, entries_from, entries_of, reach_of, fault_at, layout_of}
 use Rattle.bundle.proofs.Entries.{next_at, document_at, at_whole, at_fault, at_end, document_long, entry_long, entries_inside, Stands}
-
--- ---- the length at a place
-
-pub length_told : (b : List ℕ) (at : ℕ) {w x y z : ℕ} → w ≡ get_or b at 0 → x ≡ get_or b (at + 1) 0 → y ≡ get_or b (at + 2) 0
-    → z ≡ get_or b (at + 3) 0 → w * 16777216 + x * 65536 + y * 256 + z ≡ number_at (drop at b)
-length_told b at p q r s =
-    rw (get_or-drop at b 0 0, get_or-drop at b 1 0, get_or-drop at b 2 0, get_or-drop at b 3 0, add-zero at, p, q, r, s) refl
-
--- four bytes fit after stores before them
-pub second_fits : (o : List ℕ) (v : ℕ) → 4 ≤ length o → 1 < length (set o 0 v)
-second_fits o v h = omega (arith, length-set o 0 v)
-
-pub third_fits : (o : List ℕ) (v w : ℕ) → 4 ≤ length o → 2 < length (set (set o 0 v) 1 w)
-third_fits o v w h = omega (arith, length-set o 0 v, length-set (set o 0 v) 1 w)
 
 -- ---- the layout
 
@@ -35,15 +19,15 @@ positive zero h = absurd (h refl)
 positive (suc k) h = omega arith
 
 module _ (b : List ℕ) where
-  pub judge_empty : length b ≡ 0 → AtFault 0 ≡ layout_of b
+  pub judge_empty : length b ≡ 0 → fault_at 0 ≡ layout_of b
   unfolding layout_of
   judge_empty e = rw (eq-eqb (length b) 0 e) refl
 
-  pub judge_over : 67108864 < length b → AtFault 0 ≡ layout_of b
+  pub judge_over : 67108864 < length b → fault_at 0 ≡ layout_of b
   unfolding layout_of
   judge_over l = rw (ne_eqb (length b) 0 (λ e. omega (arith, e)), lt-ltb 67108864 (length b) l) refl
 
-  pub judge_version : (length b ≡ 0 → ⊥) → length b ≤ 67108864 → (get_or b 0 0 ≡ 1 → ⊥) → AtFault 0 ≡ layout_of b
+  pub judge_version : (length b ≡ 0 → ⊥) → length b ≤ 67108864 → (get_or b 0 0 ≡ 1 → ⊥) → fault_at 0 ≡ layout_of b
   unfolding layout_of
   judge_version n l v =
       rw (ne_eqb (length b) 0 n, le-ltb 67108864 (length b) l, ne_eqb (get_or b 0 0) 1 v) refl
@@ -54,7 +38,7 @@ module _ (b : List ℕ) where
     pub small : length b ≤ 67108864
     pub version : get_or b 0 0 ≡ 1
 
-  pub front_judged : Fronted → {x : Bool} → ltb (reach_of b) (length b) ≡ x → cond x (AtFault (reach_of b)) Sound ≡ layout_of b
+  pub front_judged : Fronted → {x : Bool} → ltb (reach_of b) (length b) ≡ x → cond x (fault_at (reach_of b)) (Ok tt) ≡ layout_of b
   unfolding layout_of
   front_judged f e =
       rw (ne_eqb (length b) 0 f.some, le-ltb 67108864 (length b) f.small, eq-eqb (get_or b 0 0) 1 f.version, e) refl
@@ -75,17 +59,17 @@ module _ (b : List ℕ) where
       }
 
   module _ {at : ℕ} (j : Judging at) where
-    fault_judged : at < length b → entries_from at b ≡ [] → AtFault at ≡ layout_of b
+    fault_judged : at < length b → entries_from at b ≡ [] → fault_at at ≡ layout_of b
     fault_judged l e =
         let z = ap (λ (ds : List (List ℕ)). length (print_entries ds)) e in
         let q : reach_of b ≡ at = omega (arith, z, j.reach) in
-        ap AtFault (sym q) ∙ front_judged j.front (lt-ltb (reach_of b) (length b) (omega (arith, q)))
+        ap fault_at (sym q) ∙ front_judged j.front (lt-ltb (reach_of b) (length b) (omega (arith, q)))
 
-    pub judge_short : at < length b → length b - at < 4 → AtFault at ≡ layout_of b
+    pub judge_short : at < length b → length b - at < 4 → fault_at at ≡ layout_of b
     judge_short l h = fault_judged l (at_fault b at (omega arith))
 
     module _ {n : ℕ} (e : n ≡ number_at (drop at b)) (four : 4 ≤ length b - at) where
-      pub judge_past : at < length b → length b - (at + 4) < n → AtFault at ≡ layout_of b
+      pub judge_past : at < length b → length b - (at + 4) < n → fault_at at ≡ layout_of b
       judge_past l h = fault_judged l (at_fault b at (omega (arith, e)))
 
       pub judge_next : n ≤ length b - (at + 4) → Judging (at + 4 + n)
@@ -100,10 +84,12 @@ module _ (b : List ℕ) where
                 omega (arith, z, j.reach, document_long b at f, entry_long (document_at b at) (entries_from (next_at b at) b));
           })
 
-    pub judge_sound : length b ≤ at → Sound ≡ layout_of b
+    pub judge_sound : length b ≤ at → Ok tt ≡ layout_of b
     judge_sound l =
         let z = ap (λ (ds : List (List ℕ)). length (print_entries ds)) (at_end b at l) in
         front_judged j.front (le-ltb (reach_of b) (length b) (omega (arith, z, j.reach)))
+
+pub ruleset judging = (judge_empty, judge_over, judge_version, judge_start, judge_short, judge_past, judge_next, judge_sound)
 
 -- ---- what a sound layout says
 
@@ -112,11 +98,11 @@ pub record Whole (b : List ℕ) : Type 0 where
   pub version : get_or b 0 0 ≡ 1
   pub stands : Stands b 1
 
-no_fault : {k : ℕ} → AtFault k ≡ Sound → ⊥
+no_fault : {k : ℕ} → fault_at k ≡ Ok tt → ⊥
 no_fault h = let z : ◌≡◌ {A = ℕ} 0 1 = cc in omega arith
 
 tests_passed : (k : ℕ) (p q r s : Bool)
-    → cond p (AtFault 0) (cond q (AtFault 0) (cond r (cond s (AtFault k) Sound) (AtFault 0))) ≡ Sound
+    → cond p (fault_at 0) (cond q (fault_at 0) (cond r (cond s (fault_at k) (Ok tt)) (fault_at 0))) ≡ Ok tt
     → (p ≡ false) × (q ≡ false) × (r ≡ true) × (s ≡ false)
 tests_passed k true q r s h = absurd (no_fault h)
 tests_passed k false true r s h = absurd (no_fault h)
@@ -124,7 +110,7 @@ tests_passed k false false false s h = absurd (no_fault h)
 tests_passed k false false true true h = absurd (no_fault h)
 tests_passed k false false true false h = (refl, refl, refl, refl)
 
-pub sound_whole : (b : List ℕ) → layout_of b ≡ Sound → Whole b
+pub sound_whole : (b : List ℕ) → layout_of b ≡ Ok tt → Whole b
 unfolding layout_of reach_of entries_of
 sound_whole b h =
     let (p, q, r, s) =

@@ -5,7 +5,8 @@ use mathlib.Core.Path.{◌≡◌, refl, sym, ap, subst, ◌∙◌}
 use mathlib.Core.Bool.{Bool, true, false}
 use mathlib.Core.List.{List, [], ◌∷◌, ◌++◌, append_assoc, append-nil}
 use mathlib.Core.Logic.{◌⊎◌, inl, inr}
-use Prim.Native.Nat.{ℕ, zero, suc, ◌+◌, ◌-◌, ◌*◌, ◌/◌, ◌%◌, ◌≤◌, ◌<◌}
+use Rattle.std.specs.Prelude.{Result}
+use Prim.Native.Nat.{ℕ, zero, suc, ◌+◌, ◌*◌, ◌/◌, ◌%◌, ◌≤◌, ◌<◌}
 use native.Mathlib.Omega.{arith}
 use borrow.Author.Tests.{le-leb, lt-leb, leb-true, leb-false, eqb-true, eqb-false, ltb-true, ltb-false, lt-ltb, le-ltb}
 use lib.Dec.{ltb, eqb}
@@ -13,7 +14,7 @@ use lib.ListN.{length, get_or, take, drop, length-append, length-drop, take-appe
 use lib.Seq.{take_at, drop_at, length-take-le}
 use Rattle.bundle.specs.Batch.{big, print_entries, print_batch, number_at, whole_at, entries_from, entries_of, reach_of, layout_of}
 use Rattle.bundle.specs.Layout.{Bytes, CutShort, RunsPast, LayoutSays, empty, over, version, bad_length, sound}
-use Rattle.bundle.specs.declared.Layout.{Layout}
+use Rattle.bundle.specs.declared.LayoutError.{LayoutError}
 use Rattle.bundle.proofs.Entries.{entries_drop, entries_skip, front_whole, front_fault, entry_long}
 use Rattle.bundle.proofs.Judging.{judge_empty, judge_over, judge_version, Fronted, front_judged}
 
@@ -199,7 +200,7 @@ reach_printed ds t l e =
     ∙ ap (λ (es : List (List ℕ)). ds ++ es) (front_fault t e)
     ∙ append-nil ds)
 
-pub only_layout : (b : List ℕ) {l : Layout} → LayoutSays b l → l ≡ layout_of b
+pub only_layout : (b : List ℕ) {l : Result (Unit {0}) LayoutError} → LayoutSays b l → l ≡ layout_of b
 only_layout b (empty e) = judge_empty b (ap length e)
 only_layout b (over l) = judge_over b l
 only_layout b (version {v} {s} e l n) =

@@ -2,8 +2,8 @@
 -- bytes." So a batch is a list of documents, and its bytes are what it prints as. In order: the print; the documents that stand in some
 -- bytes, up to the first length at fault; what is answered on the layout. What the answers say is in Layout.antt.
 use Rattle.std.specs.Prelude.{Bool, cond, List, [], ◌∷◌, ◌++◌, ℕ, zero, suc, ◌+◌, ◌*◌, ◌/◌, ◌%◌, leb, ltb, eqb, length, get_or, take, drop}
-use Rattle.bundle.specs.declared.Layout.{Layout}
-use Rattle.bundle.specs.declared.Layout.TheVariants.{Sound, AtFault}
+use Rattle.std.specs.Prelude.{Result, Ok, Err}
+use Rattle.bundle.specs.declared.LayoutError.{LayoutError}
 
 -- ---- the print
 
@@ -49,10 +49,14 @@ reach_of b = length (print_batch (entries_of b))
 -- ---- the layout: 11 is given "for, in this order, an empty batch, one over 67,108,864 bytes (both offset 0), another version, or the
 -- first length that is cut short or runs past the end"
 
-unfoldable pub layout_of : List ℕ → Layout
+-- the version byte or a length is at fault, at this offset
+abbrev pub fault_at : ℕ → Result (Unit {0}) LayoutError
+fault_at o = Err (record { at = o })
+
+unfoldable pub layout_of : List ℕ → Result (Unit {0}) LayoutError
 layout_of b =
-    cond (eqb (length b) 0) (AtFault 0)
-    (cond (ltb 67108864 (length b)) (AtFault 0)
+    cond (eqb (length b) 0) (fault_at 0)
+    (cond (ltb 67108864 (length b)) (fault_at 0)
     (cond (eqb (get_or b 0 0) 1)
-    (cond (ltb (reach_of b) (length b)) (AtFault (reach_of b)) Sound)
-    (AtFault 0)))
+    (cond (ltb (reach_of b) (length b)) (fault_at (reach_of b)) (Ok tt))
+    (fault_at 0)))

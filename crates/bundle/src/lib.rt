@@ -6,33 +6,22 @@ ghost use Rattle.std.specs.Prelude.{◌≡◌, ◌+◌, ◌≤◌, ◌<◌, leng
 ghost use Rattle.std.proofs.lemmas.List.Edits.{sets};
 ghost use Rattle.bundle.specs.Batch.{big, number_at, layout_of};
 
-// The layout is sound; or the version byte or a length, at a place, is at fault.
-#[derive(Drop)]
-pub enum Layout {
-    Sound,
-    AtFault(usize),
+// The version byte or a length of a batch is at fault: the offset at which it stands.
+#[derive(Clone, Copy, Debug, PartialEq, Eq)]
+pub struct LayoutError {
+    pub at: usize,
 }
 
 // The most bytes that a batch may have.
 pub const BYTES: usize = 67108864;
-
-// A byte as a number.
-fn wide(x: u8) -> usize
-    ensures { (result ≡ x) × (result < 256) }
-{
-    x as usize
-}
 
 // The length that stands at a place: four bytes, the first the highest.
 pub fn length_at(batch: &[u8], at: usize) -> usize
     requires { at + 4 ≤ length batch.now }
     ensures { result ≡ number_at (drop at batch.now) }
 {
-    let a = wide(batch[at]);
-    let b = wide(batch[at + 1]);
-    let c = wide(batch[at + 2]);
-    let d = wide(batch[at + 3]);
-    a * 16777216 + b * 65536 + c * 256 + d
+    let bytes = [batch[at], batch[at + 1], batch[at + 2], batch[at + 3]];
+    u32::from_be_bytes(bytes) as usize
 }
 
 // A length is laid at the front: four bytes, the first the highest.
@@ -47,29 +36,32 @@ pub fn lay_length(out: &mut [u8], n: usize)
 }
 
 // Any bytes: the version, then length by length.
-pub fn judge(batch: &[u8]) -> Layout
+#[tactic(auto, using(crate::proofs::Judging::judging))]
+pub fn judge(batch: &[u8]) -> Result<(), LayoutError>
     ensures { result ≡ layout_of batch.now }
 {
-    if batch.len() == 0 {
-        return Layout::AtFault(0);
+    if batch.is_empty() {
+        return Err(LayoutError { at: 0 });
     }
     if batch.len() > BYTES {
-        return Layout::AtFault(0);
+        return Err(LayoutError { at: 0 });
     }
     if batch[0] != 1 {
-        return Layout::AtFault(0);
+        return Err(LayoutError { at: 0 });
     }
     let mut at: usize = 1;
+
+    // Each turn goes on where the entry before ended, so the place is no count.
     while at < batch.len() {
         if batch.len() - at < 4 {
-            return Layout::AtFault(at);
+            return Err(LayoutError { at });
         }
         let n = length_at(batch, at);
         let from = at + 4;
         if batch.len() - from < n {
-            return Layout::AtFault(at);
+            return Err(LayoutError { at });
         }
         at = from + n;
     }
-    Layout::Sound
+    Ok(())
 }

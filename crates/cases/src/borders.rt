@@ -1,12 +1,10 @@
 // Every code point from 0 on to some past the last, surrogates too, in the bytes that a plain encoder makes of it. A line for each one
 // where an answer differs from the one before: whether a sequence stands there that has this code point and this length, whether all is
 // characters, the class, whether it is a name, and whether it is one after a letter.
-ghost use Rattle.std.specs.Prelude.{◌≡◌, ◌≤◌};
-ghost use Rattle.points.specs.Class.{class_table};
 
 use crate::answers;
-use chars::name::Reading;
-use points::table::Classes;
+use points::class::Classes;
+use std::alloc::{AllocError, Global};
 use std::io;
 use std::io::Write;
 
@@ -17,77 +15,55 @@ fn later(x: u32) -> u8 {
     0x80 + (x % 0x40) as u8
 }
 
-// A letter and the bytes of a code point, and zeros.
-fn encoded(c: u32) -> [u8; 5] {
+// The bytes of a code point.
+fn encoded(alloc: Global, c: u32) -> Result<Vec<u8>, AllocError> {
     let x = later(c / 0x1000);
     let y = later(c / 0x40);
     let z = later(c);
     if c < 0x80 {
-        return [b'a', (c % 0x80) as u8, 0, 0, 0];
+        return Ok(vec![in alloc; c as u8]?);
     }
     if c < 0x800 {
-        return [b'a', 0xC0 + (c / 0x40 % 0x20) as u8, z, 0, 0];
+        return Ok(vec![in alloc; 0xC0 + (c / 0x40) as u8, z]?);
     }
     if c < 0x10000 {
-        return [b'a', 0xE0 + (c / 0x1000 % 0x10) as u8, y, z, 0];
+        return Ok(vec![in alloc; 0xE0 + (c / 0x1000) as u8, y, z]?);
     }
-    [b'a', 0xF0 + (c / 0x40000 % 8) as u8, x, y, z]
+    Ok(vec![in alloc; 0xF0 + (c / 0x40000 % 8) as u8, x, y, z]?)
 }
 
-// How many bytes the letter and a code point have.
-fn width(c: u32) -> usize
-    ensures { (2 ≤ result) × (result ≤ 5) }
-{
-    if c < 0x80 {
-        return 2;
-    }
-    if c < 0x800 {
-        return 3;
-    }
-    if c < 0x10000 {
-        return 4;
-    }
-    5
-}
-
-fn is_name(classes: &Classes, s: &[u8]) -> bool
-    requires { classes.now ≡ class_table }
-{
+fn is_name(classes: &Classes, s: &[u8]) -> bool {
     match chars::name::name_by(classes, s, 0) {
-        Reading::Ends(e) => e == s.len(),
-        Reading::Fault => false,
+        Some(e) => e == s.len(),
+        None => false,
     }
 }
 
 // Some digits, and one more.
-fn digit(digits: usize, x: usize) -> usize {
-    digits % 10000 * 10 + x % 10
+fn digit(digits: u32, x: u8) -> u32 {
+    digits % 10000 * 10 + u32::from(x % 10)
 }
 
 // What is seen of c, a digit for each answer.
-fn look(classes: &Classes, c: u32) -> usize
-    requires { classes.now ≡ class_table }
-{
-    let t = encoded(c);
-    let n = width(c);
-    let s = &t[1..n];
-    let a = digit(
-        0,
-        (answers::sequence(s) == c as usize * 8 + s.len()) as usize,
-    );
-    let b = digit(a, (answers::checked(s) == 0) as usize);
-    let d = digit(b, points::class::class_of(classes, c) as usize);
-    let e = digit(d, is_name(classes, s) as usize);
-    digit(e, is_name(classes, &t[0..n]) as usize)
+fn look(alloc: Global, classes: &Classes, c: u32) -> Result<u32, AllocError> {
+    let s = encoded(alloc, c)?;
+    let mut named = vec![in alloc; b'a']?;
+    named.extend_from_slice(&s)?;
+    let seen = [
+        u8::from(answers::sequence(&s) == c as usize * 8 + s.len()),
+        u8::from(answers::checked(&s) == 0),
+        classes.class_of(c) as u8,
+        u8::from(is_name(classes, &s)),
+        u8::from(is_name(classes, &named)),
+    ];
+    Ok(seen.into_iter().fold(0, digit))
 }
 
-fn lines<W: Write>(out: &mut W, classes: &Classes) -> io::Result<()>
-    requires { classes.now ≡ class_table }
-{
-    let mut last = look(classes, 0);
+fn lines<W: Write>(alloc: Global, out: &mut W, classes: &Classes) -> io::Result<()> {
+    let mut last = look(alloc, classes, 0)?;
     writeln!(out, "0000 {last}")?;
     for c in 1..=LAST {
-        let next = look(classes, c);
+        let next = look(alloc, classes, c)?;
         if next != last {
             writeln!(out, "{c:04x} {next}")?;
         }
@@ -96,11 +72,11 @@ fn lines<W: Write>(out: &mut W, classes: &Classes) -> io::Result<()>
     Ok(())
 }
 
-pub fn print<W: Write>(out: &mut W) -> io::Result<()> {
+pub fn print<W: Write>(alloc: Global, out: &mut W) -> io::Result<()> {
     writeln!(
         out,
         "code point; a digit each: sequence, Char, class, a name, a name after a letter"
     )?;
-    let classes = points::table::classes();
-    lines(out, &classes)
+    let classes = Classes::new();
+    lines(alloc, out, &classes)
 }

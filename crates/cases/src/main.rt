@@ -7,7 +7,6 @@ mod out; // bytes, written in hexadecimal
 mod answers; // what the libraries say of a text, as numbers, and a sum of them
 mod borders; // every code point: where an answer changes
 mod rows; // every byte at each place of a sequence
-mod parts; // a list of texts in one
 mod offsets; // a fault at each place of texts of each length
 mod texts; // names, white space and path lists in chosen texts
 mod sizes; // path lists at the sizes and past them
@@ -15,10 +14,11 @@ mod sizes; // path lists at the sizes and past them
 use std::io;
 
 fn main(rt: HostRuntime) -> io::Result<()> {
+    let alloc = rt.alloc();
     let mut out = io::writer(&rt);
-    borders::print(&mut out)?;
+    borders::print(alloc, &mut out)?;
     rows::print(&mut out)?;
     offsets::print(&mut out)?;
-    texts::print(&mut out)?;
-    sizes::print(&mut out)
+    texts::print(alloc, &mut out)?;
+    sizes::print(alloc, &mut out)
 }

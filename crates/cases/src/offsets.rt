@@ -1,12 +1,33 @@
 // Texts of each length up to 200 with a few bytes planted at each place: faults, and sequences that are none. What the check says of them
 // is folded into one number for each kind; a second number has the same texts with a control byte at the end of each.
-ghost use Rattle.std.specs.Prelude.{◌<◌, ◌≤◌};
-
-use crate::{answers, out, parts};
-use std::io;
+use crate::{answers, out};
 use std::io::Write;
+use std::{array, io};
 
-const LENGTHS: usize = 201;
+const LONGEST: usize = 200;
+
+// What is planted: bytes that begin no character, or one that is cut off by what follows or by the end; a control byte, an overlong form, a
+// surrogate, a code point that is no Char, and one past the last; characters of each size; a character with a fault after it.
+const KINDS: [&[u8]; 18] = [
+    b"\x80",
+    b"\xC3",
+    b"\xE2\x82",
+    b"\xF0\x9F\x98",
+    b"\x01",
+    b"\xC0\x80",
+    b"\xED\xA0\x80",
+    b"\xEF\xBF\xBE",
+    b"\xF4\x90\x80\x80",
+    b"\x7F",
+    b"\xC3\xA9",
+    b"\xE2\x82\xAC",
+    b"\xEF\xBF\xBD",
+    b"\xF0\x9F\x98\x80",
+    b"\xC3\xA9\x80",
+    b"\xE2\x82\xAC\xE2\x82",
+    b"\xF0\x9F\x98\x80\xED\xA0\x80",
+    b"\xC3\xA9plain bytes\x01",
+];
 
 // The byte at a place of a text with no fault: every ASCII character that XML allows, one after the other.
 fn plain(i: usize) -> u8 {
@@ -19,88 +40,51 @@ fn plain(i: usize) -> u8 {
     }
 }
 
-fn plain_text() -> [u8; 256] {
-    let mut s = [0u8; 256];
-    let mut i: usize = 0;
-    while i < 256 {
-        s[i] = plain(i);
-        i += 1;
+// Plants a kind at the front of a text, as far as there is room.
+fn plant(text: &mut [u8], kind: &[u8]) {
+    for (place, byte) in text.iter_mut().zip(kind) {
+        *place = *byte;
     }
-    s
-}
-
-// A text with a kind planted at a place, as far as there is room.
-pub fn planted(text: [u8; 256], at: usize, kind: &[u8]) -> [u8; 256]
-    requires { at < 256 }
-{
-    let mut s = text;
-    let mut i = at;
-    let mut j: usize = 0;
-    while j < kind.len() {
-        if 256 <= i {
-            return s;
-        }
-        s[i] = kind[j];
-        i += 1;
-        j += 1;
-    }
-    s
 }
 
 // The two numbers of a kind: the text as it is, and with a control byte at its end.
 #[derive(Drop)]
 struct Folded {
-    alone: usize,
-    ended: usize,
+    alone: u32,
+    ended: u32,
 }
 
-// Adds the answers for the first n bytes of a text with the kind at a place.
-fn try_at(text: [u8; 256], n: usize, at: usize, kind: &[u8], f: Folded) -> Folded
-    requires { (at < n) × (n ≤ 256) }
-{
-    let mut s = planted(text, at, kind);
-    let alone = answers::fold(f.alone, answers::checked(answers::front(&s, n)));
-    s[n - 1] = 1;
-    let ended = answers::fold(f.ended, answers::checked(answers::front(&s, n)));
+// The answers with the kind at each place of a text of each length.
+fn try_all(kind: &[u8]) -> Folded {
+    let plain: [u8; LONGEST] = array::from_fn(plain);
+    let mut alone = 0;
+    let mut ended = 0;
+    for n in 1..=LONGEST {
+        for at in 0..n {
+            let mut whole = plain;
+            let text = &mut whole[..n];
+            plant(&mut text[at..], kind);
+            alone = answers::fold(alone, answers::checked(text));
+            text[n - 1] = 1;
+            ended = answers::fold(ended, answers::checked(text));
+        }
+    }
     Folded { alone, ended }
 }
 
-// The kind at each place of each length.
-fn try_all(kind: &[u8]) -> Folded {
-    let text = plain_text();
-    let mut f = Folded { alone: 0, ended: 0 };
-    let mut n: usize = 1;
-    let mut at: usize = 0;
-    while n < LENGTHS {
-        f = try_at(text, n, at, kind, f);
-        at += 1;
-        if n <= at {
-            at = 0;
-            n += 1;
-        }
-    }
-    f
-}
-
-pub fn show<W: Write>(out: &mut W, kind: &[u8]) -> io::Result<()> {
+fn show<W: Write>(out: &mut W, kind: &[u8]) -> io::Result<()> {
     let Folded { alone, ended } = try_all(kind);
     out::bytes(out, kind)?;
     writeln!(out, " {alone} {ended}")
 }
 
-// A line of the list each: bytes that begin no character, or one that is cut off by what follows or by the end; a control byte, an overlong
-// form, a surrogate, a code point that is no Char, and one past the last; characters of each size; a character with a fault after it.
 pub fn print<W: Write>(out: &mut W) -> io::Result<()> {
     writeln!(
         out,
         "planted bytes, the check's answers, and with a control byte at the end"
     )?;
-    parts::each(
-        out,
-        b"\x80|\xC3|\xE2\x82|\xF0\x9F\x98|\
-        \x01|\xC0\x80|\xED\xA0\x80|\xEF\xBF\xBE|\xF4\x90\x80\x80|\
-        \x7F|\xC3\xA9|\xE2\x82\xAC|\xEF\xBF\xBD|\xF0\x9F\x98\x80|\
-        \xC3\xA9\x80|\xE2\x82\xAC\xE2\x82|\xF0\x9F\x98\x80\xED\xA0\x80|\xC3\xA9plain bytes\x01|",
-        true,
-    )
+    for kind in KINDS {
+        show(out, kind)?;
+    }
+    Ok(())
 }

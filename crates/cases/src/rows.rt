@@ -11,18 +11,20 @@ const SECONDS: [u8; 8] = [0x00, 0x80, 0x8F, 0x90, 0x9F, 0xA0, 0xBF, 0xFF];
 const TAILS: [u8; 2] = [0x80, 0xBF];
 
 // All bytes at each place after a first byte, where else a second byte and a tail stand.
-fn folded(first: u8) -> usize {
-    let mut h: usize = 0;
-    let mut k: usize = 0;
-    while k < 12288 {
-        let second = SECONDS[k / 256 % 8];
-        let tail = TAILS[k / 2048 % 2];
-        let mut s = [first, second, tail, tail];
-        s[1 + k / 4096] = (k % 256) as u8;
-        h = answers::fold(h, answers::sequence(&s) % 8);
-        k += 1;
+fn folded(first: u8) -> u32 {
+    let mut sum = 0;
+    for place in 1..4 {
+        for tail in TAILS {
+            for second in SECONDS {
+                for byte in 0..=u8::MAX {
+                    let mut s = [first, second, tail, tail];
+                    s[place] = byte;
+                    sum = answers::fold(sum, answers::sequence(&s) % 8);
+                }
+            }
+        }
     }
-    h
+    sum
 }
 
 pub fn print<W: Write>(out: &mut W) -> io::Result<()> {
@@ -30,11 +32,11 @@ pub fn print<W: Write>(out: &mut W) -> io::Result<()> {
         out,
         "first byte, and the sequences with each byte at each place after it"
     )?;
-    let mut last: usize = 0;
-    for a in 0..=u8::MAX {
-        let next = folded(a);
+    let mut last = 0;
+    for first in 0..=u8::MAX {
+        let next = folded(first);
         if next != last {
-            writeln!(out, "{a:02x} {next}")?;
+            writeln!(out, "{first:02x} {next}")?;
         }
         last = next;
     }

@@ -14,9 +14,7 @@ use Rattle.blocks.specs.Block.{is_other, Passes}
 use Rattle.blocks.specs.Usual.{after_block}
 use Rattle.chars.specs.Check.{check_of}
 use Rattle.utf8.specs.Sequence.{sequence_at}
-use Rattle.utf8.specs.declared.Sequence.{Sequence}
-use Rattle.utf8.specs.declared.Sequence.TheVariants.{Point, Bad}
-use Rattle.chars.specs.declared.whole.Checked.TheVariants.{All, BadAt}
+use Rattle.std.specs.Prelude.{Option, Some, None, Ok, Err}
 use Rattle.utf8.proofs.Place.{drop_step, drop_end}
 use Rattle.blocks.proofs.Plain.{other_plain}
 use Rattle.blocks.proofs.Owed.{block_passed}
@@ -65,11 +63,11 @@ module _ {d : List ℕ} {at i : ℕ} (v : Passes d at i) (h : i < length d) wher
       }
 
   -- a sequence, or none
-  module _ {r : Sequence} (q : r ≡ sequence_at d i) where
-    pub char_bad : r ≡ Bad → starts is_char (drop i d) ≡ false
+  module _ {r : Option (ℕ × ℕ)} (q : r ≡ sequence_at d i) where
+    pub char_bad : r ≡ None → starts is_char (drop i d) ≡ false
     char_bad b = bad_starts d i q is_char b
 
-    module _ {c e : ℕ} (f : r ≡ Point c e) {x : Bool} (g : x ≡ is_char c) where
+    module _ {c e : ℕ} (f : r ≡ Some (c, e)) {x : Bool} (g : x ≡ is_char c) where
       char_is : {y : Bool} → x ≡ y → starts is_char (drop i d) ≡ y
       char_is z = point_starts d i q is_char f ∙ sym g ∙ z
 
@@ -95,11 +93,11 @@ module _ {d : List ℕ} {i k e : ℕ} (v : Passes d 0 i) (w : Passes d i k) (u :
   pub check_on : Passes d 0 e
   check_on = pass_on (pass_on v w) u
 
-  pub check_all : length d ≤ e → All ≡ check_of d
+  pub check_all : length d ≤ e → Ok tt ≡ check_of d
   unfolding check_of run
   check_all h = sym (rw (← check_on.same, drop_end d e h))
 
-  pub check_bad : e < length d → starts is_char (drop e d) ≡ false → BadAt e ≡ check_of d
+  pub check_bad : e < length d → starts is_char (drop e d) ≡ false → Err (record { valid_up_to = e }) ≡ check_of d
   unfolding check_of
   check_bad h n =
       let r : run is_char 0 d ≡ drop e d = sym check_on.same ∙ run_stop is_char (drop e d) n in

@@ -12,24 +12,22 @@ use Rattle.utf8.proofs.Examples.{Row, ◌at◌gives◌, answers, expected}
 use Rattle.chars.specs.Check.{check_of}
 use Rattle.chars.specs.Space.{space_end}
 use Rattle.chars.specs.Name.{name_of, name_at}
-use Rattle.chars.specs.declared.whole.Checked.{Checked}
-use Rattle.chars.specs.declared.whole.Checked.TheVariants.{All, BadAt}
-use Rattle.chars.specs.declared.name.Reading.{Reading}
-use Rattle.chars.specs.declared.name.Reading.TheVariants.{Ends, Fault}
+use Rattle.std.specs.Prelude.{Option, Some, None, Result, Ok, Err}
+use Rattle.chars.specs.declared.whole.CharError.{CharError}
 
 -- the place is not asked for
-pub checks : List (Row Checked)
+pub checks : List (Row (Result Unit CharError))
 checks =
-    ([] at 0 gives All)
-    ∷ (bytes "<a>\t\r\n</a>" at 0 gives All)
-    ∷ ((0xEF ∷ 0xBB ∷ 0xBF ∷ 0x61 ∷ []) at 0 gives All)
-    ∷ ((0xF4 ∷ 0x8F ∷ 0xBF ∷ 0xBD ∷ []) at 0 gives All)
-    ∷ ((0x61 ∷ 0x00 ∷ []) at 0 gives BadAt 1)
-    ∷ ((0x61 ∷ 0xC3 ∷ 0xA9 ∷ 0x1F ∷ []) at 0 gives BadAt 3)
-    ∷ ((0x61 ∷ 0xEF ∷ 0xBF ∷ 0xBE ∷ []) at 0 gives BadAt 1)
-    ∷ ((0x61 ∷ 0xED ∷ 0xA0 ∷ 0x80 ∷ []) at 0 gives BadAt 1)
-    ∷ ((0x61 ∷ 0x62 ∷ 0xC3 ∷ []) at 0 gives BadAt 2)
-    ∷ ((0xC3 ∷ 0xA9 ∷ 0xA9 ∷ 0x61 ∷ []) at 0 gives BadAt 2)
+    ([] at 0 gives (Ok tt))
+    ∷ (bytes "<a>\t\r\n</a>" at 0 gives (Ok tt))
+    ∷ ((0xEF ∷ 0xBB ∷ 0xBF ∷ 0x61 ∷ []) at 0 gives (Ok tt))
+    ∷ ((0xF4 ∷ 0x8F ∷ 0xBF ∷ 0xBD ∷ []) at 0 gives (Ok tt))
+    ∷ ((0x61 ∷ 0x00 ∷ []) at 0 gives Err (record { valid_up_to = 1 }))
+    ∷ ((0x61 ∷ 0xC3 ∷ 0xA9 ∷ 0x1F ∷ []) at 0 gives Err (record { valid_up_to = 3 }))
+    ∷ ((0x61 ∷ 0xEF ∷ 0xBF ∷ 0xBE ∷ []) at 0 gives Err (record { valid_up_to = 1 }))
+    ∷ ((0x61 ∷ 0xED ∷ 0xA0 ∷ 0x80 ∷ []) at 0 gives Err (record { valid_up_to = 1 }))
+    ∷ ((0x61 ∷ 0x62 ∷ 0xC3 ∷ []) at 0 gives Err (record { valid_up_to = 2 }))
+    ∷ ((0xC3 ∷ 0xA9 ∷ 0xA9 ∷ 0x61 ∷ []) at 0 gives Err (record { valid_up_to = 2 }))
     ∷ []
 
 pub checks_computed : answers (λ s k. check_of s) checks ≡ expected checks
@@ -37,21 +35,21 @@ unfolding checks check_of run starts character guess value_of utf8 is_scalar is_
 checks_computed = refl
 
 -- é in one code point and in two are both names; U+0300 and digits start none; a bad byte ends a name
-pub names : List (Row Reading)
+pub names : List (Row (Option ℕ))
 names =
-    (bytes "a-1.b:c d" at 0 gives Ends 7)
-    ∷ (bytes "<a>" at 1 gives Ends 2)
-    ∷ ((0xC3 ∷ 0xA9 ∷ 0x3E ∷ []) at 0 gives Ends 2)
-    ∷ ((0x65 ∷ 0xCC ∷ 0x81 ∷ 0x3E ∷ []) at 0 gives Ends 3)
-    ∷ ((0x61 ∷ 0xC3 ∷ 0x28 ∷ []) at 0 gives Ends 1)
-    ∷ ((0x61 ∷ 0xC1 ∷ 0xA1 ∷ []) at 0 gives Ends 1)
-    ∷ (bytes "1a" at 0 gives Fault)
-    ∷ (bytes "-a" at 0 gives Fault)
-    ∷ (bytes " a" at 0 gives Fault)
-    ∷ ((0xCC ∷ 0x81 ∷ 0x65 ∷ []) at 0 gives Fault)
-    ∷ ((0xC3 ∷ 0x97 ∷ []) at 0 gives Fault)
-    ∷ (bytes "a" at 1 gives Fault)
-    ∷ (bytes "a" at 7 gives Fault)
+    (bytes "a-1.b:c d" at 0 gives Some 7)
+    ∷ (bytes "<a>" at 1 gives Some 2)
+    ∷ ((0xC3 ∷ 0xA9 ∷ 0x3E ∷ []) at 0 gives Some 2)
+    ∷ ((0x65 ∷ 0xCC ∷ 0x81 ∷ 0x3E ∷ []) at 0 gives Some 3)
+    ∷ ((0x61 ∷ 0xC3 ∷ 0x28 ∷ []) at 0 gives Some 1)
+    ∷ ((0x61 ∷ 0xC1 ∷ 0xA1 ∷ []) at 0 gives Some 1)
+    ∷ (bytes "1a" at 0 gives None)
+    ∷ (bytes "-a" at 0 gives None)
+    ∷ (bytes " a" at 0 gives None)
+    ∷ ((0xCC ∷ 0x81 ∷ 0x65 ∷ []) at 0 gives None)
+    ∷ ((0xC3 ∷ 0x97 ∷ []) at 0 gives None)
+    ∷ (bytes "a" at 1 gives None)
+    ∷ (bytes "a" at 7 gives None)
     ∷ []
 
 pub names_computed : answers name_at names ≡ expected names

@@ -21,10 +21,8 @@ use Rattle.chars.specs.Check.{checked_by, check_of}
 use Rattle.chars.specs.Name.{name_of, reading_at, name_at}
 use Rattle.chars.specs.Space.{space_end}
 use Rattle.chars.specs.Meaning.{CheckSays, number_of, NameSays, SpaceSays}
-use Rattle.chars.specs.declared.whole.Checked.{Checked}
-use Rattle.chars.specs.declared.whole.Checked.TheVariants.{All, BadAt}
-use Rattle.chars.specs.declared.name.Reading.{Reading}
-use Rattle.chars.specs.declared.name.Reading.TheVariants.{Ends, Fault}
+use Rattle.std.specs.Prelude.{Option, Some, None, Result, Ok, Err}
+use Rattle.chars.specs.declared.whole.CharError.{CharError}
 use Rattle.utf8.proofs.Place.{drop_step, drop_end}
 
 -- ---- no character of a class
@@ -50,10 +48,11 @@ check_says d = go (run is_char 0 d) refl
         let r : drop (length d - length (a ∷ t)) d ≡ run is_char 0 d = rw (← n) (run_drop is_char d) in
         (omega arith, rw r (run_reads is_char d), λ m x. starts_not is_char (run is_char 0 d) (run_stops is_char d) m (rw r at x))
 
-pub check_only : (d : List ℕ) (r : Checked) → CheckSays d r → r ≡ check_of d
+pub check_only : (d : List ℕ) (r : Result Unit CharError) → CheckSays d r → r ≡ check_of d
 unfolding check_of
-check_only d All p = sym (rw (run_only is_char p (starts_nil is_char)))
-check_only d (BadAt o) (l, rs, n) =
+check_only d (Ok tt) p = sym (rw (run_only is_char p (starts_nil is_char)))
+check_only d (Err e) (l, rs, n) =
+    let o = e.valid_up_to in
     let r : run is_char 0 d ≡ drop o d = run_only is_char rs (not_starts is_char (drop o d) n) in
     let w : length d - length (get_or d o 0 ∷ drop (o + 1) d) ≡ o = omega (arith, length-drop (o + 1) d) in
     sym (rw (r, drop_step d o l, w))
@@ -62,12 +61,12 @@ check_only d (BadAt o) (l, rs, n) =
 pub check_sound : (d : List ℕ) → number_of (check_of d) ≡ 0 → Reads (Char ∗) d []
 check_sound d = go (check_of d) (check_says d)
   where
-    go : (r : Checked) → CheckSays d r → number_of r ≡ 0 → Reads (Char ∗) d []
-    go All p e = p
-    go (BadAt o) p e = absurd (let z : ◌≡◌ {A = ℕ} 5 0 = e in omega arith)
+    go : (r : Result Unit CharError) → CheckSays d r → number_of r ≡ 0 → Reads (Char ∗) d []
+    go (Ok tt) p e = p
+    go (Err o) p e = absurd (let z : ◌≡◌ {A = ℕ} 5 0 = e in omega arith)
 
 pub check_complete : (d : List ℕ) → Reads (Char ∗) d [] → number_of (check_of d) ≡ 0
-check_complete d x = ap number_of (sym (check_only d All x))
+check_complete d x = ap number_of (sym (check_only d (Ok tt) x))
 
 -- ---- names
 
@@ -138,13 +137,13 @@ name_says d at = go (starts is_name_start s) refl
         rw (ends_left is_name d at)
         (x, ends_inside d at (run is_name 0 s) (some_left is_name_start d at y), λ t z. starts_not is_name (run is_name 0 s) n t z)
 
-pub name_only_lem : (d : List ℕ) (at : ℕ) (r : Reading) → NameSays d at r → r ≡ name_at d at
+pub name_only_lem : (d : List ℕ) (at : ℕ) (r : Option ℕ) → NameSays d at r → r ≡ name_at d at
 unfolding name_at name_of
-name_only_lem d at Fault p = sym (rw (not_starts is_name_start (drop at d) no_start))
+name_only_lem d at None p = sym (rw (not_starts is_name_start (drop at d) no_start))
   where
     no_start : (m : List ℕ) → Reads NameStartChar (drop at d) m → ⊥
     no_start m x = p m (m, x, done)
-name_only_lem d at (Ends e) (x, l, n) =
+name_only_lem d at (Some e) (x, l, n) =
     let s = drop at d in
     let r : run is_name 0 s ≡ drop e d = run_only is_name (name_run x) (not_starts is_name (drop e d) n) in
     let y : starts is_name_start s ≡ true = reads_starts is_name_start s x.0 x.1 in

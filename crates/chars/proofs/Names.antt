@@ -18,9 +18,7 @@ use Rattle.xml.proofs.Run.{starts_nil, starts_low, wide_long, run_length}
 use Rattle.chars.specs.Name.{name_of, name_at, name_end, name_step}
 use Rattle.utf8.specs.Place.{ends_at}
 use Rattle.utf8.specs.Sequence.{sequence_at}
-use Rattle.utf8.specs.declared.Sequence.{Sequence}
-use Rattle.utf8.specs.declared.Sequence.TheVariants.{Point, Bad}
-use Rattle.chars.specs.declared.name.Reading.TheVariants.{Ends, Fault}
+use Rattle.std.specs.Prelude.{Option, Some, None}
 use Rattle.blocks.specs.Block.{First}
 use Rattle.words.specs.Word.{is_no_name}
 use Rattle.utf8.proofs.Place.{drop_step, drop_end}
@@ -51,11 +49,11 @@ module _ (d : List ℕ) (at : ℕ) where
         ap (λ (x : ℕ). at + x) (sym w) ∙ goes (low_starts ∙ sym q ∙ e)
 
   -- by a sequence
-  module _ {r : Sequence} (q : r ≡ sequence_at d at) where
-    pub bad_stays : r ≡ Bad → at ≡ name_step d at
+  module _ {r : Option (ℕ × ℕ)} (q : r ≡ sequence_at d at) where
+    pub bad_stays : r ≡ None → at ≡ name_step d at
     bad_stays b = stays (bad_starts d at q is_name b)
 
-    module _ {c e : ℕ} (f : r ≡ Point c e) {k : Bool} (g : k ≡ is_name c) where
+    module _ {c e : ℕ} (f : r ≡ Some (c, e)) {k : Bool} (g : k ≡ is_name c) where
       pub point_stays : k ≡ false → at ≡ name_step d at
       point_stays z = stays (point_starts d at q is_name f ∙ sym g ∙ z)
 
@@ -186,19 +184,19 @@ module _ (d : List ℕ) (at : ℕ) where
       → k ≡ starts is_name_start (drop at d)
   start_low h l g = g ∙ sym (rw (drop_step d at h) (starts_low is_name_start _ _ l))
 
-  module _ {r : Sequence} (q : r ≡ sequence_at d at) where
-    pub start_point : {c e : ℕ} → r ≡ Point c e → {k : Bool} → k ≡ is_name_start c → k ≡ starts is_name_start (drop at d)
+  module _ {r : Option (ℕ × ℕ)} (q : r ≡ sequence_at d at) where
+    pub start_point : {c e : ℕ} → r ≡ Some (c, e) → {k : Bool} → k ≡ is_name_start c → k ≡ starts is_name_start (drop at d)
     start_point f g = g ∙ sym (point_starts d at q is_name_start f)
 
-    pub start_bad : r ≡ Bad → false ≡ starts is_name_start (drop at d)
+    pub start_bad : r ≡ None → false ≡ starts is_name_start (drop at d)
     start_bad b = sym (bad_starts d at q is_name_start b)
 
   module _ {x : Bool} (q : x ≡ starts is_name_start (drop at d)) where
-    pub name_ends : x ≡ true → {e : ℕ} → e ≡ name_end d at → Ends e ≡ name_at d at
+    pub name_ends : x ≡ true → {e : ℕ} → e ≡ name_end d at → Some e ≡ name_at d at
     unfolding name_at name_of name_end
-    name_ends y f = ap Ends f ∙ sym (rw (sym q ∙ y))
+    name_ends y f = ap Some f ∙ sym (rw (sym q ∙ y))
 
-    pub name_fault : x ≡ false → Fault ≡ name_at d at
+    pub name_fault : x ≡ false → None ≡ name_at d at
     unfolding name_at name_of
     name_fault n = sym (rw (sym q ∙ n))
 

@@ -3,7 +3,7 @@
 use mathlib.Core.Path.{◌≡◌, refl, sym, ap, ◌∙◌}
 use mathlib.Core.Bool.{Bool, true, false}
 use mathlib.Core.List.{List, [], ◌∷◌}
-use mathlib.Core.Option.{Option, none, some}
+use mathlib.Core.Option.{Option as Maybe, none, some}
 use Prim.Native.Nat.{ℕ, ◌+◌, ◌-◌, ◌≤◌, ◌<◌}
 use native.Mathlib.Omega.{arith}
 use borrow.Author.Tests.{ltb-true, ltb-false}
@@ -18,39 +18,42 @@ use Rattle.xml.proofs.Character.{character_low, character_high, character_split}
 use Rattle.xml.proofs.Run.{starts_found, starts_low, run_step, run_stop}
 use Rattle.utf8.specs.Place.{ends_at, Stands}
 use Rattle.utf8.specs.Sequence.{point_at, sequence_at}
-use Rattle.utf8.specs.declared.Sequence.{Sequence}
-use Rattle.utf8.specs.declared.Sequence.TheVariants.{Point, Bad}
+use Rattle.std.specs.Prelude.{Option, Some, None}
+use Rattle.std.proofs.lemmas.Option.{some_pair_parts}
 use Rattle.utf8.proofs.Place.{drop_step, drop_end, stands_ends}
 
 -- ---- what one sequence says
 
-module _ (d : List ℕ) (at : ℕ) {r : Sequence} (q : r ≡ sequence_at d at) where
-  pub found_point : {c e : ℕ} → r ≡ Point c e → (character (drop at d) ≡ some c) × (e ≡ at + length (utf8 c))
+module _ (d : List ℕ) (at : ℕ) {r : Option (ℕ × ℕ)} (q : r ≡ sequence_at d at) where
+  pub found_point : {c e : ℕ} → r ≡ Some (c, e) → (character (drop at d) ≡ some c) × (e ≡ at + length (utf8 c))
   unfolding sequence_at
   found_point {c} {e} h = go (character (drop at d)) refl (sym h ∙ q)
     where
-      go : (o : Option ℕ) → character (drop at d) ≡ o → Point c e ≡ point_at at o → (o ≡ some c) × (e ≡ at + length (utf8 c))
+      go : (o : Maybe ℕ) → character (drop at d) ≡ o → Some (c, e) ≡ point_at at o
+          → (o ≡ some c) × (e ≡ at + length (utf8 c))
       go none k z = absurd (let z : ◌≡◌ {A = ℕ} 0 1 = cc in omega arith)
-      go (some x) k z = let w : x ≡ c = cc in (ap some w, (let v : e ≡ at + length (utf8 x) = cc in v ∙ rw w))
+      go (some x) k z =
+          let (w, v) = some_pair_parts _ _ _ _ z in
+          (ap some (sym w), v ∙ rw w)
 
-  pub found_bad : r ≡ Bad → character (drop at d) ≡ none
+  pub found_bad : r ≡ None → character (drop at d) ≡ none
   unfolding sequence_at
   found_bad h = go (character (drop at d)) refl (sym h ∙ q)
     where
-      go : (o : Option ℕ) → character (drop at d) ≡ o → Bad ≡ point_at at o → o ≡ none
+      go : (o : Maybe ℕ) → character (drop at d) ≡ o → None ≡ point_at at o → o ≡ none
       go none k z = refl
       go (some x) k z = absurd (let z : ◌≡◌ {A = ℕ} 0 1 = cc in omega arith)
 
   module _ (p : ℕ → Bool) where
-    pub point_starts : {c e : ℕ} → r ≡ Point c e → starts p (drop at d) ≡ p c
+    pub point_starts : {c e : ℕ} → r ≡ Some (c, e) → starts p (drop at d) ≡ p c
     unfolding starts
     point_starts h = rw (found_point h).0
 
-    pub bad_starts : r ≡ Bad → starts p (drop at d) ≡ false
+    pub bad_starts : r ≡ None → starts p (drop at d) ≡ false
     unfolding starts
     bad_starts h = rw (found_bad h)
 
-  pub point_wide : {c e : ℕ} → r ≡ Point c e → e ≡ at + wide (character (drop at d))
+  pub point_wide : {c e : ℕ} → r ≡ Some (c, e) → e ≡ at + wide (character (drop at d))
   point_wide h = (found_point h).1 ∙ rw (found_point h).0
 
 -- ---- the loop
@@ -121,7 +124,7 @@ module _ {p : ℕ → Bool} (k : Ascii p) (d : List ℕ) (i : ℕ) (h : i < leng
   unfolding starts
   starts_byte = rw (drop_step d i h) (go (ltb (get_or d i 0) 0x80) refl)
     where
-      high : (t : List ℕ) (o : Option ℕ) → 0x80 ≤ get_or d i 0 → character (get_or d i 0 ∷ t) ≡ o → holds p o ≡ p (get_or d i 0)
+      high : (t : List ℕ) (o : Maybe ℕ) → 0x80 ≤ get_or d i 0 → character (get_or d i 0 ∷ t) ≡ o → holds p o ≡ p (get_or d i 0)
       high t none l e = sym (k.none_high _ l)
       high t (some c) l e = k.none_high c (character_high _ t c l e) ∙ sym (k.none_high _ l)
 

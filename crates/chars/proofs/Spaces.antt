@@ -3,7 +3,7 @@
 use mathlib.Core.Path.{◌≡◌, sym, ◌∙◌}
 use mathlib.Core.Bool.{Bool, true, false, ◌||◌, and-false, or_assoc, or-false}
 use mathlib.Core.List.{List}
-use Prim.Native.Nat.{ℕ, ◌+◌, ◌≤◌, ◌<◌}
+use Prim.Native.Nat.{ℕ, ◌+◌, ◌≤◌, ◌<◌, max}
 use native.Mathlib.Omega.{arith}
 use lib.Dec.{eqb, leb}
 use lib.ListN.{length, get_or, drop}
@@ -49,8 +49,8 @@ module _ {d : List ℕ} {at i : ℕ} (v : Running is_space d at i) (h : i < leng
   pub spaces_on : x ≡ true → Running is_space d at (i + 1)
   spaces_on y = run_on v (space_starts y) (byte_wide space_ascii d i h (sym q ∙ y)) h
 
-pub spaces_over : {d : List ℕ} {at i : ℕ} → Running is_space d at i → length d ≤ i → i ≡ space_end d at
+pub spaces_over : {d : List ℕ} {at i r : ℕ} → Running is_space d at i → length d ≤ i → r ≡ max at (length d) → r ≡ space_end d at
 unfolding space_end
-spaces_over v h = run_over v h
+spaces_over {d} {at} {i} {r} v h m = let e : r ≡ i = omega (arith, v.begun, v.bound) in e ∙ run_over v h
 
 pub ruleset spacing = (space_four, run_start, spaces_end, spaces_on, spaces_over)

@@ -8,13 +8,12 @@ ghost use Rattle.chars.specs.Check.{check_of};
 
 use blocks::block::{after_block, is_other};
 use points::allowed::is_char;
-use utf8::{Sequence, sequence_at};
+use utf8::sequence_at;
 
-// Every byte belongs to a character that XML allows; or the first sequence that does not begins at a place.
-#[derive(Drop)]
-pub enum Checked {
-    All,
-    BadAt(usize),
+// The first sequence that is no character that XML allows begins at a place; all before it are such characters.
+#[derive(Clone, Copy, Debug, PartialEq, Eq)]
+pub struct CharError {
+    pub valid_up_to: usize,
 }
 
 // A place up to which there are characters alone: past all blocks from `from` on that are plain or usual, in turn.
@@ -22,6 +21,7 @@ fn after_blocks(s: &[u8], from: usize) -> usize
     requires { from ≤ length s.now }
     ensures { Passes s.now from result }
 {
+    // Each turn goes on where the block ended, so the place is no count.
     let mut i = from;
     while s.len() - i >= 67 {
         let e = after_block(s, i);
@@ -39,6 +39,7 @@ fn after_chars(s: &[u8], at: usize, bound: usize) -> usize
     ensures passes { Passes s.now at result }
     ensures s_value { result < bound → starts is_char (drop result s.now) ≡ false }
 {
+    // Each turn goes on where the character ended, so the place is no count.
     let mut i = at;
     while i < bound {
         if s.len() <= i {
@@ -46,13 +47,13 @@ fn after_chars(s: &[u8], at: usize, bound: usize) -> usize
         }
         if is_other(s[i]) {
             match sequence_at(s, i) {
-                Sequence::Point(c, e) => {
+                Some((c, e)) => {
                     if !is_char(c) {
                         return i;
                     }
                     i = e;
                 }
-                Sequence::Bad => {
+                None => {
                     return i;
                 }
             }
@@ -64,19 +65,20 @@ fn after_chars(s: &[u8], at: usize, bound: usize) -> usize
 }
 
 // [2] Char, from the first byte to the last.
-pub fn check(s: &[u8]) -> Checked
+pub fn check(s: &[u8]) -> Result<(), CharError>
     ensures { result ≡ check_of s.now }
 {
+    // Each turn goes on where the characters ended, so the place is no count.
     let mut i: usize = 0;
     loop {
         let k = after_blocks(s, i);
         let bound = k + 64;
         i = after_chars(s, k, bound);
         if s.len() <= i {
-            return Checked::All;
+            return Ok(());
         }
         if i < bound {
-            return Checked::BadAt(i);
+            return Err(CharError { valid_up_to: i });
         }
     }
 }

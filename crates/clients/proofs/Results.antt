@@ -5,8 +5,10 @@
 use mathlib.Core.Path.{◌≡◌, refl, sym, ◌∙◌}
 use mathlib.Core.List.{List, [], ◌∷◌}
 use Prim.Native.Nat.{ℕ}
+use Rattle.std.specs.Prelude.{Result}
 use Rattle.contracts.specs.One.{OneOutcome}
-use Rattle.cutter.specs.declared.Answer.{Answer}
+use Rattle.cutter.specs.declared.answer.Cut.{Cut}
+use Rattle.refusals.specs.declared.CutError.{CutError}
 use Rattle.exported.specs.Numbers.{numbers_of}
 use Rattle.clients.specs.Results.{results_of}
 use Rattle.exported.specs.declared.FourNumbers.{FourNumbers}
@@ -21,14 +23,14 @@ pub laid_same : {w x y z w' x' y' z' : FourNumbers} → w ≡ w' → x ≡ x' �
     → laid w (laid x (laid y (laid z []))) ≡ laid w' (laid x' (laid y' (laid z' [])))
 laid_same p q r s = rw (p, q, r, s)
 
-results_ap : {a b c d a' b' c' d' : Answer} → a ≡ a' → b ≡ b' → c ≡ c' → d ≡ d' → results_of a b c d ≡ results_of a' b' c' d'
+results_ap : {a b c d a' b' c' d' : Result Cut CutError} → a ≡ a' → b ≡ b' → c ≡ c' → d ≡ d' → results_of a b c d ≡ results_of a' b' c' d'
 results_ap p q r s = rw (p, q, r, s)
 
-pub results_same : {a b c d a' b' c' d' : Answer} {ns : List ℕ} → ns ≡ results_of a b c d → a ≡ a' → b ≡ b' → c ≡ c' → d ≡ d'
+pub results_same : {a b c d a' b' c' d' : Result Cut CutError} {ns : List ℕ} → ns ≡ results_of a b c d → a ≡ a' → b ≡ b' → c ≡ c' → d ≡ d'
     → ns ≡ results_of a' b' c' d'
 results_same e p q r s = e ∙ results_ap p q r s
 
-pub results_numbers : (a b c d : Answer)
+pub results_numbers : (a b c d : Result Cut CutError)
     → results_of a b c d ≡ laid (numbers_of a) (laid (numbers_of b) (laid (numbers_of c) (laid (numbers_of d) [])))
 results_numbers a b c d = refl
 

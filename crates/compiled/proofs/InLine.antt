@@ -11,6 +11,7 @@ use native.Mathlib.Omega.{arith}
 use lib.ListN.{length, take, drop, get_or, set, length-append, length-map, length-drop, get_or-eq_default}
 use lib.Seq.{drop_at, drop-drop, take_at, set-get_or}
 use lib.Dec.{eqb}
+use Rattle.std.specs.Prelude.{Option, None, Some, Ok}
 use Rattle.xml.specs.Language.{Language}
 use Rattle.xml.specs.Productions.{Name, is_name_start}
 use Rattle.xml.proofs.Bools.{true-false}
@@ -22,9 +23,7 @@ use Rattle.paths.specs.Place.{step_placed, step_end_at}
 use Rattle.paths.specs.Answer.{Says, sound}
 use Rattle.paths.specs.Judge.{list_answer}
 use Rattle.paths.specs.declared.Kind.{Kind}
-use Rattle.paths.specs.declared.ListAnswer.TheVariants.{Sound}
-use Rattle.paths.specs.declared.StepEnd.{StepEnd}
-use Rattle.paths.specs.declared.StepEnd.TheVariants.{Step as StepTo, Fault as NoStep}
+use Rattle.paths.specs.declared.Step.{Step as PlacedStep}
 use Rattle.paths.proofs.Names.{name_front}
 use Rattle.paths.proofs.Steps.{step_undoes, step_long}
 use Rattle.paths.proofs.Lines.{line_print, end_no_step, after_step}
@@ -77,10 +76,10 @@ print_parts done q rest read todo e =
     ∙ ap (λ (l : List ℕ). print_list done ++ l) (line_print q (print_list rest) ∙ ap (λ (l : List ℕ). l ++ c) s)
     ∙ simp append_assoc
 
-pub sound_bytes : (d : List ℕ) → list_answer d ≡ Sound → length d ≤ 8192
+pub sound_bytes : (d : List ℕ) → list_answer d ≡ Ok tt → length d ≤ 8192
 sound_bytes d e = go (rw e at (says d))
   where
-    go : Says d Sound → length d ≤ 8192
+    go : Says d (Ok tt) → length d ≤ 8192
     go (sound l ps b n) = l
 
 module _ {d : List ℕ} {p : ℕ} (v : AtPath d p) where
@@ -166,17 +165,17 @@ pub record InLine (d at len head next rows : List ℕ) (names p place bit stays 
   pub goes_is : goes ≡ kind_bits kinds.goes read
   pub far_is : far ≡ kind_bits kinds.far read
 
--- the step that stands at the place, told as its kind, its name's place and length, and its end
+-- the step y that stands at the place
 record NextStep (d at len head next rows : List ℕ) (names p place bit stays goes far : ℕ)
-    (v : InLine d at len head next rows names p place bit stays goes far) (kind : Kind) (a n end : ℕ) : Type 0 where
+    (v : InLine d at len head next rows names p place bit stays goes far) (y : PlacedStep) : Type 0 where
   pub step : Step
   pub later : List Step
   pub todo_is : v.todo ≡ step ∷ later
   pub proper : Proper step
-  pub kind_is : kind ≡ step.kind
-  pub a_is : a ≡ place + length (print_kind step.kind)
-  pub n_is : n ≡ test_size step.test
-  pub end_is : end ≡ place + length (print_step step)
+  pub kind_is : y.kind ≡ step.kind
+  pub a_is : y.name ≡ place + length (print_kind step.kind)
+  pub n_is : y.len ≡ test_size step.test
+  pub end_is : y.end ≡ place + length (print_step step)
   pub stands : drop place d
       ≡ print_step step ++ (print_all print_step later ++ (print_end (ending_of v.here.path) ++ print_list v.here.rest))
 
@@ -260,20 +259,20 @@ module _ {d at len head next rows : List ℕ} {names p place bit stays goes far 
       first : {x : Step} {xs : List Step} → All Proper (x ∷ xs) → Proper x
       first (more o os) = o
 
-  module _ {r : StepEnd} (q : r ≡ step_end_at d place) where
+  module _ {r : Option PlacedStep} (q : r ≡ step_end_at d place) where
     -- no step is left where none is read
-    none_left : r ≡ NoStep → v.todo ≡ []
+    none_left : r ≡ None → v.todo ≡ []
     unfolding step_end_at
     none_left f = go v.todo refl
       where
         go : (ss : List Step) → v.todo ≡ ss → ss ≡ []
         go [] e = refl
         go (s ∷ ss) e =
-            let z : NoStep ≡ step_placed place (some s) = sym f ∙ q ∙ ap (step_placed place) (next_read s ss e).2 in
+            let z : None ≡ step_placed place (some s) = sym f ∙ q ∙ ap (step_placed place) (next_read s ss e).2 in
             absurd (let y : ◌≡◌ {A = ℕ} 0 1 = cc in omega arith)
 
     -- the line is read to its end
-    module _ (f : r ≡ NoStep) where
+    module _ (f : r ≡ None) where
       all_read : v.read ≡ v.here.path.steps
       all_read = sym (v.steps_are ∙ ap (λ (ss : List Step). v.read ++ ss) (none_left f) ∙ append-nil v.read)
 
@@ -304,20 +303,20 @@ module _ {d at len head next rows : List ℕ} {names p place bit stays goes far 
           }
 
     -- the step that is read is the next one
-    module _ {kind : Kind} {a n end : ℕ} (f : r ≡ StepTo kind a n end) where
-      next_step : NextStep d at len head next rows names p place bit stays goes far v kind a n end
+    module _ {y : PlacedStep} (f : r ≡ Some y) where
+      next_step : NextStep d at len head next rows names p place bit stays goes far v y
       unfolding step_end_at
       next_step = go v.todo refl
         where
-          go : (ss : List Step) → v.todo ≡ ss → NextStep d at len head next rows names p place bit stays goes far v kind a n end
+          go : (ss : List Step) → v.todo ≡ ss → NextStep d at len head next rows names p place bit stays goes far v y
           go [] e =
               let l : drop place d ≡ after = left ∙ rw e in
               let g : step_at (drop place d) ≡ none = rw l (end_no_step (ending_of v.here.path) (print_list v.here.rest)) in
-              let z : StepTo kind a n end ≡ step_placed place none = sym f ∙ q ∙ ap (step_placed place) g in
+              let z : Some y ≡ step_placed place none = sym f ∙ q ∙ ap (step_placed place) g in
               absurd (let y : ◌≡◌ {A = ℕ} 0 1 = cc in omega arith)
           go (s ∷ ss) e =
               let (o, l, g) = next_read s ss e in
-              let z : StepTo kind a n end ≡ step_placed place (some s) = sym f ∙ q ∙ ap (step_placed place) g in
+              let z : Some y ≡ step_placed place (some s) = sym f ∙ q ∙ ap (step_placed place) g in
               record {
                 step = s;
                 later = ss;
@@ -330,26 +329,26 @@ module _ {d at len head next rows : List ℕ} {names p place bit stays goes far 
                 stands = l;
               }
 
-      test_is : test_in d a n ≡ next_step.step.test
+      test_is : test_in d y.name y.len ≡ next_step.step.test
       unfolding print_step
       test_is =
           let k = print_kind next_step.step.kind in
           let t = print_all print_step next_step.later ++ after in
           let w = print_test next_step.step.test in
-          let e : drop a d ≡ w ++ t =
+          let e : drop y.name d ≡ w ++ t =
           ap (λ (i : ℕ). drop i d) next_step.a_is
           ∙ sym (drop-drop (length k) place d)
           ∙ ap (drop (length k)) (next_step.stands ∙ append_assoc k w t)
           ∙ drop_at k (w ++ t) (length k) refl in
-          test_stands d a n next_step.step.test t next_step.proper.test e next_step.n_is
+          test_stands d y.name y.len next_step.step.test t next_step.proper.test e next_step.n_is
 
-      inside : (a + n ≤ end) × (end ≤ length d)
+      inside : (y.name + y.len ≤ y.end) × (y.end ≤ length d)
       unfolding print_step
       inside =
           let k = print_kind next_step.step.kind in
           let w = print_test next_step.step.test in
           let x = next_step.a_is in
-          let y = next_step.end_is in
+          let o = next_step.end_is in
           let z = next_step.n_is in
           let e = length-append k w in
           let t = print_all print_step next_step.later ++ after in
@@ -365,10 +364,10 @@ module _ {d at len head next rows : List ℕ} {names p place bit stays goes far 
           test_long any = omega arith
           test_long (named m) = omega arith
 
-      pub line_less : length d - end < length d - place
+      pub line_less : length d - y.end < length d - place
       line_less =
           let x = step_long next_step.step in
-          let y = next_step.end_is in
+          let z = next_step.end_is in
           omega (arith, inside)
 
       pub line_room : length v.read < 16
@@ -377,7 +376,7 @@ module _ {d at len head next rows : List ℕ} {names p place bit stays goes far 
           let b = ap length next_step.todo_is in
           omega arith
 
-      pub line_step : AtStep d at len head next rows names p bit a n
+      pub line_step : AtStep d at len head next rows names p bit y.name y.len
       line_step =
           let p_is = v.here.p_is in
           record {
@@ -396,10 +395,10 @@ module _ {d at len head next rows : List ℕ} {names p place bit stays goes far 
             room = line_room;
           }
 
-      pub line_more : {at' len' head' next' rows' : List ℕ} {names' x y z : ℕ}
-          → StepDone d at len head next rows names p bit a n at' len' head' next' rows' names' → x ≡ cond (kinds.stays kind) bit 0
-          → y ≡ cond (kinds.goes kind) bit 0 → z ≡ cond (kinds.far kind) bit 0
-          → InLine d at' len' head' next' rows' names' p end (bit * 2) (stays + x) (goes + y) (far + z)
+      pub line_more : {at' len' head' next' rows' : List ℕ} {names' x w z : ℕ}
+          → StepDone d at len head next rows names p bit y.name y.len at' len' head' next' rows' names'
+          → x ≡ cond (kinds.stays y.kind) bit 0 → w ≡ cond (kinds.goes y.kind) bit 0 → z ≡ cond (kinds.far y.kind) bit 0
+          → InLine d at' len' head' next' rows' names' p y.end (bit * 2) (stays + x) (goes + w) (far + z)
       unfolding line_step
       line_more e f g h =
           let s = next_step.step in
@@ -417,7 +416,7 @@ module _ {d at len head next rows : List ℕ} {names p place bit stays goes far 
             far_is = kind_on kinds.far v.far_is h;
           }
         where
-          place_on : end ≡ length (print_list v.here.done) + length (print_all print_step (v.read ++ next_step.step ∷ []))
+          place_on : y.end ≡ length (print_list v.here.done) + length (print_all print_step (v.read ++ next_step.step ∷ []))
           place_on =
               let s = next_step.step in
               let a = print_append print_step v.read (s ∷ []) in
@@ -426,7 +425,7 @@ module _ {d at len head next rows : List ℕ} {names p place bit stays goes far 
               ap length (a ∙ ap (λ (l : List ℕ). print_all print_step v.read ++ l) b)
               ∙ length-append (print_all print_step v.read) (print_step s) in
               let x = next_step.end_is in
-              let y = v.place_is in
+              let z = v.place_is in
               omega arith
 
           long_on : length (v.read ++ next_step.step ∷ []) ≡ suc (length v.read)
@@ -435,7 +434,7 @@ module _ {d at len head next rows : List ℕ} {names p place bit stays goes far 
           bit_on : bit * 2 ≡ 2 ^ length (v.read ++ next_step.step ∷ [])
           bit_on = rw long_on (let z = two-pow-succ (length v.read) in let y = v.bit_is in omega arith)
 
-          kind_on : (f : Kind → Bool) {u x : ℕ} → u ≡ kind_bits f v.read → x ≡ cond (f kind) bit 0
+          kind_on : (f : Kind → Bool) {u x : ℕ} → u ≡ kind_bits f v.read → x ≡ cond (f y.kind) bit 0
               → u + x ≡ kind_bits f (v.read ++ next_step.step ∷ [])
           kind_on f e g =
               let s = next_step.step in

@@ -2,41 +2,22 @@
 -- then the tables laid so far, the rows, which are made in their place, and all of them.
 use mathlib.Core.Path.{◌≡◌, refl, sym, ap, ◌∙◌}
 use mathlib.Core.List.{List, [], ◌∷◌, ◌++◌, append_assoc, append-nil}
-use Prim.Native.Nat.{ℕ, suc, ◌+◌, ◌≤◌, ◌<◌}
-use native.Mathlib.Nat.{add-zero}
-use native.Mathlib.Numerals.{add-one}
+use Prim.Native.Nat.{ℕ, ◌+◌, ◌-◌, ◌≤◌}
 use native.Mathlib.Omega.{arith}
-use lib.ListN.{length, take, drop, get_or, set, length-append, length-drop, length-set, take-append-drop}
-use lib.Seq.{length-take-le, take_at, drop_at, drop-drop, drop-cons, sets, sets-eq}
+use lib.ListN.{length, take, drop, length-append, length-drop, take-append-drop}
+use borrow.Rule.Slice.PartMut.{put_mid}
+use lib.Seq.{length-take-le, take_at, drop_at, drop-drop, sets, sets-eq}
 use Rattle.compiled.specs.Compiled.{joined}
 use Rattle.utf8.proofs.Place.{drop_end}
 
 -- ---- `lay`
 
--- t has the first i numbers of the part, and the rest is yet to be laid
-pub record Laying (t₀ : List ℕ) (from : ℕ) (part t : List ℕ) (i : ℕ) : Type 0 where
-  pub inside : i ≤ length part
-  pub long : length t ≡ length t₀
-  pub rest : sets t (from + i) (drop i part) ≡ sets t₀ from part
-
-pub lay_start : {t₀ : List ℕ} {from : ℕ} {part : List ℕ} → Laying t₀ from part t₀ 0
-lay_start {from = from} = record { inside = omega arith; long = refl; rest = rw (add-zero from) }
-
-module _ {t₀ : List ℕ} {from : ℕ} {part t : List ℕ} {i : ℕ} (v : Laying t₀ from part t i) where
-  pub lay_more : i < length part → Laying t₀ from part (set t (from + i) (get_or part i 0)) (i + 1)
-  lay_more l =
-      record {
-        inside = omega arith;
-        long = length-set t (from + i) (get_or part i 0) ∙ v.long;
-        rest =
-            let z : from + (i + 1) ≡ suc (from + i) = omega arith in
-            rw (z, add-one i) (rw (drop-cons part i 0 l) at v.rest);
-      }
-
-  pub lay_end : length part ≤ i → t ≡ sets t₀ from part
-  lay_end l = rw (drop_end part i l) at v.rest
-
-pub ruleset laying = (lay_start, lay_more, lay_end)
+-- the part is copied to its place
+pub lay_whole : (t : List ℕ) (from : ℕ) (part : List ℕ) {new : List ℕ} → from + length part ≤ length t → new ≡ part
+    → put_mid from (from + length part - from) t new ≡ sets t from part
+lay_whole t from part l e =
+    let z : from + length part - from ≡ length part = omega arith in
+    rw (e, z, sets-eq part t from l, drop-drop (length part) from t, append_assoc)
 
 -- ---- the tables laid so far
 

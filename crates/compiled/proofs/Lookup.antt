@@ -6,9 +6,9 @@ use Prim.Native.Nat.{ℕ, ◌+◌, ◌*◌, ◌≤◌}
 use native.Mathlib.Omega.{arith}
 use lib.ListN.{length, take, drop, length-drop}
 use lib.Seq.{take_at, drop_at, drop-drop, take-append-le, drop-append-le}
+use Rattle.std.specs.Prelude.{Ok}
 use Rattle.paths.specs.Path.{Path}
 use Rattle.paths.specs.Judge.{list_answer, list_paths}
-use Rattle.paths.specs.declared.ListAnswer.TheVariants.{Sound}
 use Rattle.paths.proofs.Meaning.{paths_print}
 use Rattle.lookup.specs.Names.{names_of, chains_of, place_of}
 use Rattle.lookup.specs.Index.{Indexed, Tables}
@@ -142,7 +142,7 @@ module _ (ps : List Path) (s : Sized ps) where
 
 -- ---- a sound list
 
-module _ {d : List ℕ} (e : list_answer d ≡ Sound) {t : List ℕ} (q : t ≡ tables_of (list_paths d)) where
+module _ {d : List ℕ} (e : list_answer d ≡ Ok tt) {t : List ℕ} (q : t ≡ tables_of (list_paths d)) where
   pub lookup_indexed : Indexed d (take 512 (drop 0 t)) (take 512 (drop 512 t)) (take 256 (drop 1024 t)) (take 512 (drop 1280 t))
       (names_of (list_paths d))
   lookup_indexed =

@@ -1,20 +1,18 @@
 -- The laws of reading a sound list line by line. A line's end; the tables of no path;
 -- a line's entries; the end, where all paths are read.
 use mathlib.Core.Path.{◌≡◌, refl, sym, ap, ◌∙◌}
-use mathlib.Core.Bool.{Bool, false, cond}
+use mathlib.Core.Bool.{Bool, cond}
 use mathlib.Core.List.{List, [], ◌∷◌, ◌++◌, append_assoc, append-nil, append_cancel_left}
 use Prim.Native.Nat.{ℕ, ◌+◌, ◌-◌, ◌≤◌, ◌<◌}
 use native.Mathlib.Omega.{arith}
 use lib.ListN.{length, take, set, replicate, length-append, length-replicate, replicate-append-replicate}
 use lib.Seq.{take_at, drop_at, sets}
+use Rattle.std.specs.Prelude.{Option, None, Some, Ok}
 use Rattle.paths.specs.Path.{Path, print_step, print_all, print_line, print_list}
 use Rattle.paths.specs.Path.{none as nil}
 use Rattle.paths.specs.Reader.{ending_of, print_end}
 use Rattle.paths.specs.Place.{line_end_at}
 use Rattle.paths.specs.Judge.{list_answer, list_paths}
-use Rattle.paths.specs.declared.ListAnswer.TheVariants.{Sound}
-use Rattle.paths.specs.declared.LineEnd.{LineEnd}
-use Rattle.paths.specs.declared.LineEnd.TheVariants.{Ends, Fault}
 use Rattle.paths.proofs.Lines.{line_print, line_long}
 use Rattle.paths.proofs.Meaning.{paths_print}
 use Rattle.compiled.specs.Bits.{column, last_bit, stays_of, goes_of, far_of, lasts_of, marks_of}
@@ -38,18 +36,6 @@ use Rattle.compiled.proofs.Laid.{rows_in, with_rows, rows_stand, with_rows_long,
 use Rattle.compiled.proofs.InLine.{print_append, path_few, sound_bytes}
 use Rattle.compiled.proofs.Tests.{tests_long, tests_stored}
 use Rattle.compiled.proofs.Tested.{name_place, place_tested, tail_stands, end_below}
-
--- ---- `tail_at`
-
-module _ (d : List ℕ) (at : ℕ) {e : LineEnd} (q : e ≡ line_end_at d at) where
-  pub tail_ends : {a b v w : ℕ} {m : Bool} {n : ℕ} → e ≡ Ends a b v w m n
-      → record { test = a; marked = m; next = n } ≡ tail_of (line_end_at d at) at
-  tail_ends f = sym (ap (λ (x : LineEnd). tail_of x at) (sym q ∙ f))
-
-  pub tail_fault : e ≡ Fault → record { test = 0; marked = false; next = at } ≡ tail_of (line_end_at d at) at
-  tail_fault f = sym (ap (λ (x : LineEnd). tail_of x at) (sym q ∙ f))
-
-pub ruleset tails = (tail_ends, tail_fault)
 
 -- ---- the tables of no path
 
@@ -82,7 +68,7 @@ built_none d =
 
 -- t has the rows of the paths done
 pub record Lining (d at len head next t stays goes far lasts marks tests : List ℕ) (names p place : ℕ) : Type 0 where
-  pub sound : list_answer d ≡ Sound
+  pub sound : list_answer d ≡ Ok tt
   pub done : List Path
   pub left : List Path
   pub all : list_paths d ≡ done ++ left
@@ -97,7 +83,7 @@ pub record Lining (d at len head next t stays goes far lasts marks tests : List 
   pub marks_are : marks ≡ marks_of done
   pub tests_are : tests ≡ tests_of done
 
-pub lines_start : {d t : List ℕ} → list_answer d ≡ Sound → t ≡ replicate 18400 0
+pub lines_start : {d t : List ℕ} → list_answer d ≡ Ok tt → t ≡ replicate 18400 0
     → Lining d (replicate 512 0) (replicate 512 0) (replicate 256 0) (replicate 512 0) t
     (replicate 32 0) (replicate 32 0) (replicate 32 0) (replicate 32 0) (replicate 32 0) (replicate 32 0) 0 0 0
 unfolding stays_of goes_of far_of lasts_of marks_of tests_of column padded print_list
@@ -133,7 +119,7 @@ column_stored : (f : Path → ℕ) (done : List Path) (q : Path) → length done
     → k ≡ length done → x ≡ f q → set l k x ≡ column f (done ++ q ∷ [])
 column_stored f done q h a b c = rw (a, b, c) (column_snoc f done q h)
 
-pub sound_sized : (d : List ℕ) → list_answer d ≡ Sound → Sized (list_paths d)
+pub sound_sized : (d : List ℕ) → list_answer d ≡ Ok tt → Sized (list_paths d)
 sound_sized d e =
     let (p, g, f) = paths_print d e in
     record { few = f; short = all_map (λ q h. h.within.steps) g; bytes = rw p (sound_bytes d e) }

@@ -1,12 +1,12 @@
 -- The laws of `read`:
 -- the tables of no path are zeros, and a refused list has no path.
-use mathlib.Core.Path.{◌≡◌, refl, sym}
+use mathlib.Core.Path.{◌≡◌, refl, sym, ◌∙◌}
 use mathlib.Core.List.{List, [], ◌∷◌}
 use Prim.Native.Nat.{ℕ, ◌+◌}
 use lib.ListN.{replicate, replicate-append-replicate}
+use Rattle.std.specs.Prelude.{Result, Err}
 use Rattle.paths.specs.Judge.{list_answer, list_paths}
-use Rattle.paths.specs.declared.ListAnswer.{ListAnswer}
-use Rattle.paths.specs.declared.ListAnswer.TheVariants.{Sound, TooLong, Malformed, TooLarge}
+use Rattle.paths.specs.declared.ListError.{ListError}
 use Rattle.compiled.specs.Bits.{column, stays_of, goes_of, far_of, lasts_of, marks_of, other_fit}
 use Rattle.lookup.specs.Names.{names_of, chains_of}
 use Rattle.lookup.specs.Index.{padded}
@@ -34,12 +34,7 @@ pub tables_none : replicate 18400 0 ≡ tables_of []
 unfolding tables_of stays_of goes_of far_of lasts_of marks_of tests_of column padded names_of chains_of
 tables_none = rw (← rows_none) (sym (zeros-joined (512 ∷ 512 ∷ 256 ∷ 512 ∷ 16416 ∷ 32 ∷ 32 ∷ 32 ∷ 32 ∷ 32 ∷ 32 ∷ [])))
 
-pub read_refused : (d : List ℕ) {a : ListAnswer} → a ≡ list_answer d → (a ≡ Sound → ⊥) → replicate 18400 0 ≡ tables_of (list_paths d)
+pub read_refused : (d : List ℕ) {a : Result (Unit {0}) ListError} {x : ListError} → a ≡ list_answer d → a ≡ Err x
+    → replicate 18400 0 ≡ tables_of (list_paths d)
 unfolding list_paths
-read_refused d {a} e n = go a e n
-  where
-    go : (b : ListAnswer) → b ≡ list_answer d → (b ≡ Sound → ⊥) → replicate 18400 0 ≡ tables_of (list_paths d)
-    go Sound e n = absurd (n refl)
-    go TooLong e n = rw (← e) tables_none
-    go (Malformed k) e n = rw (← e) tables_none
-    go (TooLarge k) e n = rw (← e) tables_none
+read_refused d {a} {x} e n = rw (sym e ∙ n) tables_none

@@ -5,9 +5,9 @@ use mathlib.Core.Bool.{Bool, true, false, ◌&&◌, ◌||◌, true≢false}
 use mathlib.Core.List.{List, [], ◌∷◌, map}
 use Prim.Native.Nat.{ℕ, zero, suc, ◌+◌, ◌-◌, ◌*◌, ◌/◌, ◌%◌, ◌≤◌, ◌<◌}
 use native.Mathlib.Omega.{arith}
-use borrow.Author.Tests.{eqb-true, eqb-false, eq-eqb, ne_eqb, ltb-true, ltb-false}
-use lib.ListN.{length, get_or, drop, set, length-set}
-use lib.Seq.{get_or-set_same, get_or-set_other, get_or-take, get_or-drop, ext_get_or}
+use borrow.Author.Tests.{eq-eqb, ne_eqb, ltb-true, ltb-false}
+use lib.ListN.{length, get_or, drop}
+use lib.Seq.{get_or-take, get_or-drop, ext_get_or}
 use lib.Dec.{eqb, ltb}
 use Rattle.xml.specs.Productions.{same}
 use Rattle.paths.specs.Path.{Test, any, named, Step, Path, All, none, more}
@@ -37,54 +37,6 @@ pub record Spreading (l l' : List ℕ) (i : ℕ) : Type 0 where
   pub first : (j : ℕ) → j < 32 → get_or l' j 0 ≡ get_or l j 0
   pub past : (j : ℕ) → 32 ≤ j → j < i → get_or l' j 0 ≡ get_or l j 0 + get_or l (j % 32) 0
   pub left : (j : ℕ) → i ≤ j → get_or l' j 0 ≡ get_or l j 0
-
-pub spread_start : {l : List ℕ} → Spreadable l → Spreading l l 32
-spread_start s =
-    record {
-      begun = omega arith;
-      i_in = omega arith;
-      long = s.long;
-      fits = s.fits;
-      first = λ j h. refl;
-      past = λ j h k. absurd (omega arith);
-      left = λ j h. refl;
-    }
-
-module _ {l l' : List ℕ} {i : ℕ} (v : Spreading l l' i) where
-  sum_is : i < 16416 → get_or l' i 0 + get_or l' (i % 32) 0 ≡ get_or l i 0 + get_or l (i % 32) 0
-  sum_is h = cc (v.left i (omega arith), v.first (i % 32) (omega arith))
-
-  pub spread_fits : i < 16416 → get_or l' i 0 + get_or l' (i % 32) 0 < 65536
-  spread_fits h = rw (sum_is h) (v.fits i v.begun h)
-
-  pub spread_more : i < 16416 → Spreading l (set l' i (get_or l' i 0 + get_or l' (i % 32) 0)) (i + 1)
-  spread_more h =
-      let x = get_or l' i 0 + get_or l' (i % 32) 0 in
-      let b = v.begun in
-      record {
-        begun = omega arith;
-        i_in = omega arith;
-        long = length-set l' i x ∙ v.long;
-        fits = v.fits;
-        first = λ j k. get_or-set_other l' i j x 0 (λ e. omega arith) ∙ v.first j k;
-        past = λ j k m. go j k m (eqb j i) refl;
-        left = λ j k. get_or-set_other l' i j x 0 (λ e. omega arith) ∙ v.left j (omega arith);
-      }
-    where
-      go : (j : ℕ) → 32 ≤ j → j < i + 1 → (b : Bool) → eqb j i ≡ b
-          → get_or (set l' i (get_or l' i 0 + get_or l' (i % 32) 0)) j 0 ≡ get_or l j 0 + get_or l (j % 32) 0
-      go j k m true b =
-          let e = eqb-true j i b in
-          let y = get_or-set_same l' i (get_or l' i 0 + get_or l' (i % 32) 0) 0 (rw v.long h) in
-          rw e (y ∙ sum_is h)
-      go j k m false b =
-          let ne = eqb-false j i b in
-          get_or-set_other l' i j (get_or l' i 0 + get_or l' (i % 32) 0) 0 ne ∙ v.past j k (omega (arith, ne))
-
-  pub spread_end : 16416 ≤ i → Spread l l'
-  spread_end h = let z = v.i_in in record { long = v.long; first = v.first; other = λ j k m. v.past j k (omega arith) }
-
-pub ruleset spreading = (spread_start, spread_fits, spread_more, spread_end)
 
 -- ---- the rows of the compiled list, by number
 

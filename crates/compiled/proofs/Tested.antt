@@ -3,17 +3,17 @@
 use mathlib.Core.Path.{◌≡◌, refl, sym, ap, ◌∙◌}
 use mathlib.Core.Bool.{Bool}
 use mathlib.Core.List.{List, [], ◌∷◌, ◌++◌, append-nil}
-use mathlib.Core.Option.{Option, none, some, some-injective}
+use mathlib.Core.Option.{Option as Maybe, none, some, some-injective}
 use Prim.Native.Nat.{ℕ, zero, suc, ◌+◌, ◌≤◌, ◌<◌}
 use native.Mathlib.Omega.{arith}
 use lib.ListN.{length, take, drop, get_or, length-append}
 use lib.Seq.{drop_at}
+use Rattle.std.specs.Prelude.{Option, Some}
 use Rattle.paths.specs.Path.{AttributeTest, Step, print_step, print_all, print_list}
 use Rattle.paths.specs.Reader.{Ending, end_at, ending_of, print_end}
 use Rattle.paths.specs.Place.{ended, end_placed, line_end_at}
 use Rattle.paths.specs.Judge.{list_paths}
 use Rattle.paths.specs.declared.LineEnd.{LineEnd}
-use Rattle.paths.specs.declared.LineEnd.TheVariants.{Ends}
 use Rattle.paths.proofs.Steps.{step_long}
 use Rattle.paths.proofs.Lines.{end_undoes}
 use Rattle.paths.proofs.Here.{end_here}
@@ -36,16 +36,16 @@ pub ruleset testing = (tested_place)
 -- ---- a line's end, read
 
 -- the place of the name in a test that begins at a place: 0 for no test
-abbrev pub name_place : Option AttributeTest → ℕ → ℕ
+abbrev pub name_place : Maybe AttributeTest → ℕ → ℕ
 name_place none at = 0
 name_place (some x) at = at + 2
 
-pub place_tested : (x : Option AttributeTest) (at : ℕ) → if_tested (name_place x at) at ≡ test_place x at
+pub place_tested : (x : Maybe AttributeTest) (at : ℕ) → if_tested (name_place x at) at ≡ test_place x at
 place_tested none at = refl
 place_tested (some x) at = let z : at + 2 ≡ suc (at + 1) = omega arith in rw z
 
-ended_tail : (x : Option AttributeTest) (at : ℕ) (m : Bool) (n : ℕ)
-    → tail_of (ended at x m n) at ≡ record { test = name_place x at; marked = m; next = n }
+ended_tail : (x : Maybe AttributeTest) (at : ℕ) (m : Bool) (n : ℕ)
+    → tail_of (Some (ended at x m n)) at ≡ record { test = name_place x at; marked = m; next = n }
 ended_tail none at m n = refl
 ended_tail (some x) at m n = refl
 
@@ -78,7 +78,7 @@ module _ {d : List ℕ} {p : ℕ} (v : AtPath d p) where
   -- read at a place that is known to be it
   pub tail_stands : (i : ℕ) → i ≡ at → tail_of (line_end_at d i) i
       ≡ record { test = name_place v.path.test i; marked = v.path.marked; next = i + length (print_end (ending_of v.path)) }
-  tail_stands i q = rw q (ap (λ (e : LineEnd). tail_of e at) end_stands ∙ ended_tail v.path.test at v.path.marked _)
+  tail_stands i q = rw q (ap (λ (e : Option LineEnd). tail_of e at) end_stands ∙ ended_tail v.path.test at v.path.marked _)
 
   pub end_below : at < 65536
   end_below =
@@ -89,21 +89,18 @@ module _ {d : List ℕ} {p : ℕ} (v : AtPath d p) where
 
 -- ---- a test
 
-end_long : (x : Option AttributeTest) (y : AttributeTest) (m : Bool) → x ≡ some y
+end_long : (x : Maybe AttributeTest) (y : AttributeTest) (m : Bool) → x ≡ some y
     → length y.name + length y.value + 4 ≤ length (print_end (record { test = x; marked = m }))
 end_long x y m e = rw e (simp length-append (omega arith))
 
 -- the line's end at a place is read with the places of the name and value of x
 pub record TestAt (d : List ℕ) (at : ℕ) (x : AttributeTest) : Type 0 where
-  pub name : ℕ
-  pub value : ℕ
-  pub marked : Bool
-  pub next : ℕ
-  pub ends : line_end_at d at ≡ Ends name (length x.name) value (length x.value) marked next
-  pub named : take (length x.name) (drop name d) ≡ x.name
-  pub valued : take (length x.value) (drop value d) ≡ x.value
-  pub name_in : name + length x.name ≤ length d
-  pub value_in : value + length x.value ≤ length d
+  pub end : LineEnd
+  pub ends : line_end_at d at ≡ Some end
+  pub named : take end.len (drop end.name d) ≡ x.name
+  pub valued : take end.size (drop end.value d) ≡ x.value
+  pub name_in : end.name + end.len ≤ length d
+  pub value_in : end.value + end.size ≤ length d
 
 module _ {d : List ℕ} {p : ℕ} (v : AtPath d p) where
   -- the entry of the path
@@ -122,19 +119,15 @@ module _ {d : List ℕ} {p : ℕ} (v : AtPath d p) where
   pub test_stands : (x : AttributeTest) → v.path.test ≡ some x → TestAt d (test_begins v.done v.path) x
   test_stands x e =
       let a = test_begins v.done v.path in
-      let q : line_end_at d a ≡ Ends (a + 2) (length x.name) (a + 2 + length x.name + 2) (length x.value) v.path.marked
-      (a + length (print_end (ending_of v.path))) =
-      end_stands v
-      ∙ ap (λ (y : Option AttributeTest). ended a y v.path.marked (a + length (print_end (ending_of v.path)))) e in
+      let n = a + length (print_end (ending_of v.path)) in
+      let q : line_end_at d a ≡ Some (ended a (some x) v.path.marked n) =
+      end_stands v ∙ ap (λ (y : Maybe AttributeTest). Some (ended a y v.path.marked n)) e in
       let h = end_here d a refl q in
       let t = h.tested x (ap (λ (y : Ending). y.test) (some-injective _ _ (sym h.found ∙ end_found v)) ∙ e) in
-      let n = end_long v.path.test x v.path.marked e in
+      let l = end_long v.path.test x v.path.marked e in
       let i = h.inside in
       record {
-        name = a + 2;
-        value = a + 2 + length x.name + 2;
-        marked = v.path.marked;
-        next = a + length (print_end (ending_of v.path));
+        end = ended a (some x) v.path.marked n;
         ends = q;
         named = t.named;
         valued = t.valued;

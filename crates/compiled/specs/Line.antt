@@ -1,11 +1,9 @@
 -- Where the reading of a sound list is: at a path;
 -- at a path's line, with the tables of the paths before; and after the line's steps.
-use Rattle.std.specs.Prelude.{◌≡◌, false, List, [], ◌∷◌, ◌++◌, ℕ, zero, suc, ◌+◌, length}
+use Rattle.std.specs.Prelude.{◌≡◌, false, List, [], ◌∷◌, ◌++◌, ℕ, zero, suc, ◌+◌, length, Option, None, Some, Ok}
 use Rattle.paths.specs.Path.{Path, print_step, print_all, print_list}
 use Rattle.paths.specs.Judge.{list_answer, list_paths}
-use Rattle.paths.specs.declared.ListAnswer.TheVariants.{Sound}
 use Rattle.paths.specs.declared.LineEnd.{LineEnd}
-use Rattle.paths.specs.declared.LineEnd.TheVariants.{Ends, Fault}
 use Rattle.compiled.specs.Kinds.{stays, goes, far}
 use Rattle.compiled.specs.Bits.{step_bits, last_bit}
 use Rattle.compiled.specs.Built.{Built}
@@ -14,7 +12,7 @@ use Rattle.compiled.specs.declared.build.Tail.{Tail}
 
 -- path p of a sound list
 pub record AtPath (d : List ℕ) (p : ℕ) : Type 0 where
-  pub sound : list_answer d ≡ Sound
+  pub sound : list_answer d ≡ Ok tt
   pub done : List Path
   pub path : Path
   pub rest : List Path
@@ -38,9 +36,9 @@ pub record LineDone (d at len head next rows : List ℕ) (p : ℕ) (r : Line) : 
   pub far_is : r.far ≡ step_bits (λ s. far s.kind) here.path
 
 -- a line's end: the place of its test's name, its mark, and the next line's place; at no line's end no test, no mark and the place itself
-abbrev pub tail_of : LineEnd → ℕ → Tail
-tail_of (Ends name len value size m n) at = record { test = name; marked = m; next = n }
-tail_of Fault at = record { test = 0; marked = false; next = at }
+abbrev pub tail_of : Option LineEnd → ℕ → Tail
+tail_of (Some y) at = record { test = y.name; marked = y.marked; next = y.next }
+tail_of None at = record { test = 0; marked = false; next = at }
 
 -- a place, if there is a test, whose name is nowhere at 0
 abbrev pub if_tested : ℕ → ℕ → ℕ

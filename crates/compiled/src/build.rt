@@ -10,7 +10,7 @@ use crate::layout;
 use crate::rows::add_bit;
 use lookup::find::find;
 use lookup::hashing::hash;
-use paths::{LineEnd, StepEnd, end_at, step_at};
+use paths::{end_at, step_at};
 
 // How many names there are, and the number of the name entered.
 #[derive(Drop)]
@@ -110,22 +110,20 @@ pub fn enter_line(
     let mut stays: usize = 0;
     let mut goes: usize = 0;
     let mut far: usize = 0;
+    // Each turn goes on where the step before ended, so the place is no count.
     'steps: loop {
         match step_at(list, place) {
-            StepEnd::Step {
-                kind,
-                name,
-                len: n,
-                end,
-            } => {
-                count = add_step(list, at, len, head, next, rows, count, p, bit, name, n);
-                stays = stays + stay_bit(kind, bit);
-                goes = goes + go_bit(kind, bit);
-                far = far + far_bit(kind, bit);
+            Some(step) => {
+                count = add_step(
+                    list, at, len, head, next, rows, count, p, bit, step.name, step.len,
+                );
+                stays = stays + stay_bit(step.kind, bit);
+                goes = goes + go_bit(step.kind, bit);
+                far = far + far_bit(step.kind, bit);
                 bit = bit * 2;
-                place = end;
+                place = step.end;
             }
-            StepEnd::Fault => break 'steps,
+            None => break 'steps,
         }
     }
     Line {
@@ -151,19 +149,12 @@ pub fn tail_at(list: &[u8], at: usize) -> Tail
     ensures { result ≡ tail_of (line_end_at list.now at) at }
 {
     match end_at(list, at) {
-        LineEnd::Ends {
-            name,
-            len: _,
-            value: _,
-            size: _,
-            marked,
-            next,
-        } => Tail {
-            test: name,
-            marked,
-            next,
+        Some(end) => Tail {
+            test: end.name,
+            marked: end.marked,
+            next: end.next,
         },
-        LineEnd::Fault => Tail {
+        None => Tail {
             test: 0,
             marked: false,
             next: at,

@@ -1,26 +1,22 @@
 // A list is judged, and a sound one compiled line by line. `read` takes any bytes; where the list is refused the tables are those of no
 // path.
-ghost use Rattle.std.specs.Prelude.{◌≡◌, ◌+◌, ◌≤◌, length, replicate};
+ghost use Rattle.std.specs.Prelude.{◌≡◌, ◌+◌, ◌≤◌, length, replicate, Ok};
 ghost use Rattle.std.proofs.lemmas.List.Edits.{sets};
 ghost use Rattle.paths.specs.Judge.{list_answer, list_paths};
-ghost use Rattle.paths.specs.declared.ListAnswer.TheVariants.{Sound};
 ghost use Rattle.compiled.specs.Compiled.{tables_of};
 
 use crate::build::{enter_line, if_marked, if_tested, tail_at};
 use crate::rows::spread;
 use crate::{Compiled, layout};
-use paths::{ListAnswer, answer};
+use paths::{ListError, answer};
 
 // One table is laid into all of them, from a place on.
 fn lay(t: &mut [u16], from: usize, part: &[u16])
     requires { from + length part.now ≤ length t.old }
     ensures { t.new ≡ sets t.old from part.now }
 {
-    let mut i: usize = 0;
-    while i < part.len() {
-        t[from + i] = part[i];
-        i += 1;
-    }
+    let to = from + part.len();
+    t[from..to].copy_from_slice(part);
 }
 
 // The tables of names are laid.
@@ -67,7 +63,7 @@ fn lay_columns(
 
 // The tables of the paths of a sound list, in an array of zeros. The rows, which are most of it, are made in their place there.
 fn compile(list: &[u8], t: &mut [u16])
-    requires { (list_answer list.now ≡ Sound) × (t.old ≡ replicate 18400 0) }
+    requires { (list_answer list.now ≡ Ok tt) × (t.old ≡ replicate 18400 0) }
     ensures { t.new ≡ tables_of (list_paths list.now) }
 {
     let mut stays = [0u16; layout::PATHS];
@@ -85,6 +81,7 @@ fn compile(list: &[u8], t: &mut [u16])
     let mut names: usize = 0;
     let mut p: usize = 0;
     let mut place: usize = 0;
+    // Each turn goes on where the line before ended, so the place is no count.
     while place < list.len() {
         let line = enter_line(
             list,
@@ -114,15 +111,12 @@ fn compile(list: &[u8], t: &mut [u16])
 }
 
 // Any list: what is said of it, and its tables, those of no path where it is refused.
-pub fn read(list: &[u8], t: &mut Compiled) -> ListAnswer
+pub fn read(list: &[u8], t: &mut Compiled) -> Result<(), ListError>
     ensures value { result ≡ list_answer list.now }
     ensures t_after { t.new ≡ tables_of (list_paths list.now) }
 {
     *t = [0u16; layout::LENGTH];
-    let said = answer(list);
-    if let ListAnswer::Sound = said {
-        compile(list, t);
-        return said;
-    }
-    said
+    answer(list)?;
+    compile(list, t);
+    Ok(())
 }

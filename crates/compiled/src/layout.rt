@@ -14,10 +14,10 @@
 //     LENGTH    the end
 //
 // Names are numbered from 1 in HEAD and NEXT, and 0 is none. Steps are bits: bit j for step j + 1.
-use paths::ListAnswer;
+use paths::PathList;
 
 // How many paths, names and chains there are at most, and how many entries the rows have: one for each path, in each row.
-pub const PATHS: usize = ListAnswer::LINES;
+pub const PATHS: usize = PathList::LINES;
 
 pub const NAMES: usize = lookup::NAMES;
 

@@ -1,4 +1,4 @@
--- The laws of `every`, `by_wide` and `covers`: narrow line by narrow line, as long as each is covered; and what is said.
+-- The laws of `every`: narrow line by narrow line, as long as each is covered.
 -- What is left of the narrow list is covered just if the whole is.
 use mathlib.Core.Path.{◌≡◌, refl, sym, ap, ◌∙◌}
 use mathlib.Core.Bool.{Bool, true, false, not, false≢true, true≢false, ◌&&◌}
@@ -6,16 +6,14 @@ use mathlib.Core.List.{List, [], map}
 use Prim.Native.Nat.{ℕ, ◌-◌, ◌≤◌, ◌<◌}
 use native.Mathlib.Omega.{arith}
 use lib.ListN.{length, take, drop}
+use Rattle.std.specs.Prelude.{Ok}
 use Rattle.utf8.proofs.Place.{drop_end}
 use Rattle.paths.specs.Path.{Path}
 use Rattle.paths.specs.Reader.{Run}
 use Rattle.paths.specs.Judge.{lines, list_answer, list_paths}
-use Rattle.paths.specs.declared.ListAnswer.{ListAnswer}
-use Rattle.paths.specs.declared.ListAnswer.TheVariants as lists
 use Rattle.paths.proofs.Lines.{sound_nil, lines_none}
 use Rattle.paths.proofs.Here.{LineHere, line_here, sound_lines}
 use Rattle.compiled.specs.Bits.{bits_of}
-use Rattle.compiled.specs.Compiled.{tables_of}
 use Rattle.compiled.proofs.InLine.{sound_bytes}
 use Rattle.compiled.proofs.OverLines.{sound_sized}
 use Rattle.matcher.specs.Fit.{Serves}
@@ -23,17 +21,13 @@ use Rattle.matcher.specs.State.{fresh_state}
 use Rattle.matcher.specs.Test.{lays}
 use Rattle.matcher.specs.Says.{some as any_of}
 use Rattle.covers.specs.Test.{stands_for, every, covered}
-use Rattle.covers.specs.Answer.{refusal_or, said_of}
 use Rattle.covers.specs.Line.{LineIs, Inside, Lined}
 use Rattle.covers.specs.Sending.{sends_by, run_bits, sent_bits}
 use Rattle.covers.specs.Standing.{some_by}
 use Rattle.covers.specs.declared.line.Line.{Line}
-use Rattle.covers.specs.declared.Which.{Which}
-use Rattle.covers.specs.declared.CoverAnswer.{CoverAnswer}
-use Rattle.covers.specs.declared.CoverAnswer.TheVariants as answers
 use Rattle.covers.proofs.Lines.{line_of, line_runs, line_less, line_in}
 use Rattle.covers.proofs.Sent.{run_laid}
-use Rattle.covers.proofs.Stood.{some_stands}
+use Rattle.covers.proofs.Stood.{lines_inside, some_stands}
 
 -- ---- line by line
 
@@ -48,7 +42,7 @@ pub record Going (narrow wide : List ℕ) (at : ℕ) : Type 0 where
   pub inside : at ≤ length narrow
   pub bytes : length narrow ≤ 8192
 
-pub go_start : {narrow : List ℕ} (wide : List ℕ) → list_answer narrow ≡ lists.Sound → Going narrow wide 0
+pub go_start : {narrow : List ℕ} (wide : List ℕ) → list_answer narrow ≡ Ok tt → Going narrow wide 0
 unfolding covered
 go_start {narrow} wide e =
     let q = sound_lines narrow e in
@@ -119,36 +113,4 @@ module _ {narrow wide : List ℕ} {at : ℕ} (v : Going narrow wide at) where
           go true h = refl
           go false h = absurd (true≢false h)
 
-pub ruleset going = (go_start, go_end, go_inside, go_less, go_stop, go_on)
-
--- ---- what is said
-
-pub wide_serves : {wide t : List ℕ} {a : ListAnswer} → a ≡ list_answer wide → a ≡ lists.Sound → t ≡ tables_of (list_paths wide)
-    → Serves wide t
-wide_serves e s q = record { sound = sym e ∙ s; tables = q }
-
-module _ (list : List ℕ) {a : ListAnswer} (e : a ≡ list_answer list) where
-  pub said_long : (w : Which) (said : CoverAnswer) → a ≡ lists.TooLong → answers.TooLong w ≡ refusal_or w (list_answer list) said
-  said_long w said h = ap (λ (x : ListAnswer). refusal_or w x said) (sym h ∙ e)
-
-  pub said_malformed : (w : Which) (said : CoverAnswer) {n : ℕ} → a ≡ lists.Malformed n
-      → answers.Malformed w n ≡ refusal_or w (list_answer list) said
-  said_malformed w said h = ap (λ (x : ListAnswer). refusal_or w x said) (sym h ∙ e)
-
-  pub said_large : (w : Which) (said : CoverAnswer) {n : ℕ} → a ≡ lists.TooLarge n
-      → answers.TooLarge w n ≡ refusal_or w (list_answer list) said
-  said_large w said h = ap (λ (x : ListAnswer). refusal_or w x said) (sym h ∙ e)
-
-  pub said_accepted : a ≡ lists.Sound → list_answer list ≡ lists.Sound
-  said_accepted h = sym e ∙ h
-
-  pub said_sound : (w : Which) {r said : CoverAnswer} → a ≡ lists.Sound → r ≡ said → r ≡ refusal_or w (list_answer list) said
-  said_sound w {r} {said} h q = q ∙ ap (λ (x : ListAnswer). refusal_or w x said) (sym h ∙ e)
-
-pub said_covered : {b c : Bool} → b ≡ c → b ≡ true → answers.Covered ≡ said_of c
-said_covered e h = ap said_of (sym h ∙ e)
-
-pub said_uncovered : {b c : Bool} → b ≡ c → b ≡ false → answers.Uncovered ≡ said_of c
-said_uncovered e h = ap said_of (sym h ∙ e)
-
-pub ruleset saying = (wide_serves, said_accepted, said_long, said_malformed, said_large, said_sound, said_covered, said_uncovered)
+pub ruleset going = (go_start, go_end, go_inside, lines_inside, go_less, go_stop, go_on)

@@ -3,25 +3,22 @@
 use mathlib.Core.Path.{◌≡◌, refl, sym, ap, ◌∙◌}
 use mathlib.Core.Bool.{Bool, true, false, ◌&&◌, and_assoc, and-true}
 use mathlib.Core.List.{List, [], ◌∷◌, ◌++◌, append_assoc, append-nil}
-use mathlib.Core.Option.{Option, none, some, none-ne-some, some-injective}
+use mathlib.Core.Option.{Option as Maybe, none, some, none-ne-some, some-injective}
 use Prim.Native.Nat.{ℕ, suc, ◌+◌, ◌-◌, ◌*◌, ◌^◌, ◌≤◌, ◌<◌}
 use native.Mathlib.Numerals.{add-one}
 use native.Mathlib.Omega.{arith}
 use borrow.Author.Tests.{ne_eqb}
 use lib.ListN.{length, take, drop, set, length-append, length-drop, length-set, length-replicate, replicate}
 use lib.Seq.{take-append_seam, take-suc-set}
+use Rattle.std.specs.Prelude.{Option, None, Some, Ok}
 use Rattle.xml.specs.Notation.{bytes}
 use Rattle.utf8.proofs.Place.{drop_end}
 use Rattle.paths.specs.Path.{Step, AttributeTest, Path, print_step, print_all, print_attribute, print_mark, print_line}
 use Rattle.paths.specs.Reader.{Run, cons, steps, Ending, ending_of, print_end, end_at, path_of}
 use Rattle.paths.specs.Judge.{lines, list_answer, list_paths}
 use Rattle.paths.specs.Place.{step_end_at, value_from, ended, line_end_at}
-use Rattle.paths.specs.declared.Kind.{Kind}
-use Rattle.paths.specs.declared.ListAnswer.TheVariants.{Sound}
+use Rattle.paths.specs.declared.Step.{Step as PlacedStep}
 use Rattle.paths.specs.declared.LineEnd.{LineEnd}
-use Rattle.paths.specs.declared.LineEnd.TheVariants.{Ends as LineEnds, Fault as NoEnd}
-use Rattle.paths.specs.declared.StepEnd.{StepEnd}
-use Rattle.paths.specs.declared.StepEnd.TheVariants.{Step as StepTo, Fault as NoStep}
 use Rattle.paths.proofs.Steps.{steps_none, steps_found}
 use Rattle.paths.proofs.Lines.{end_undoes, line_long, sound_nil, lines_none}
 use Rattle.paths.proofs.Meaning.{paths_print}
@@ -43,20 +40,20 @@ pub record Walking (d : List ℕ) (at i : ℕ) (p : Bool) : Type 0 where
 pub walk_start : {d : List ℕ} {at : ℕ} → at ≤ length d → Walking d at at true
 walk_start l = record { every = refl; left = refl; begun = omega arith; inside = l }
 
-module _ {d : List ℕ} {at i : ℕ} {p : Bool} (w : Walking d at i p) {r : StepEnd} (q : r ≡ step_end_at d i) where
-  module _ {k : Kind} {name len end : ℕ} (f : r ≡ StepTo k name len end) where
-    here : StepHere d i k name len end
+module _ {d : List ℕ} {at i : ℕ} {p : Bool} (w : Walking d at i p) {r : Option PlacedStep} (q : r ≡ step_end_at d i) where
+  module _ {y : PlacedStep} (f : r ≡ Some y) where
+    here : StepHere d i y
     here = step_here d i q f
 
-    pub walk_less : length d - end < length d - i
+    pub walk_less : length d - y.end < length d - i
     walk_less = omega (arith, here.on, here.inside)
 
-    pub walk_on : {b : Bool} → b ≡ is_plain k → Walking d at end (p && b)
+    pub walk_on : {b : Bool} → b ≡ is_plain y.kind → Walking d at y.end (p && b)
     walk_on {b} e =
         record {
           every =
-              and_assoc p b (plain (steps (drop end d)).all)
-              ∙ ap (λ (x : Bool). p && (x && plain (steps (drop end d)).all)) (e ∙ ap is_plain here.kind)
+              and_assoc p b (plain (steps (drop y.end d)).all)
+              ∙ ap (λ (x : Bool). p && (x && plain (steps (drop y.end d)).all)) (e ∙ ap is_plain here.kind)
               ∙ ap (λ (y : Run Step). p && plain y.all) (sym here.runs)
               ∙ w.every;
           left = sym (ap (λ (y : Run Step). y.rest) here.runs) ∙ w.left;
@@ -64,7 +61,7 @@ module _ {d : List ℕ} {at i : ℕ} {p : Bool} (w : Walking d at i p) {r : Step
           inside = here.inside;
         }
 
-  pub walk_end : r ≡ NoStep → StepsAre d at i p
+  pub walk_end : r ≡ None → StepsAre d at i p
   walk_end f =
       let n = steps_none (drop i d) (step_none d i q f) in
       record {
@@ -86,52 +83,50 @@ test_some at len value size n = rw (ne_eqb len 0 n)
 
 pub ruleset testing = (test_none, test_some)
 
-module _ (d : List ℕ) (i : ℕ) {r : LineEnd} (q : r ≡ line_end_at d i) {name len value size : ℕ} {m : Bool} {next : ℕ}
-    (f : r ≡ LineEnds name len value size m next) where
-  ends : EndHere d i name len value size m next
+module _ (d : List ℕ) (i : ℕ) {r : Option LineEnd} (q : r ≡ line_end_at d i) {y : LineEnd} (f : r ≡ Some y) where
+  ends : EndHere d i y
   ends = end_here d i q f
 
-  test_is : test_end i len value size ≡ i + length (print_attribute ends.ending.test)
+  test_is : test_end i y.len y.value y.size ≡ i + length (print_attribute ends.ending.test)
   test_is = go ends.ending.test refl ends.ending.marked (i + length (print_end ends.ending)) ends.placed
     where
-      go : (x : Option AttributeTest) → ends.ending.test ≡ x → (y : Bool) (k : ℕ)
-          → LineEnds name len value size m next ≡ ended i x y k
-          → test_end i len value size ≡ i + length (print_attribute x)
-      go none h y k z = let a : len ≡ 0 = cc in rw a (omega arith)
-      go (some x) h y k z =
-          let a : len ≡ length x.name = cc in
-          let b : value ≡ value_from i x = cc in
-          let c : size ≡ length x.value = cc in
+      go : (x : Maybe AttributeTest) → ends.ending.test ≡ x → (m : Bool) (k : ℕ) → Some y ≡ Some (ended i x m k)
+          → test_end i y.len y.value y.size ≡ i + length (print_attribute x)
+      go none h m k z = let a : y.len ≡ 0 = cc in rw a (omega arith)
+      go (some x) h m k z =
+          let a : y.len ≡ length x.name = cc in
+          let b : y.value ≡ value_from i x = cc in
+          let c : y.size ≡ length x.value = cc in
           let s = (ends.tested x h).some in
           let t : length (print_attribute (some x)) ≡ 2 + (length x.name + (2 + (length x.value + 2))) =
           simp length-append (omega arith) in
-          rw (ne_eqb len 0 (λ u. omega arith)) (omega arith)
+          rw (ne_eqb y.len 0 (λ u. omega arith)) (omega arith)
 
-  test_inside : test_end i len value size ≤ length d
+  test_inside : test_end i y.len y.value y.size ≤ length d
   test_inside =
       let e = ends.ending in
       let z = length-append (print_attribute e.test) (print_mark e.marked ++ bytes "\n") in
       omega (arith, test_is, ends.ends, ends.inside)
 
-  pub end_room : length d ≤ 8192 → value + size ≤ 8192
+  pub end_room : length d ≤ 8192 → y.value + y.size ≤ 8192
   end_room l = go ends.ending.test refl ends.ending.marked (i + length (print_end ends.ending)) ends.placed
     where
-      go : (x : Option AttributeTest) → ends.ending.test ≡ x → (y : Bool) (k : ℕ)
-          → LineEnds name len value size m next ≡ ended i x y k → value + size ≤ 8192
-      go none h y k z =
-          let a : value ≡ 0 = cc in
-          let b : size ≡ 0 = cc in
+      go : (x : Maybe AttributeTest) → ends.ending.test ≡ x → (m : Bool) (k : ℕ) → Some y ≡ Some (ended i x m k)
+          → y.value + y.size ≤ 8192
+      go none h m k z =
+          let a : y.value ≡ 0 = cc in
+          let b : y.size ≡ 0 = cc in
           omega arith
-      go (some x) h y k z =
+      go (some x) h m k z =
           let s = (ends.tested x h).some in
-          omega (arith, test_inside, test_some i len value size (λ u. omega arith))
+          omega (arith, test_inside, test_some i y.len y.value y.size (λ u. omega arith))
 
-  pub line_ended : {at : ℕ} {p : Bool} → StepsAre d at i p → {end : ℕ} → end ≡ test_end i len value size
-      → LineIs d at (record { from = at; steps = i; end = end; next = next; marked = m; plain = p })
+  pub line_ended : {at : ℕ} {p : Bool} → StepsAre d at i p → {end : ℕ} → end ≡ test_end i y.len y.value y.size
+      → LineIs d at (record { from = at; steps = i; end = end; next = y.next; marked = y.marked; plain = p })
   line_ended {at} {p} w {end} g = record { from_is = refl; steps_are = w; tail = tail }
     where
       tail : (e : Ending) → end_at (drop i d) ≡ some e
-          → TailIs (record { from = at; steps = i; end = end; next = next; marked = m; plain = p }) e
+          → TailIs (record { from = at; steps = i; end = end; next = y.next; marked = y.marked; plain = p }) e
       tail e h =
           let s : ends.ending ≡ e = some-injective _ _ (sym ends.found ∙ h) in
           record {
@@ -140,7 +135,7 @@ module _ (d : List ℕ) (i : ℕ) {r : LineEnd} (q : r ≡ line_end_at d i) {nam
             marked_is = ends.mark ∙ ap (λ (y : Ending). y.marked) s;
           }
 
-pub line_unended : {d : List ℕ} {i : ℕ} {r : LineEnd} → r ≡ line_end_at d i → r ≡ NoEnd → {at : ℕ} {p : Bool} → StepsAre d at i p
+pub line_unended : {d : List ℕ} {i : ℕ} {r : Option LineEnd} → r ≡ line_end_at d i → r ≡ None → {at : ℕ} {p : Bool} → StepsAre d at i p
     → LineIs d at (record { from = at; steps = i; end = i; next = i; marked = false; plain = p })
 line_unended {d} {i} q f w =
     record { from_is = refl; steps_are = w; tail = λ e h. absurd (none-ne-some _ (sym (end_none d i q f) ∙ h)) }
@@ -235,7 +230,7 @@ each_last (more s e) r = more s (each_last e r)
 
 -- the first `count` lines are those of the paths before the place at
 pub record Lining (d : List ℕ) (all : List Line) (count at : ℕ) : Type 0 where
-  pub sound : list_answer d ≡ Sound
+  pub sound : list_answer d ≡ Ok tt
   pub done : List Path
   pub each : Each (LineOf d) (take count all) done
   pub count_is : count ≡ length done
@@ -244,7 +239,7 @@ pub record Lining (d : List ℕ) (all : List Line) (count at : ℕ) : Type 0 whe
   pub inside : at ≤ length d
   pub long : length all ≡ 32
 
-pub lines_start : {d : List ℕ} → list_answer d ≡ Sound → (x : Line) → Lining d (replicate 32 x) 0 0
+pub lines_start : {d : List ℕ} → list_answer d ≡ Ok tt → (x : Line) → Lining d (replicate 32 x) 0 0
 lines_start {d} e x =
     let q = sound_lines d e in
     record {

@@ -4,11 +4,12 @@
 use mathlib.Core.Path.{◌≡◌, refl, sym, ap, ap₂, ◌∙◌}
 use mathlib.Core.Bool.{Bool, true, false, cond, not, false≢true, ◌&&◌, ◌||◌, and_comm}
 use mathlib.Core.List.{List, [], ◌∷◌, ◌++◌, append_assoc, map}
-use mathlib.Core.Option.{Option, none, some}
+use mathlib.Core.Option.{Option as Maybe, none, some}
 use Prim.Native.Nat.{ℕ, zero, suc, ◌+◌, ◌-◌, ◌*◌, ◌^◌, ◌≤◌, ◌<◌}
 use native.Mathlib.Omega.{arith}
 use lib.ListN.{length, take, drop, get_or, set, replicate, length-append}
 use lib.Bits.{bit_and}
+use Rattle.std.specs.Prelude.{Option, None, Some}
 use Rattle.xml.specs.Productions.{same}
 use Rattle.paths.specs.Path.{Test, any, named, Step, Path, All, print_kind, print_test, print_step, test_size, ProperTest, Proper, Good}
 use Rattle.paths.specs.Reader.{Run, step_at, steps}
@@ -16,8 +17,7 @@ use Rattle.paths.specs.Place.{step_placed, step_end_at}
 use Rattle.paths.specs.Judge.{list_paths}
 use Rattle.paths.specs.declared.Kind.{Kind}
 use Rattle.paths.specs.declared.Kind.TheVariants.{Child, Descendant, SelfStep, DescendantOrSelf}
-use Rattle.paths.specs.declared.StepEnd.{StepEnd}
-use Rattle.paths.specs.declared.StepEnd.TheVariants.{Step as StepTo, Fault as NoStep}
+use Rattle.paths.specs.declared.Step.{Step as PlacedStep}
 use Rattle.paths.proofs.Names.{name_long}
 use Rattle.paths.proofs.Print.{read_inside}
 use Rattle.paths.proofs.Steps.{step_undoes, step_long, steps_none}
@@ -235,22 +235,22 @@ pub ruleset fitting = (fit_child, fit_descendant, fit_self, fit_or_self)
 -- ---- a narrow line, step by step
 
 -- the name of a step is inside the list
-step_name : (d : List ℕ) (at : ℕ) {r : StepEnd} → r ≡ step_end_at d at → {k : Kind} {name len end : ℕ} → r ≡ StepTo k name len end
-    → name + len ≤ length d
+step_name : (d : List ℕ) (at : ℕ) {r : Option PlacedStep} → r ≡ step_end_at d at → {y : PlacedStep} → r ≡ Some y
+    → y.name + y.len ≤ length d
 unfolding step_end_at print_step
-step_name d at q {k} {name} {len} {end} f = go (step_at (drop at d)) refl (sym f ∙ q)
+step_name d at q {y} f = go (step_at (drop at d)) refl (sym f ∙ q)
   where
     size : (x : Test) → test_size x ≤ length (print_test x)
     size any = omega arith
     size (named m) = omega arith
 
-    go : (o : Option Step) → step_at (drop at d) ≡ o → StepTo k name len end ≡ step_placed at o → name + len ≤ length d
+    go : (o : Maybe Step) → step_at (drop at d) ≡ o → Some y ≡ step_placed at o → y.name + y.len ≤ length d
     go none e z = absurd (let z : ◌≡◌ {A = ℕ} 0 1 = cc in omega arith)
     go (some x) e z =
-        let a : name ≡ at + length (print_kind x.kind) = cc in
-        let b : len ≡ test_size x.test = cc in
+        let a : y.name ≡ at + length (print_kind x.kind) = cc in
+        let b : y.len ≡ test_size x.test = cc in
         let i = read_inside step_undoes step_long d at e in
-        let y = size x.test in
+        let u = size x.test in
         let w = length-append (print_kind x.kind) (print_test x.test) in
         omega arith
 
@@ -266,49 +266,49 @@ unfolding sent_bits
 send_start wide {narrow} {at} l b e = record { run = rw e refl; inside = l; bytes = b }
 
 module _ {wide narrow : List ℕ} {at i : ℕ} {state : MatchState} {bits : ℕ} (v : Sending wide narrow at i state bits)
-    {r : StepEnd} (q : r ≡ step_end_at narrow i) where
-  module _ {k : Kind} {name len end : ℕ} (f : r ≡ StepTo k name len end) where
-    here : StepHere narrow i k name len end
+    {r : Option PlacedStep} (q : r ≡ step_end_at narrow i) where
+  module _ {y : PlacedStep} (f : r ≡ Some y) where
+    here : StepHere narrow i y
     here = step_here narrow i q f
 
-    pub send_less : length narrow - end < length narrow - i
+    pub send_less : length narrow - y.end < length narrow - i
     send_less = omega (arith, here.on, here.inside)
 
-    pub send_name : name + len ≤ length narrow
+    pub send_name : y.name + y.len ≤ length narrow
     send_name = step_name narrow i q f
 
-    pub send_sum : name + len < 2 ^ 64
-    send_sum = let z = send_name in let y : 2 ^ 64 ≡ 18446744073709551616 = refl in omega (arith, v.bytes)
+    pub send_sum : y.name + y.len < 2 ^ 64
+    send_sum = let z = send_name in let u : 2 ^ 64 ≡ 18446744073709551616 = refl in omega (arith, v.bytes)
 
-    name_is : take (name + len - name) (drop name narrow) ≡ name_for here.step.test
+    name_is : take (y.name + y.len - y.name) (drop y.name narrow) ≡ name_for here.step.test
     name_is =
-        let z : name + len - name ≡ len = omega arith in
+        let z : y.name + y.len - y.name ≡ y.len = omega arith in
         rw z (go here.step.test refl)
       where
-        go : (x : Test) → here.step.test ≡ x → take len (drop name narrow) ≡ name_for x
-        go any e = let z : len ≡ 0 = here.size ∙ ap test_size e in rw z
+        go : (x : Test) → here.step.test ≡ x → take y.len (drop y.name narrow) ≡ name_for x
+        go any e = let z : y.len ≡ 0 = here.size ∙ ap test_size e in rw z
         go (named m) e = here.bytes m e
 
     pub send_on : {t : List ℕ} → Serves wide t → {fit : Fit}
-        → fit ≡ fit_by (list_paths wide) k (take (name + len - name) (drop name narrow))
-        → {b : ℕ} → b ≡ selecting_by state fit → {m : MatchState} → m ≡ deeper_of state fit → Sending wide narrow at end m b
+        → fit ≡ fit_by (list_paths wide) y.kind (take (y.name + y.len - y.name) (drop y.name narrow))
+        → {b : ℕ} → b ≡ selecting_by state fit → {m : MatchState} → m ≡ deeper_of state fit → Sending wide narrow at y.end m b
     send_on s {fit} p {b} e {m} g =
         let ws = list_paths wide in
         let x = here.step in
         let z = paths_print wide s.sound in
-        let y : fit ≡ send_fit ws x =
+        let o : fit ≡ send_fit ws x =
         p ∙ ap₂ (fit_by ws) here.kind name_is ∙ fit_is ws z.2 z.1 x in
         record {
           run =
-              ap₂ (λ (u : MatchState) (c : ℕ). run_bits ws u c (steps (drop end narrow)).all) (g ∙ ap (deeper_of state) y)
-              (e ∙ ap (selecting_by state) y)
+              ap₂ (λ (u : MatchState) (c : ℕ). run_bits ws u c (steps (drop y.end narrow)).all) (g ∙ ap (deeper_of state) o)
+              (e ∙ ap (selecting_by state) o)
               ∙ ap (λ (y : Run Step). run_bits ws state bits y.all) (sym here.runs)
               ∙ v.run;
           inside = here.inside;
           bytes = v.bytes;
         }
 
-  pub send_end : r ≡ NoStep → bits ≡ sent_bits (list_paths wide) narrow at
+  pub send_end : r ≡ None → bits ≡ sent_bits (list_paths wide) narrow at
   send_end f =
       let n = steps_none (drop i narrow) (step_none narrow i q f) in
       ap (λ (y : Run Step). run_bits (list_paths wide) state bits y.all) (sym n) ∙ v.run

@@ -1,21 +1,20 @@
--- One line that stands for another. In order: two texts; the ways through `stands_for`; the lines tried one by one. Then the meaning: what
+-- One line that stands for another. In order: the ways through `stands_for`; the lines tried one by one. Then the meaning: what
 -- the bytes say is what `stands_for` says of the paths, `line_stands`, and so of all lines, `some_stands`.
 use mathlib.Core.Path.{◌≡◌, refl, sym, ap, ap₂, ◌∙◌}
 use mathlib.Core.Bool.{Bool, true, false, cond, not, false≢true, true≢false, ◌&&◌, ◌||◌, and-false, and-true, and_comm}
 use mathlib.Core.List.{List, [], ◌++◌, append_assoc, append-nil, map}
 use mathlib.Core.Option.{Option, none, some, some-injective}
-use Prim.Native.Nat.{ℕ, zero, suc, ◌+◌, ◌-◌, ◌/◌, ◌≤◌, ◌<◌}
-use native.Mathlib.Numerals.{add-one}
+use Prim.Native.Nat.{ℕ, zero, suc, ◌-◌, ◌≤◌, ◌<◌}
 use native.Mathlib.Omega.{arith}
 use borrow.Author.Tests.{eq-eqb, ne_eqb}
 use lib.Dec.{eqb}
-use lib.ListN.{length, take, drop, get_or, length-drop, drop_of_length-le}
-use lib.Seq.{take_all, drop-cons, get_or-take, length-take-le}
+use lib.ListN.{length, take, drop, length-drop}
+use lib.Seq.{length-take-le}
+use Rattle.std.specs.List.{All as AllOf}
 use Rattle.xml.specs.Notation.{bytes}
-use Rattle.xml.specs.Character.{begins}
 use Rattle.xml.specs.Productions.{same}
 use Rattle.xml.proofs.Bools.{and_left, and_right}
-use Rattle.xml.proofs.Same.{same_equal, same_refl, same_other, begins-same}
+use Rattle.xml.proofs.Same.{same_equal, same_refl}
 use Rattle.paths.specs.Path.{AttributeTest, Path, print_step, print_all, print_attribute, IsPath, IfAny, ProperAttribute}
 use Rattle.paths.specs.Reader.{attribute_at, line_at}
 use Rattle.paths.proofs.Attributes.{attribute_undoes}
@@ -23,7 +22,6 @@ use Rattle.paths.proofs.Lines.{line_print, line_undoes}
 use Rattle.compiled.specs.Bits.{bits_of}
 use Rattle.matcher.specs.Test.{lays}
 use Rattle.matcher.specs.Says.{some as any_of}
-use Rattle.matcher.specs.Picked.{odd}
 use Rattle.matcher.proofs.Digits.{bit_odd, bit_half}
 use Rattle.covers.specs.Cover.{plain, SamePath}
 use Rattle.covers.specs.Test.{sends_to, same_attribute, same_path, test_for, covers, stands_for}
@@ -33,18 +31,6 @@ use Rattle.covers.specs.Standing.{stood, stands_by, some_by}
 use Rattle.covers.specs.declared.line.Line.{Line}
 use Rattle.covers.proofs.Deciding.{attribute_same, attribute_refl, same_iff}
 use Rattle.covers.proofs.Sent.{lays_same}
-
--- ---- two texts
-
-module _ (a b : List ℕ) where
-  pub same_long : (length a ≡ length b → ⊥) → false ≡ same a b
-  same_long n = sym (same_other a b (λ e. n (ap length e)))
-
-  pub same_text : length a ≡ length b → {r : Bool} → r ≡ begins b (drop 0 a) → r ≡ same a b
-  same_text e q =
-      q ∙ begins-same b a ∙ ap (λ (w : List ℕ). same w b) (take_all (length b) a (let z = e in omega arith))
-
-pub ruleset texts = (same_long, same_text)
 
 -- ---- the ways through
 
@@ -128,60 +114,17 @@ pub ruleset ways = (stands_unmarked, stands_same, stands_unsent, stands_untested
 
 -- ---- line by line
 
-each_inside : {d : List ℕ} {xs : List Line} {ps : List Path} → Each (LineOf d) xs ps → (i : ℕ) → i < length xs → (x : Line)
-    → Inside d (get_or xs i x)
-each_inside nil i l x = absurd (let z : i < 0 = l in omega arith)
-each_inside (more r e) zero l x = r.within
-each_inside (more r e) (suc i) l x = each_inside e i (omega arith) x
+each_inside : {d : List ℕ} {xs : List Line} {ps : List Path} → Each (LineOf d) xs ps → AllOf (Inside d) xs
+each_inside nil i x l = absurd (let z : i < 0 = l in omega arith)
+each_inside (more r e) zero x l = r.within
+each_inside (more r e) (suc i) x l = each_inside e i x (omega arith)
+
+pub lines_inside : {e : List ℕ} {all : List Line} {count : ℕ} → Lined e all count → AllOf (Inside e) (take count all)
+lines_inside w = each_inside w.each
 
 -- none of the first p lines stands for a
-pub record Seeking (d : List ℕ) (a : Line) (e : List ℕ) (all : List Line) (count sent left p : ℕ) : Type 0 where
-  pub inside : p ≤ count
-  pub rest : some_by d a e (take count all) sent ≡ some_by d a e (drop p (take count all)) left
-
-pub seek_start : {d : List ℕ} {a : Line} {e : List ℕ} {all : List Line} {count sent : ℕ} → Seeking d a e all count sent sent 0
-seek_start = record { inside = omega arith; rest = refl }
-
-module _ {e : List ℕ} {all : List Line} {count : ℕ} (w : Lined e all count) where
-  taken : length (take count all) ≡ count
-  taken = length-take-le count all (omega (arith, w.few, w.long))
-
-  pub seek_inside : {p : ℕ} → p < count → (x : Line) → Inside e (get_or all p x)
-  seek_inside {p} l x =
-      rw (← get_or-take count all p x l) (each_inside w.each p (omega (arith, taken)) x)
-
-  pub seek_few : {p : ℕ} → p < count → p < 32
-  seek_few l = omega (arith, w.few)
-
-  module _ {d : List ℕ} {a : Line} {sent left p : ℕ} (v : Seeking d a e all count sent left p) where
-    module _ (l : p < count) (x : Line) where
-      first : some_by d a e (take count all) sent
-          ≡ (stands_by d a e (get_or all p x) (odd left) || some_by d a e (drop (suc p) (take count all)) (left / 2))
-      first =
-          v.rest
-          ∙ ap (λ (bs : List Line). some_by d a e bs left) (drop-cons (take count all) p x (omega (arith, taken)))
-          ∙ ap (λ (b : Line). stands_by d a e b (odd left) || some_by d a e (drop (suc p) (take count all)) (left / 2))
-          (get_or-take count all p x l)
-
-      module _ {r : Bool} (q : r ≡ stands_by d a e (get_or all p x) (odd left)) where
-        pub seek_found : r ≡ true → true ≡ some_by d a e (take count all) sent
-        seek_found h =
-            sym (first ∙ ap (λ (b : Bool). b || some_by d a e (drop (suc p) (take count all)) (left / 2)) (sym q ∙ h))
-
-        pub seek_more : r ≡ false → Seeking d a e all count sent (left / 2) (p + 1)
-        seek_more h =
-            record {
-              inside = omega arith;
-              rest =
-                  rw (add-one p)
-                  (first ∙ ap (λ (b : Bool). b || some_by d a e (drop (suc p) (take count all)) (left / 2)) (sym q ∙ h));
-            }
-
-    pub seek_end : count ≤ p → false ≡ some_by d a e (take count all) sent
-    seek_end l =
-        sym (v.rest ∙ ap (λ (bs : List Line). some_by d a e bs left) (drop_of_length-le (take count all) {i = p} (omega (arith, taken))))
-
-pub ruleset seeking = (seek_start, seek_inside, seek_few, seek_found, seek_more, seek_end)
+pub record Seeking (d : List ℕ) (a : Line) (e : List ℕ) (bs : List Line) (sent left p : ℕ) : Type 0 where
+  pub rest : some_by d a e bs sent ≡ some_by d a e (drop p bs) left
 
 -- ---- the meaning
 

@@ -3,13 +3,12 @@
 //     /g//v[@k="x"] #
 //     ^    ^       ^^
 //     from steps   end, then the mark and LF, and the next line
-ghost use Rattle.std.specs.Prelude.{◌≡◌, ◌+◌, ◌≤◌, length};
+ghost use Rattle.std.specs.Prelude.{◌≡◌, ◌+◌, ◌≤◌, length, Ok};
 ghost use Rattle.paths.specs.Judge.{list_answer};
-ghost use Rattle.paths.specs.declared.ListAnswer.TheVariants.{Sound};
 ghost use Rattle.covers.specs.Cover.{is_plain};
 ghost use Rattle.covers.specs.Line.{StepsAre, LineIs, Lined, test_end};
 
-use paths::{Kind, LineEnd, ListAnswer, StepEnd, end_at, step_at};
+use paths::{Kind, PathList, end_at, step_at};
 
 // A line: where it begins, where its steps end, where its test ends, and the next line's place; whether it is marked, and whether it has
 // child and descendant steps only.
@@ -31,7 +30,7 @@ pub struct Lines {
 }
 
 impl Lines {
-    pub const MOST: usize = ListAnswer::LINES;
+    pub const MOST: usize = PathList::LINES;
 }
 
 // Where the steps of a line end, and whether they are child and descendant steps only.
@@ -60,18 +59,14 @@ fn steps_at(list: &[u8], at: usize) -> Steps
 {
     let mut i = at;
     let mut plain = true;
+    // Each turn goes on where the step before ended, so the place is no count.
     loop {
         match step_at(list, i) {
-            StepEnd::Step {
-                kind,
-                name: _,
-                len: _,
-                end,
-            } => {
-                plain = plain & is_plain(kind);
-                i = end;
+            Some(step) => {
+                plain = plain & is_plain(step.kind);
+                i = step.end;
             }
-            StepEnd::Fault => {
+            None => {
                 return Steps { end: i, plain };
             }
         }
@@ -96,25 +91,15 @@ pub fn line_at(list: &[u8], at: usize) -> Line
 {
     let steps = steps_at(list, at);
     match end_at(list, steps.end) {
-        LineEnd::Ends {
-            name: _,
-            len,
-            value,
-            size,
-            marked,
-            next,
-        } => {
-            let end = test_end(steps.end, len, value, size);
-            Line {
-                from: at,
-                steps: steps.end,
-                end,
-                next,
-                marked,
-                plain: steps.plain,
-            }
-        }
-        LineEnd::Fault => Line {
+        Some(end) => Line {
+            from: at,
+            steps: steps.end,
+            end: test_end(steps.end, end.len, end.value, end.size),
+            next: end.next,
+            marked: end.marked,
+            plain: steps.plain,
+        },
+        None => Line {
             from: at,
             steps: steps.end,
             end: steps.end,
@@ -127,7 +112,7 @@ pub fn line_at(list: &[u8], at: usize) -> Line
 
 // The lines of a sound list.
 pub fn lines_of(list: &[u8]) -> Lines
-    requires { list_answer list.now ≡ Sound }
+    requires { list_answer list.now ≡ Ok tt }
     ensures { Lined list.now result.all result.count }
 {
     let none = Line {
@@ -141,6 +126,7 @@ pub fn lines_of(list: &[u8]) -> Lines
     let mut all = [none; Lines::MOST];
     let mut count: usize = 0;
     let mut at: usize = 0;
+    // Each turn goes on where the line before ended, so the place is no count.
     while at < list.len() {
         let line = line_at(list, at);
         all[count] = line;

@@ -12,32 +12,17 @@ ghost use Rattle.covers.specs.Sending.{far_only, fit_by, sent_bits};
 use compiled::Compiled;
 use matcher::fit::{Fit, fit_of};
 use matcher::state::MatchState;
-use paths::{Kind, StepEnd, step_at};
+use paths::{Kind, step_at};
 
 // A fit that only those steps pass that may go far.
 fn far_only(fit: Fit) -> Fit
     ensures { result ≡ far_only fit }
 {
-    let passes = fit.passes;
-    let stays = fit.stays;
-    let goes = fit.goes;
-    let far = fit.far;
-    let lasts = fit.lasts;
-    let marks = fit.marks;
-    let mut bits = [0u16; MatchState::PATHS];
-    let mut p: usize = 0;
-    while p < MatchState::PATHS {
-        bits[p] = passes[p] & far[p];
-        p += 1;
+    let mut passes = [0u16; MatchState::PATHS];
+    for p in 0..MatchState::PATHS {
+        passes[p] = fit.passes[p] & fit.far[p];
     }
-    Fit {
-        passes: bits,
-        stays,
-        goes,
-        far,
-        lasts,
-        marks,
-    }
+    Fit { passes, ..fit }
 }
 
 // The steps that may go to a narrow step: their test is `*` or its name, and a child step goes to a child step only. No name of a list is
@@ -64,21 +49,18 @@ pub fn sent_bits(narrow: &[u8], at: usize, wide: &[u8], t: &Compiled) -> u32
     let mut state = MatchState::fresh();
     let mut bits: u32 = 0;
     let mut i = at;
+    // Each turn goes on where the step before ended, so the place is no count.
     loop {
         match step_at(narrow, i) {
-            StepEnd::Step {
-                kind,
-                name,
-                len,
-                end,
-            } => {
-                let stop = name + len;
-                let fit = fit_for(wide, t, kind, &narrow[name..stop]);
+            Some(step) => {
+                let from = step.name;
+                let stop = from + step.len;
+                let fit = fit_for(wide, t, step.kind, &narrow[from..stop]);
                 bits = state.selecting(fit);
                 state = state.deeper(fit);
-                i = end;
+                i = step.end;
             }
-            StepEnd::Fault => {
+            None => {
                 return bits;
             }
         }

@@ -1,22 +1,18 @@
 // Whether a wide path stands for a narrow one, from their lines and from whether a sending exists: "b must have no attribute test or the
 // same one"; "A path with a self or descendant-or-self step covers only the same path, and only the same path covers it". Paths and tests
 // are the same where their bytes are.
-ghost use Rattle.std.specs.Prelude.{◌≡◌, ◌≤◌, length, take};
+ghost use Rattle.std.specs.Prelude.{All, ◌≡◌};
 ghost use Rattle.xml.specs.Productions.{same as same_bytes};
-ghost use Rattle.covers.specs.Line.{Inside, Lined};
+ghost use Rattle.covers.specs.Line.{Inside};
 ghost use Rattle.covers.specs.Standing.{stands_by, some_by};
 
-use crate::line::{Line, Lines};
-use chars::text::stands;
+use crate::line::Line;
 
 // Whether two texts have the same bytes.
 fn same(a: &[u8], b: &[u8]) -> bool
     ensures { result ≡ same_bytes a.now b.now }
 {
-    if a.len() != b.len() {
-        return false;
-    }
-    stands(a, 0, b)
+    a == b
 }
 
 // Whether the wide line b stands for the narrow line a, where `sent` says that b's steps can be sent to a's.
@@ -46,21 +42,16 @@ fn stands_for(narrow: &[u8], a: Line, wide: &[u8], b: Line, sent: bool) -> bool
 }
 
 // Whether one of the wide lines stands for the narrow line a, where bit p of `sent` says that the steps of line p can be sent to a's.
-pub fn some_stands(narrow: &[u8], a: Line, wide: &[u8], lines: Lines, sent: u32) -> bool
-    requires { Inside narrow.now a × Lined wide.now lines.all lines.count }
-    ensures { result ≡ some_by narrow.now a wide.now (take lines.count lines.all) sent }
+pub fn some_stands(narrow: &[u8], a: Line, wide: &[u8], lines: &[Line], sent: u32) -> bool
+    requires { Inside narrow.now a × All (Inside wide.now) lines.now }
+    ensures { result ≡ some_by narrow.now a wide.now lines.now sent }
 {
-    let all = lines.all;
-    let count = lines.count;
     let mut left = sent;
-    let mut p: usize = 0;
-    while p < count {
-        let b = all[p];
-        if stands_for(narrow, a, wide, b, left % 2 == 1) {
+    for b in lines {
+        if stands_for(narrow, a, wide, *b, left % 2 == 1) {
             return true;
         }
-        left = left / 2;
-        p += 1;
+        left /= 2;
     }
     false
 }

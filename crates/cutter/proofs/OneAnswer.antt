@@ -1,17 +1,12 @@
--- Two results that the contract of `cut`, `cut_by`, `cut_with` or `cut_by_with` allows are equal, the answer and every byte of the buffer;
--- and of `fault_of` the answer: over the contracts that the toolchain makes of the source. So are the three numbers of document 01, which
--- are functions of the answer. Of the log nothing is said.
+-- Two results that the contract of `cut`, `cut_by`, `cut_with` or `cut_by_with` allows are equal, the answer and every byte of the buffer:
+-- over the contracts that the toolchain makes of the source. So are the three numbers of document 01, which are functions of the answer. Of
+-- the log nothing is said.
 use mathlib.Core.Path.{sym, ◌∙◌}
-use Rattle.contracts.specs.One.{OneResult, OneOutcome}
-use Rattle.cutter.proofs.fault_of.Reads as fault_of_lem
+use Rattle.contracts.specs.One.{OneOutcome}
 use Rattle.cutter.proofs.cut.Reads as cut
 use Rattle.cutter.proofs.cut_by.Reads as cut_by
 use Rattle.cutter.proofs.cut_with.Reads as cut_with
 use Rattle.cutter.proofs.cut_by_with.Reads as cut_by_with
-
--- `fault_of`
-pub fault_of_one : OneResult fault_of_lem.Asked fault_of_lem.Learnt
-fault_of_one κs a z z' e e' x p q = p ∙ sym q
 
 -- `cut`
 pub cut_one : OneOutcome cut.Asked cut.Learnt (λ κs e. e.1.1.0.now)

@@ -16,61 +16,29 @@
 // `cut_by_with` take one from the caller, of any length.
 #![tactic(auto)]
 
-ghost use Rattle.std.specs.Prelude.{◌≡◌, false, length, drop, ◌≤◌};
+ghost use Rattle.std.specs.Prelude.{◌≡◌, false, length, drop, ◌≤◌, Ok};
 ghost use Rattle.chars.specs.Check.{check_of};
-ghost use Rattle.chars.specs.declared.whole.Checked.TheVariants.{All};
 ghost use Rattle.readers.specs.Named.{other_encoding};
 ghost use Rattle.document.specs.Judge.{start_of};
 ghost use Rattle.matcher.specs.Fit.{Serves};
-ghost use Rattle.cutter.specs.Answer.{fault_of, answer_by, bytes_by, answer_of, bytes_after};
+ghost use Rattle.cutter.specs.Answer.{answer_by, bytes_by, answer_of, bytes_after};
 
-use chars::whole::{Checked, check};
+use crate::answer::Cut;
+use chars::whole::check;
 use compiled::compile::read;
 use compiled::{Compiled, layout};
 use document::judge::start_of;
-use document::{Open, Why};
+use document::{DocumentError, Open};
 use instructions::declaration::names_other;
 use notes::replay::replay;
-use passes::{Outcome, pass};
-use paths::ListAnswer;
-use points::table::classes;
+use passes::pass;
+use points::class::Classes;
+use refusals::CutError;
 
-// What is answered: the cut is written, with its length, the number of elements selected and that of the name tests tried; the list is too
-// long; a line of it is malformed, or too large; the document is too long; its declaration, at a place, names another encoding than UTF-8;
-// a sequence that is no character begins at a place; a document type, an item that is not well-formed, an item over a size begins at a
-// place; the buffer is too short for the cut, which has this length.
-#[derive(Clone, Copy)]
-pub enum Answer {
-    Written {
-        length: usize,
-        selected: usize,
-        tests: usize,
-    },
-    ListTooLong,
-    ListMalformed(usize),
-    ListTooLarge(usize),
-    TooLong,
-    OtherEncoding(usize),
-    NotChar(usize),
-    Doctype(usize),
-    Malformed(usize),
-    TooLarge(usize),
-    Short(usize),
-}
+pub mod answer; // what is answered
 
 // The length of the log that a call has of its own: 32 KiB of stack. To make it takes time, which a short document would feel.
 const NOTES: usize = 4096;
-
-// An item at a place is at fault.
-pub fn fault_of(why: Why, at: usize) -> Answer
-    ensures { result ≡ fault_of why at }
-{
-    match why {
-        Why::Doctype => Answer::Doctype(at),
-        Why::Malformed => Answer::Malformed(at),
-        Why::TooLarge => Answer::TooLarge(at),
-    }
-}
 
 // How many notes a log of a length is used for.
 fn used(length: usize) -> usize
@@ -84,62 +52,70 @@ fn used(length: usize) -> usize
 
 // By the tables of a sound list, a document of characters that names no other encoding: measured and noted, and written where there is
 // room.
-fn written(list: &[u8], t: &Compiled, doc: &[u8], out: &mut [u8], log: &mut [u64]) -> Answer
+fn written(
+    list: &[u8],
+    t: &Compiled,
+    doc: &[u8],
+    out: &mut [u8],
+    log: &mut [u64],
+) -> Result<Cut, CutError>
     requires { Serves list.now t.now × (length doc.now ≤ 16777216)
-        × (other_encoding (drop (start_of doc.now) doc.now) ≡ false) × (check_of doc.now ≡ All) × (length log.old ≤ 16777216) }
+        × (other_encoding (drop (start_of doc.now) doc.now) ≡ false) × (check_of doc.now ≡ Ok tt) × (length log.old ≤ 16777216) }
     ensures value { result ≡ answer_by list.now doc.now (length out.old) }
     ensures out_after { out.new ≡ bytes_by list.now doc.now out.old }
 {
-    let table = classes();
+    let table = Classes::new();
     let mut scratch = [0u8; 1];
-    match pass(&table, list, t, true, doc, &mut scratch, log) {
-        Outcome::Fault(why, place) => fault_of(why, place),
-        Outcome::Fine(length, selected, tests, noted) => {
-            if out.len() < length {
-                return Answer::Short(length);
-            }
-            if noted <= log.len() {
-                replay(doc, log, noted, out);
-                return Answer::Written {
-                    length,
-                    selected,
-                    tests,
-                };
-            }
-            pass(&table, list, t, false, doc, out, log);
-            Answer::Written {
-                length,
-                selected,
-                tests,
-            }
-        }
+    let measured = pass(&table, list, t, true, doc, &mut scratch, log)?;
+    let length = measured.length;
+    if out.len() < length {
+        return Err(CutError::Short(length));
     }
+    let noted = measured.noted;
+    let cut = Cut {
+        length,
+        selected: measured.selected,
+        tests: measured.tests,
+    };
+    if noted <= log.len() {
+        replay(doc, log, noted, out);
+        return Ok(cut);
+    }
+    // The same items come to the same.
+    let _ = pass(&table, list, t, false, doc, out, log);
+    Ok(cut)
 }
 
 // By the tables of a sound list, any document, any buffer and any log: for callers that read a list once and cut many documents by it.
-pub fn cut_by_with(list: &[u8], t: &Compiled, doc: &[u8], out: &mut [u8], log: &mut [u64]) -> Answer
+pub fn cut_by_with(
+    list: &[u8],
+    t: &Compiled,
+    doc: &[u8],
+    out: &mut [u8],
+    log: &mut [u64],
+) -> Result<Cut, CutError>
     requires { Serves list.now t.now }
     ensures value { result ≡ answer_by list.now doc.now (length out.old) }
     ensures out_after { out.new ≡ bytes_by list.now doc.now out.old }
 {
     if doc.len() > Open::BYTES {
-        return Answer::TooLong;
+        return Err(CutError::Document(DocumentError::TooLong));
     }
     let start = start_of(doc);
     if names_other(doc, start) {
-        return Answer::OtherEncoding(start);
+        return Err(CutError::Document(DocumentError::OtherEncoding(start)));
     }
     match check(doc) {
-        Checked::All => {
+        Ok(()) => {
             let n = used(log.len());
             written(list, t, doc, out, &mut log[0..n])
         }
-        Checked::BadAt(o) => Answer::NotChar(o),
+        Err(e) => Err(CutError::Document(DocumentError::NotChar(e.valid_up_to))),
     }
 }
 
 // The same in a log of its own.
-pub fn cut_by(list: &[u8], t: &Compiled, doc: &[u8], out: &mut [u8]) -> Answer
+pub fn cut_by(list: &[u8], t: &Compiled, doc: &[u8], out: &mut [u8]) -> Result<Cut, CutError>
     requires { Serves list.now t.now }
     ensures value { result ≡ answer_by list.now doc.now (length out.old) }
     ensures out_after { out.new ≡ bytes_by list.now doc.now out.old }
@@ -150,21 +126,17 @@ pub fn cut_by(list: &[u8], t: &Compiled, doc: &[u8], out: &mut [u8]) -> Answer
 
 // Any list, any document, any buffer and any log. Only under 0 is a byte of the buffer changed, and then none after the cut. What stands in
 // the log afterwards says nothing.
-pub fn cut_with(list: &[u8], doc: &[u8], out: &mut [u8], log: &mut [u64]) -> Answer
+pub fn cut_with(list: &[u8], doc: &[u8], out: &mut [u8], log: &mut [u64]) -> Result<Cut, CutError>
     ensures value { result ≡ answer_of list.now doc.now (length out.old) }
     ensures out_after { out.new ≡ bytes_after list.now doc.now out.old }
 {
     let mut t = [0u16; layout::LENGTH];
-    match read(list, &mut t) {
-        ListAnswer::Sound => cut_by_with(list, &t, doc, out, log),
-        ListAnswer::TooLong => Answer::ListTooLong,
-        ListAnswer::Malformed(line) => Answer::ListMalformed(line),
-        ListAnswer::TooLarge(line) => Answer::ListTooLarge(line),
-    }
+    read(list, &mut t)?;
+    cut_by_with(list, &t, doc, out, log)
 }
 
 // The same in a log of its own.
-pub fn cut(list: &[u8], doc: &[u8], out: &mut [u8]) -> Answer
+pub fn cut(list: &[u8], doc: &[u8], out: &mut [u8]) -> Result<Cut, CutError>
     ensures value { result ≡ answer_of list.now doc.now (length out.old) }
     ensures out_after { out.new ≡ bytes_after list.now doc.now out.old }
 {

@@ -11,6 +11,7 @@ use native.Mathlib.Omega.{arith}
 use borrow.Author.Tests.{ltb-true}
 use lib.Dec.{ltb}
 use lib.ListN.{length, drop}
+use Rattle.std.specs.Prelude.{Ok, Err}
 use Rattle.xml.specs.Notation.{Rule, Reads, opt}
 use Rattle.xml.specs.Productions.{is_space, XMLDecl}
 use Rattle.xml.specs.Encoding.{EncodingBy, DeclBy, Utf8Name, Utf8Decl, NamesOther}
@@ -21,7 +22,7 @@ use Rattle.xml.proofs.Bools.{true-false}
 use Rattle.xml.proofs.Run.{reads_starts}
 use Rattle.xml.proofs.Encoding.{OtherName, utf8_declaration, other_rule}
 use Rattle.chars.specs.Check.{check_of}
-use Rattle.chars.specs.declared.whole.Checked.TheVariants.{All}
+use Rattle.std.specs.Prelude.{Ok}
 use Rattle.chars.proofs.Meaning.{check_only}
 use Rattle.readers.specs.Meaning.{Chars}
 use Rattle.readers.proofs.Combine.{chars_left}
@@ -34,7 +35,7 @@ use Rattle.items.specs.Inside.{Inside}
 use Rattle.items.proofs.Insides.{item_inside}
 use Rattle.items.proofs.Meaning.{item_only}
 use Rattle.document.specs.Judge.{start_of, nothing, scan_from, scanned, by_chars, by_encoding, judge_of}
-use Rattle.document.specs.declared.judge.Judged.TheVariants.{Sound, TooLong}
+use Rattle.document.specs.declared.DocumentError.TheVariants.{TooLong}
 use Rattle.trees.specs.Grown.{Token, tokens_from, tokens_of, grown, forest_of, tokens}
 use Rattle.trees.proofs.Grown.{tokens_grown}
 use Rattle.demands.proofs.Told.{declared_kind}
@@ -69,7 +70,7 @@ document_utf8 {s} c (doc.bare r) x =
 -- ---- a document that is derived is scanned without a fault, and its tokens are those of the forest derived
 
 record Scanned (d : List ℕ) (at : ℕ) (f : Forest) : Type 0 where
-  sound : scan_from (suc (length d)) d at true nothing ≡ Sound
+  sound : scan_from (suc (length d)) d at true nothing ≡ Ok tt
   tokens_are : tokens_from (suc (length d)) d at true ≡ tokens f []
 
 inside_is : (d : List ℕ) (at : ℕ) (i : Item) → i ≡ item_at true d at → Inside d at i
@@ -113,16 +114,16 @@ module _ (d : List ℕ) where
   derived_forest {f} c x =
       sym (tokens_grown f) ∙ ap (λ (ts : List Token). (grown ts).front) (sym (derived_scanned c x).tokens_are)
 
-  pub derived_sound : {f : Forest} → length d ≤ 16777216 → Chars d → Document Small (drop (start_of d) d) f → judge_of d ≡ Sound
+  pub derived_sound : {f : Forest} → length d ≤ 16777216 → Chars d → Document Small (drop (start_of d) d) f → judge_of d ≡ Ok tt
   unfolding judge_of scanned
   derived_sound l c x = go (ltb 16777216 (length d)) refl
     where
-      go : (b : Bool) → ltb 16777216 (length d) ≡ b → cond b TooLong (by_encoding d (by_chars (check_of d) (scanned d))) ≡ Sound
+      go : (b : Bool) → ltb 16777216 (length d) ≡ b → cond b (Err TooLong) (by_encoding d (by_chars (check_of d) (scanned d))) ≡ Ok tt
       go true q = absurd (let z = ltb-true 16777216 (length d) q in omega arith)
       go false q =
-          rw (none_named (drop (start_of d) d) (document_utf8 (start_chars d c) x), ← check_only d All c) (derived_scanned c x).sound
+          rw (none_named (drop (start_of d) d) (document_utf8 (start_chars d c) x), ← check_only d (Ok tt) c) (derived_scanned c x).sound
 
   -- a document is accepted exactly when it is derived, from its first item on
-  pub accepted : judge_of d ≡ Sound ↔ ((length d ≤ 16777216) × Chars d × ((f : Forest) × Document Small (drop (start_of d) d) f))
+  pub accepted : judge_of d ≡ Ok tt ↔ ((length d ≤ 16777216) × Chars d × ((f : Forest) × Document Small (drop (start_of d) d) f))
   accepted =
       ((λ e. let (l, c, x) = sound_document d e in (l, c, (forest_of d, x))), (λ (l, c, (f, x)). derived_sound l c x))

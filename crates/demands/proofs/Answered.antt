@@ -6,60 +6,55 @@ use mathlib.Core.List.{List, ◌++◌}
 use Prim.Native.Nat.{ℕ, ◌≤◌}
 use native.Mathlib.Omega.{arith}
 use lib.ListN.{length, drop}
+use Rattle.std.specs.Prelude.{Result, Ok, Err}
 use Rattle.cutter.specs.Answer.{answer_of, after, bytes_after, number_of, second_of, third_of, fourth_of}
-use Rattle.cutter.specs.declared.Answer.{Answer}
-use Rattle.cutter.specs.declared.Answer.TheVariants.{Written, ListTooLong, ListMalformed, ListTooLarge, TooLong}
-use Rattle.cutter.specs.declared.Answer.TheVariants.{OtherEncoding, NotChar, Doctype, Malformed, TooLarge, Short}
+use Rattle.cutter.specs.declared.answer.Cut.{Cut}
+use Rattle.refusals.specs.declared.CutError.{CutError}
+use Rattle.document.specs.declared.Why.TheVariants as why
+use Rattle.document.specs.declared.DocumentError.TheVariants as judged
+use Rattle.paths.specs.declared.ListError.TheVariants as lists
+use Rattle.refusals.specs.declared.CutError.TheVariants as errors
 use Rattle.trees.specs.Written.{cut_of}
 
 -- every call has an answer, and one of eleven numbers, document 01's ten and 10; `cut` is a total function, so it has one in the code too
 pub numbered : (list d : List ℕ) (room : ℕ) → number_of (answer_of list d room) ≤ 10
 numbered list d room = eleven (answer_of list d room)
   where
-    eleven : (a : Answer) → number_of a ≤ 10
-    eleven (Written n c t) = omega arith
-    eleven ListTooLong = omega arith
-    eleven (ListMalformed n) = omega arith
-    eleven (ListTooLarge n) = omega arith
-    eleven TooLong = omega arith
-    eleven (OtherEncoding n) = omega arith
-    eleven (NotChar n) = omega arith
-    eleven (Doctype n) = omega arith
-    eleven (Malformed n) = omega arith
-    eleven (TooLarge n) = omega arith
-    eleven (Short n) = omega arith
+    eleven : (a : Result Cut CutError) → number_of a ≤ 10
+    eleven (Ok c) = omega arith
+    eleven (Err (errors.List lists.TooLong)) = omega arith
+    eleven (Err (errors.List (lists.Malformed n))) = omega arith
+    eleven (Err (errors.List (lists.TooLarge n))) = omega arith
+    eleven (Err (errors.Document judged.TooLong)) = omega arith
+    eleven (Err (errors.Document (judged.OtherEncoding n))) = omega arith
+    eleven (Err (errors.Document (judged.NotChar n))) = omega arith
+    eleven (Err (errors.Document (judged.At why.Doctype n))) = omega arith
+    eleven (Err (errors.Document (judged.At why.Malformed n))) = omega arith
+    eleven (Err (errors.Document (judged.At why.TooLarge n))) = omega arith
+    eleven (Err (errors.Short n)) = omega arith
 
 -- "a refused call changes no byte of the output"
-refused_keeps : (a : Answer) (w o : List ℕ) → (number_of a ≡ 0 → ⊥) → after a w o ≡ o
-refused_keeps (Written n c t) w o h = absurd (h refl)
-refused_keeps ListTooLong w o h = refl
-refused_keeps (ListMalformed n) w o h = refl
-refused_keeps (ListTooLarge n) w o h = refl
-refused_keeps TooLong w o h = refl
-refused_keeps (OtherEncoding n) w o h = refl
-refused_keeps (NotChar n) w o h = refl
-refused_keeps (Doctype n) w o h = refl
-refused_keeps (Malformed n) w o h = refl
-refused_keeps (TooLarge n) w o h = refl
-refused_keeps (Short n) w o h = refl
+refused_keeps : (a : Result Cut CutError) (w o : List ℕ) → (number_of a ≡ 0 → ⊥) → after a w o ≡ o
+refused_keeps (Ok c) w o h = absurd (h refl)
+refused_keeps (Err e) w o h = refl
 
 pub refused : (list d o : List ℕ) → (number_of (answer_of list d (length o)) ≡ 0 → ⊥) → bytes_after list d o ≡ o
 unfolding bytes_after
 refused list d o h = refused_keeps (answer_of list d (length o)) (cut_of list d) o h
 
 -- "On 0 the bytes after the cut stay as they were"
-written_front : (a : Answer) (w o : List ℕ) → number_of a ≡ 0 → after a w o ≡ w ++ drop (second_of a) o
-written_front (Written n c t) w o h = refl
-written_front ListTooLong w o h = absurd (omega arith)
-written_front (ListMalformed n) w o h = absurd (omega arith)
-written_front (ListTooLarge n) w o h = absurd (omega arith)
-written_front TooLong w o h = absurd (omega arith)
-written_front (OtherEncoding n) w o h = absurd (omega arith)
-written_front (NotChar n) w o h = absurd (omega arith)
-written_front (Doctype n) w o h = absurd (omega arith)
-written_front (Malformed n) w o h = absurd (omega arith)
-written_front (TooLarge n) w o h = absurd (omega arith)
-written_front (Short n) w o h = absurd (omega arith)
+written_front : (a : Result Cut CutError) (w o : List ℕ) → number_of a ≡ 0 → after a w o ≡ w ++ drop (second_of a) o
+written_front (Ok c) w o h = refl
+written_front (Err (errors.List lists.TooLong)) w o h = absurd (omega arith)
+written_front (Err (errors.List (lists.Malformed n))) w o h = absurd (omega arith)
+written_front (Err (errors.List (lists.TooLarge n))) w o h = absurd (omega arith)
+written_front (Err (errors.Document judged.TooLong)) w o h = absurd (omega arith)
+written_front (Err (errors.Document (judged.OtherEncoding n))) w o h = absurd (omega arith)
+written_front (Err (errors.Document (judged.NotChar n))) w o h = absurd (omega arith)
+written_front (Err (errors.Document (judged.At why.Doctype n))) w o h = absurd (omega arith)
+written_front (Err (errors.Document (judged.At why.Malformed n))) w o h = absurd (omega arith)
+written_front (Err (errors.Document (judged.At why.TooLarge n))) w o h = absurd (omega arith)
+written_front (Err (errors.Short n)) w o h = absurd (omega arith)
 
 pub written : (list d o : List ℕ) → number_of (answer_of list d (length o)) ≡ 0
     → bytes_after list d o ≡ cut_of list d ++ drop (second_of (answer_of list d (length o))) o
@@ -67,29 +62,11 @@ unfolding bytes_after
 written list d o h = written_front (answer_of list d (length o)) (cut_of list d) o h
 
 -- "The third number is 0 except under 0"
-pub third : (a : Answer) → (number_of a ≡ 0 → ⊥) → third_of a ≡ 0
-third (Written n c t) h = absurd (h refl)
-third ListTooLong h = refl
-third (ListMalformed n) h = refl
-third (ListTooLarge n) h = refl
-third TooLong h = refl
-third (OtherEncoding n) h = refl
-third (NotChar n) h = refl
-third (Doctype n) h = refl
-third (Malformed n) h = refl
-third (TooLarge n) h = refl
-third (Short n) h = refl
+pub third : (a : Result Cut CutError) → (number_of a ≡ 0 → ⊥) → third_of a ≡ 0
+third (Ok c) h = absurd (h refl)
+third (Err e) h = refl
 
 -- and the fourth "is 0 under every number but 0"
-pub fourth : (a : Answer) → (number_of a ≡ 0 → ⊥) → fourth_of a ≡ 0
-fourth (Written n c t) h = absurd (h refl)
-fourth ListTooLong h = refl
-fourth (ListMalformed n) h = refl
-fourth (ListTooLarge n) h = refl
-fourth TooLong h = refl
-fourth (OtherEncoding n) h = refl
-fourth (NotChar n) h = refl
-fourth (Doctype n) h = refl
-fourth (Malformed n) h = refl
-fourth (TooLarge n) h = refl
-fourth (Short n) h = refl
+pub fourth : (a : Result Cut CutError) → (number_of a ≡ 0 → ⊥) → fourth_of a ≡ 0
+fourth (Ok c) h = absurd (h refl)
+fourth (Err e) h = refl

@@ -10,26 +10,27 @@ use native.Mathlib.Omega.{arith}
 use borrow.Author.Tests.{ltb-true, ltb-false, lt-ltb, le-ltb}
 use lib.Dec.{ltb}
 use lib.ListN.{length, drop, length-drop}
+use Rattle.std.specs.Prelude.{Result, Ok, Err, ⊤}
 use Rattle.xml.proofs.Encoding.{other_rule}
 use Rattle.paths.specs.Path.{print_list}
 use Rattle.paths.specs.Answer.{Says}
 use Rattle.paths.specs.Answer as list_says
 use Rattle.paths.specs.Judge.{list_answer, list_paths}
-use Rattle.paths.specs.declared.ListAnswer.{ListAnswer}
-use Rattle.paths.specs.declared.ListAnswer.TheVariants as lists
+use Rattle.paths.specs.declared.ListError.{ListError}
+use Rattle.paths.specs.declared.ListError.TheVariants as lists
 use Rattle.paths.proofs.Meaning.{says, says_only, paths_print, print_once}
 use Rattle.document.specs.Judge.{start_of, judge_of}
 use Rattle.document.specs.declared.Why.{Why}
 use Rattle.document.specs.declared.Why.TheVariants as why
-use Rattle.document.specs.declared.judge.Judged.{Judged}
-use Rattle.document.specs.declared.judge.Judged.TheVariants as judged
+use Rattle.document.specs.declared.DocumentError.{DocumentError}
+use Rattle.document.specs.declared.DocumentError.TheVariants as judged
 use Rattle.matcher.specs.Says.{BySome}
 use Rattle.trees.specs.Grown.{forest_of}
 use Rattle.trees.specs.Written.{cut_of, count_of, tests_of}
 use Rattle.cutter.specs.Answer.{by_list, by_document, by_room, answer_of, bytes_after, number_of, second_of}
-use Rattle.cutter.specs.declared.Answer.{Answer}
-use Rattle.cutter.specs.declared.Answer.TheVariants.{Written, ListTooLong, ListMalformed, ListTooLarge, TooLong}
-use Rattle.cutter.specs.declared.Answer.TheVariants.{OtherEncoding, NotChar, Doctype, Malformed, TooLarge, Short}
+use Rattle.cutter.specs.declared.answer.Cut.{Cut}
+use Rattle.refusals.specs.declared.CutError.{CutError}
+use Rattle.refusals.specs.declared.CutError.TheVariants as errors
 use Rattle.demands.specs.Elements.{Element, elements, how_many}
 use Rattle.demands.specs.Judged.{DocumentSays}
 use Rattle.demands.specs.Judged as document_says
@@ -68,11 +69,11 @@ module _ {A : Type 0} (P : A → Type 0) (f : A → Bool) (t : (x : A) → P x �
 -- ---- what is cut
 
 -- a list and a document that are accepted have a cut
-pub cut_cuts : (list d : List ℕ) → list_answer list ≡ lists.Sound → judge_of d ≡ judged.Sound
+pub cut_cuts : (list d : List ℕ) → list_answer list ≡ Ok tt → judge_of d ≡ Ok tt
     → Cuts list d (cut_of list d) (count_of list d) (tests_of list d)
 cut_cuts list d p q = go (rw q at (judge_says d))
   where
-    go : DocumentSays d judged.Sound → Cuts list d (cut_of list d) (count_of list d) (tests_of list d)
+    go : DocumentSays d (Ok tt) → Cuts list d (cut_of list d) (count_of list d) (tests_of list d)
     go (document_says.sound {f} a) =
         let (x, y, z) = paths_print list p in
         let e = derived_forest d a.chars a.derived in
@@ -92,15 +93,15 @@ cut_cuts list d p q = go (rw q at (judge_says d))
 
 -- and one only
 pub record CutIs (list d w : List ℕ) (c t : ℕ) : Type 0 where
-  pub list_sound : list_answer list ≡ lists.Sound
-  pub document_sound : judge_of d ≡ judged.Sound
+  pub list_sound : list_answer list ≡ Ok tt
+  pub document_sound : judge_of d ≡ Ok tt
   pub bytes_are : w ≡ cut_of list d
   pub count_is : c ≡ count_of list d
   pub tests_are : t ≡ tests_of list d
 
 pub cuts_only : {list d w : List ℕ} {c t : ℕ} → Cuts list d w c t → CutIs list d w c t
 cuts_only {list} {d} {w} {c} {t} x =
-    let p = says_only list lists.Sound x.listed in
+    let p = says_only list (Ok tt) x.listed in
     let (a, b, l) = paths_print list p in
     let e : x.paths ≡ list_paths list
     = print_once x.paths (list_paths list) x.printed.good b
@@ -108,7 +109,7 @@ cuts_only {list} {d} {w} {c} {t} x =
     let g = derived_forest d x.accepted.chars x.accepted.derived in
     record {
       list_sound = p;
-      document_sound = judge_only d judged.Sound (document_says.sound x.accepted);
+      document_sound = judge_only d (Ok tt) (document_says.sound x.accepted);
       bytes_are = written_only list d w (rw (e, g) at x.writes);
       count_is =
           counted_many (λ (x : Element). BySome (list_paths list) x.names x.attributes) (chosen (list_paths list))
@@ -124,114 +125,122 @@ pub says_answer : (list d : List ℕ) (room : ℕ) → AnswerSays list d room (a
 unfolding answer_of
 says_answer list d room = by_list_lem (list_answer list) refl (says list)
   where
-    by_room_lem : list_answer list ≡ lists.Sound → judge_of d ≡ judged.Sound → (b : Bool) → ltb room (length (cut_of list d)) ≡ b
+    by_room_lem : list_answer list ≡ Ok tt → judge_of d ≡ Ok tt → (b : Bool) → ltb room (length (cut_of list d)) ≡ b
         → AnswerSays list d room
-        (cond b (Short (length (cut_of list d))) (Written (length (cut_of list d)) (count_of list d) (tests_of list d)))
+        (cond b (Err (errors.Short (length (cut_of list d))))
+        (Ok (record { length = length (cut_of list d); selected = count_of list d; tests = tests_of list d })))
     by_room_lem p q true e = short (cut_cuts list d p q) (ltb-true room (length (cut_of list d)) e)
     by_room_lem p q false e = written (cut_cuts list d p q) (ltb-false room (length (cut_of list d)) e)
 
-    by_document_lem : list_answer list ≡ lists.Sound → Says list lists.Sound → (j : Judged) → judge_of d ≡ j → DocumentSays d j
+    by_document_lem : list_answer list ≡ Ok tt → Says list (Ok tt) → (j : Result ⊤ DocumentError) → judge_of d ≡ j
+        → DocumentSays d j
         → AnswerSays list d room (by_document j (by_room room (cut_of list d) (count_of list d) (tests_of list d)))
-    by_document_lem p l judged.Sound q h = by_room_lem p q (ltb room (length (cut_of list d))) refl
-    by_document_lem p l judged.TooLong q h = too_long l h
-    by_document_lem p l (judged.OtherEncoding o) q h = in_other_encoding l h
-    by_document_lem p l (judged.NotChar o) q h = not_char l h
-    by_document_lem p l (judged.AtFault why.Doctype o) q h = doctype l h
-    by_document_lem p l (judged.AtFault why.Malformed o) q h = malformed l h
-    by_document_lem p l (judged.AtFault why.TooLarge o) q h = too_large l h
+    by_document_lem p l (Ok _) q h = by_room_lem p q (ltb room (length (cut_of list d))) refl
+    by_document_lem p l (Err judged.TooLong) q h = too_long l h
+    by_document_lem p l (Err (judged.OtherEncoding o)) q h = in_other_encoding l h
+    by_document_lem p l (Err (judged.NotChar o)) q h = not_char l h
+    by_document_lem p l (Err (judged.At why.Doctype o)) q h = doctype l h
+    by_document_lem p l (Err (judged.At why.Malformed o)) q h = malformed l h
+    by_document_lem p l (Err (judged.At why.TooLarge o)) q h = too_large l h
 
-    by_list_lem : (a : ListAnswer) → list_answer list ≡ a → Says list a
+    by_list_lem : (a : Result ⊤ ListError) → list_answer list ≡ a → Says list a
         → AnswerSays list d room (by_list a (by_document (judge_of d) (by_room room (cut_of list d) (count_of list d) (tests_of list d))))
-    by_list_lem lists.Sound p l = by_document_lem p l (judge_of d) refl (judge_says d)
-    by_list_lem lists.TooLong p l = list_long l
-    by_list_lem (lists.Malformed n) p l = list_malformed l
-    by_list_lem (lists.TooLarge n) p l = list_large l
+    by_list_lem (Ok _) p l = by_document_lem p l (judge_of d) refl (judge_says d)
+    by_list_lem (Err lists.TooLong) p l = list_long l
+    by_list_lem (Err (lists.Malformed n)) p l = list_malformed l
+    by_list_lem (Err (lists.TooLarge n)) p l = list_large l
 
 -- and no other answer is
-pub only_answer : (list d : List ℕ) (room : ℕ) (a : Answer) → AnswerSays list d room a → answer_of list d room ≡ a
+pub only_answer : (list d : List ℕ) (room : ℕ) (a : Result Cut CutError) → AnswerSays list d room a → answer_of list d room ≡ a
 unfolding answer_of
-only_answer list d room ListTooLong (list_long l) = rw (says_only list lists.TooLong l) refl
-only_answer list d room (ListMalformed n) (list_malformed l) = rw (says_only list (lists.Malformed n) l) refl
-only_answer list d room (ListTooLarge n) (list_large l) = rw (says_only list (lists.TooLarge n) l) refl
-only_answer list d room TooLong (too_long l h) = rw (says_only list lists.Sound l, judge_only d judged.TooLong h) refl
-only_answer list d room (OtherEncoding o) (in_other_encoding l h) =
-    rw (says_only list lists.Sound l, judge_only d (judged.OtherEncoding o) h) refl
-only_answer list d room (NotChar o) (not_char l h) = rw (says_only list lists.Sound l, judge_only d (judged.NotChar o) h) refl
-only_answer list d room (Doctype o) (doctype l h) =
-    rw (says_only list lists.Sound l, judge_only d (judged.AtFault why.Doctype o) h) refl
-only_answer list d room (Malformed o) (malformed l h) =
-    rw (says_only list lists.Sound l, judge_only d (judged.AtFault why.Malformed o) h) refl
-only_answer list d room (TooLarge o) (too_large l h) =
-    rw (says_only list lists.Sound l, judge_only d (judged.AtFault why.TooLarge o) h) refl
-only_answer list d room (Short n) (short {w} {c} x l) =
+only_answer list d room (Err (errors.List lists.TooLong)) (list_long l) = rw (says_only list (Err lists.TooLong) l) refl
+only_answer list d room (Err (errors.List (lists.Malformed n))) (list_malformed l) = rw (says_only list (Err (lists.Malformed n)) l) refl
+only_answer list d room (Err (errors.List (lists.TooLarge n))) (list_large l) = rw (says_only list (Err (lists.TooLarge n)) l) refl
+only_answer list d room (Err (errors.Document judged.TooLong)) (too_long l h) =
+    rw (says_only list (Ok tt) l, judge_only d (Err judged.TooLong) h) refl
+only_answer list d room (Err (errors.Document (judged.OtherEncoding o))) (in_other_encoding l h) =
+    rw (says_only list (Ok tt) l, judge_only d (Err (judged.OtherEncoding o)) h) refl
+only_answer list d room (Err (errors.Document (judged.NotChar o))) (not_char l h) =
+    rw (says_only list (Ok tt) l, judge_only d (Err (judged.NotChar o)) h) refl
+only_answer list d room (Err (errors.Document (judged.At why.Doctype o))) (doctype l h) =
+    rw (says_only list (Ok tt) l, judge_only d (Err (judged.At why.Doctype o)) h) refl
+only_answer list d room (Err (errors.Document (judged.At why.Malformed o))) (malformed l h) =
+    rw (says_only list (Ok tt) l, judge_only d (Err (judged.At why.Malformed o)) h) refl
+only_answer list d room (Err (errors.Document (judged.At why.TooLarge o))) (too_large l h) =
+    rw (says_only list (Ok tt) l, judge_only d (Err (judged.At why.TooLarge o)) h) refl
+only_answer list d room (Err (errors.Short n)) (short {w} {c} x l) =
     let y = cuts_only x in
     let e = y.bytes_are in
     rw (y.list_sound, y.document_sound, lt-ltb room (length (cut_of list d)) (rw e at l), e) refl
-only_answer list d room (Written n k m) (written x l) =
+only_answer list d room (Ok c) (written x l) =
     let y = cuts_only x in
     let e = y.bytes_are in
     rw (y.list_sound, y.document_sound, le-ltb room (length (cut_of list d)) (rw e at l), e, y.count_is, y.tests_are) refl
 
-pub one_answer : {list d : List ℕ} {room : ℕ} {a b : Answer} → AnswerSays list d room a → AnswerSays list d room b → a ≡ b
+pub one_answer : {list d : List ℕ} {room : ℕ} {a b : Result Cut CutError} → AnswerSays list d room a → AnswerSays list d room b → a ≡ b
 one_answer {list} {d} {room} {a} {b} x y = sym (only_answer list d room a x) ∙ only_answer list d room b y
 
 -- ---- the buffer
 
 module _ (list d o : List ℕ) where
-  kept : (a : Answer) → answer_of list d (length o) ≡ a → AnswerSays list d (length o) a → (number_of a ≡ 0 → ⊥)
+  kept : (a : Result Cut CutError) → answer_of list d (length o) ≡ a → AnswerSays list d (length o) a → (number_of a ≡ 0 → ⊥)
       → BufferSays list d o (bytes_after list d o)
   kept a e h n = rw (refused list d o (rw e n)) (on_refused a h n)
 
   pub says_buffer : BufferSays list d o (bytes_after list d o)
   says_buffer = go (answer_of list d (length o)) refl (says_answer list d (length o))
     where
-      go : (a : Answer) → answer_of list d (length o) ≡ a → AnswerSays list d (length o) a → BufferSays list d o (bytes_after list d o)
-      go (Written n c t) e (written {w} x l) =
+      go : (a : Result Cut CutError) → answer_of list d (length o) ≡ a → AnswerSays list d (length o) a
+          → BufferSays list d o (bytes_after list d o)
+      go (Ok c) e (written {w} x l) =
           let q : bytes_after list d o ≡ w ++ drop (length w) o
           = cut_stands list d o (ap number_of e)
           ∙ ap₂ (λ (v : List ℕ) (k : ℕ). v ++ drop k o) (sym (cuts_only x).bytes_are) (ap second_of e) in
           rw q (on_written x l)
-      go ListTooLong e h = kept ListTooLong e h (λ z. omega arith)
-      go (ListMalformed n) e h = kept (ListMalformed n) e h (λ z. omega arith)
-      go (ListTooLarge n) e h = kept (ListTooLarge n) e h (λ z. omega arith)
-      go TooLong e h = kept TooLong e h (λ z. omega arith)
-      go (OtherEncoding n) e h = kept (OtherEncoding n) e h (λ z. omega arith)
-      go (NotChar n) e h = kept (NotChar n) e h (λ z. omega arith)
-      go (Doctype n) e h = kept (Doctype n) e h (λ z. omega arith)
-      go (Malformed n) e h = kept (Malformed n) e h (λ z. omega arith)
-      go (TooLarge n) e h = kept (TooLarge n) e h (λ z. omega arith)
-      go (Short n) e h = kept (Short n) e h (λ z. omega arith)
+      go (Err (errors.List lists.TooLong)) e h = kept (Err (errors.List lists.TooLong)) e h (λ z. omega arith)
+      go (Err (errors.List (lists.Malformed n))) e h = kept (Err (errors.List (lists.Malformed n))) e h (λ z. omega arith)
+      go (Err (errors.List (lists.TooLarge n))) e h = kept (Err (errors.List (lists.TooLarge n))) e h (λ z. omega arith)
+      go (Err (errors.Document judged.TooLong)) e h = kept (Err (errors.Document judged.TooLong)) e h (λ z. omega arith)
+      go (Err (errors.Document (judged.OtherEncoding n))) e h = kept (Err (errors.Document (judged.OtherEncoding n))) e h (λ z. omega arith)
+      go (Err (errors.Document (judged.NotChar n))) e h = kept (Err (errors.Document (judged.NotChar n))) e h (λ z. omega arith)
+      go (Err (errors.Document (judged.At why.Doctype n))) e h =
+          kept (Err (errors.Document (judged.At why.Doctype n))) e h (λ z. omega arith)
+      go (Err (errors.Document (judged.At why.Malformed n))) e h =
+          kept (Err (errors.Document (judged.At why.Malformed n))) e h (λ z. omega arith)
+      go (Err (errors.Document (judged.At why.TooLarge n))) e h =
+          kept (Err (errors.Document (judged.At why.TooLarge n))) e h (λ z. omega arith)
+      go (Err (errors.Short n)) e h = kept (Err (errors.Short n)) e h (λ z. omega arith)
 
   pub only_buffer : (o' : List ℕ) → BufferSays list d o o' → bytes_after list d o ≡ o'
   only_buffer o' (on_written {w} {c} {t} x l) =
-      let e = only_answer list d (length o) (Written (length w) c t) (written x l) in
+      let e = only_answer list d (length o) (Ok (record { length = length w; selected = c; tests = t })) (written x l) in
       cut_stands list d o (ap number_of e)
       ∙ ap₂ (λ (v : List ℕ) (k : ℕ). v ++ drop k o) (sym (cuts_only x).bytes_are) (ap second_of e)
   only_buffer o' (on_refused a h n) = refused list d o (rw (only_answer list d (length o) a h) n)
 
 -- ---- the place of every refusal
 
-list_malformed_line : {list : List ℕ} {n : ℕ} → Says list (lists.Malformed n) → (1 ≤ n) × (n ≤ 32)
+list_malformed_line : {list : List ℕ} {n : ℕ} → Says list (Err (lists.Malformed n)) → (1 ≤ n) × (n ≤ 32)
 list_malformed_line (list_says.malformed l ps t b few some bad) = (omega arith, omega arith)
 
-list_large_line : {list : List ℕ} {n : ℕ} → Says list (lists.TooLarge n) → (1 ≤ n) × (n ≤ 33)
+list_large_line : {list : List ℕ} {n : ℕ} → Says list (Err (lists.TooLarge n)) → (1 ≤ n) × (n ≤ 33)
 list_large_line (list_says.large l ps t b few large) = (omega arith, omega arith)
 list_large_line (list_says.past l ps t b full some) = (omega arith, omega arith)
 
-char_inside : {d : List ℕ} {o : ℕ} → DocumentSays d (judged.NotChar o) → o < length d
+char_inside : {d : List ℕ} {o : ℕ} → DocumentSays d (Err (judged.NotChar o)) → o < length d
 char_inside (document_says.not_char l n h) = h.0
 
 -- a declaration is not empty
-other_inside : {d : List ℕ} {o : ℕ} → DocumentSays d (judged.OtherEncoding o) → o < length d
+other_inside : {d : List ℕ} {o : ℕ} → DocumentSays d (Err (judged.OtherEncoding o)) → o < length d
 other_inside {d} (document_says.in_other_encoding l n) =
     let (t, (m, e, x)) = (other_rule (drop (start_of d) d)).0 n in
     omega (arith, length-drop (start_of d) d, ap length e)
 
-fault_inside : {d : List ℕ} {w : Why} {o : ℕ} → DocumentSays d (judged.AtFault w o) → o ≤ length d
+fault_inside : {d : List ℕ} {w : Why} {o : ℕ} → DocumentSays d (Err (judged.At w o)) → o ≤ length d
 fault_inside (document_says.at_fault l n c x) = inside c x
 
 -- only 7 is answered where the items run out
-fault_before : {d : List ℕ} {w : Why} {o : ℕ} → (w ≡ why.Malformed → ⊥) → DocumentSays d (judged.AtFault w o) → o < length d
+fault_before : {d : List ℕ} {w : Why} {o : ℕ} → (w ≡ why.Malformed → ⊥) → DocumentSays d (Err (judged.At w o)) → o < length d
 fault_before {d} {w} {o} n (document_says.at_fault l k c x) =
     let z = inside c x in
     let r : o ≡ length d → ⊥ = λ e. n (runs_out_seven c x e).1 in
@@ -241,15 +250,15 @@ fault_before {d} {w} {o} n (document_says.at_fault l k c x) =
 pub placed : (list d : List ℕ) (room : ℕ) → Placed d room (answer_of list d room)
 placed list d room = go (answer_of list d room) (says_answer list d room)
   where
-    go : (a : Answer) → AnswerSays list d room a → Placed d room a
-    go ListTooLong h = tt
-    go (ListMalformed n) (list_malformed l) = list_malformed_line l
-    go (ListTooLarge n) (list_large l) = list_large_line l
-    go TooLong h = tt
-    go (OtherEncoding o) (in_other_encoding l h) = other_inside h
-    go (NotChar o) (not_char l h) = char_inside h
-    go (Doctype o) (doctype l h) = fault_before (λ e. false≢true cc) h
-    go (Malformed o) (malformed l h) = fault_inside h
-    go (TooLarge o) (too_large l h) = fault_before (λ e. false≢true cc) h
-    go (Short n) (short x l) = l
-    go (Written n c t) (written x l) = l
+    go : (a : Result Cut CutError) → AnswerSays list d room a → Placed d room a
+    go (Err (errors.List lists.TooLong)) h = tt
+    go (Err (errors.List (lists.Malformed n))) (list_malformed l) = list_malformed_line l
+    go (Err (errors.List (lists.TooLarge n))) (list_large l) = list_large_line l
+    go (Err (errors.Document judged.TooLong)) h = tt
+    go (Err (errors.Document (judged.OtherEncoding o))) (in_other_encoding l h) = other_inside h
+    go (Err (errors.Document (judged.NotChar o))) (not_char l h) = char_inside h
+    go (Err (errors.Document (judged.At why.Doctype o))) (doctype l h) = fault_before (λ e. false≢true cc) h
+    go (Err (errors.Document (judged.At why.Malformed o))) (malformed l h) = fault_inside h
+    go (Err (errors.Document (judged.At why.TooLarge o))) (too_large l h) = fault_before (λ e. false≢true cc) h
+    go (Err (errors.Short n)) (short x l) = l
+    go (Ok c) (written x l) = l

@@ -4,6 +4,7 @@
 use mathlib.Core.Path.{◌≡◌, refl, ap, ◌∙◌}
 use mathlib.Core.List.{List, [], ◌++◌, append-nil}
 use Prim.Native.Nat.{ℕ}
+use Rattle.std.specs.Prelude.{Ok}
 use Rattle.xml.specs.Notation.{Rule, Reads, text, opt}
 use Rattle.xml.specs.Productions.{S, Name as NameRule}
 use Rattle.xml.specs.Forest.{Name, Tag, Forest}
@@ -14,7 +15,6 @@ use Rattle.attributes.specs.Attribute.{Attribute, Bears, names_of}
 use Rattle.attributes.specs.Held.{attributes_of}
 use Rattle.attributes.proofs.Held.{bears_only, attributes_holds}
 use Rattle.document.specs.Judge.{judge_of}
-use Rattle.document.specs.declared.judge.Judged.TheVariants.{Sound}
 use Rattle.trees.specs.Grown.{forest_of}
 use Rattle.demands.proofs.First.{sound_document}
 use Rattle.demands.proofs.Allowed.{star_then, allowed_chars}
@@ -78,5 +78,5 @@ document_borne =
     document_each (λ (t : Tag) (close : List ℕ). Borne t) (λ v ns s t o. (opens_borne o).0) (λ v ns raw s a b t o x. (opens_borne o).0)
 
 -- of every element of an accepted document
-pub accepted_borne : (d : List ℕ) → judge_of d ≡ Sound → EachTag Borne (forest_of d)
+pub accepted_borne : (d : List ℕ) → judge_of d ≡ Ok tt → EachTag Borne (forest_of d)
 accepted_borne d e = document_borne (sound_document d e).2

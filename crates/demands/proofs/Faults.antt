@@ -10,12 +10,13 @@ use native.Mathlib.Omega.{arith}
 use borrow.Author.Tests.{ltb-true, ltb-false, lt-ltb, le-ltb}
 use lib.Dec.{ltb}
 use lib.ListN.{length, drop, length-drop}
+use Rattle.std.specs.Prelude.{Result, Ok, Err, ⊤}
 use Rattle.xml.specs.Productions.{XMLDecl, PI, Comment as CommentRule, CDSect, Reference as ReferenceRule, CharData}
 use Rattle.xml.specs.Encoding.{NamesOther}
 use Rattle.chars.specs.Check.{check_of}
 use Rattle.chars.specs.Meaning.{CheckSays}
-use Rattle.chars.specs.declared.whole.Checked.{Checked}
-use Rattle.chars.specs.declared.whole.Checked.TheVariants.{All, BadAt}
+use Rattle.std.specs.Prelude.{Result, Ok, Err}
+use Rattle.chars.specs.declared.whole.CharError.{CharError}
 use Rattle.chars.proofs.Meaning.{check_says, check_only}
 use Rattle.readers.specs.Meaning.{Chars}
 use Rattle.readers.proofs.Combine.{chars_left}
@@ -38,8 +39,8 @@ use Rattle.document.specs.declared.Placement.{Placement}
 use Rattle.document.specs.declared.Placement.TheVariants.{Fine, Fault, Over}
 use Rattle.document.specs.declared.Why.{Why}
 use Rattle.document.specs.declared.Why.TheVariants.{Malformed as Ill}
-use Rattle.document.specs.declared.judge.Judged.{Judged}
-use Rattle.document.specs.declared.judge.Judged.TheVariants.{Sound, TooLong, OtherEncoding, NotChar, AtFault}
+use Rattle.document.specs.declared.DocumentError.{DocumentError}
+use Rattle.document.specs.declared.DocumentError.TheVariants.{TooLong, OtherEncoding, NotChar, At}
 use Rattle.document.proofs.Judging.{fine_ahead}
 use Rattle.trees.proofs.Passes.{over_fine}
 use Rattle.trees.proofs.Over.{nothing_left}
@@ -104,7 +105,7 @@ record Found (d : List ℕ) (at : ℕ) (first : Bool) (s : Opened) (why : Why) (
   fault : PlaceSays d o opened item (Fault why)
 
 scan_found : (k : ℕ) (d : List ℕ) (at : ℕ) (first : Bool) (s : Opened) (why : Why) (o : ℕ) → length d - at < k → Chars (drop at d)
-    → scan_from k d at first s ≡ AtFault why o → Found d at first s why o
+    → scan_from k d at first s ≡ Err (At why o) → Found d at first s why o
 unfolding scan_from
 scan_found zero d at first s why o l c e = absurd (omega arith)
 scan_found (suc k) d at first s why o l c e =
@@ -119,8 +120,8 @@ scan_found (suc k) d at first s why o l c e =
     r = read_says d at first c
 
     go : (p : Placement) → placement d at i s ≡ p → PlaceSays d at s i p
-        → onward p at (scan_from k d (end_of at i) false (after_item d at i s)) ≡ AtFault why o
-        → (placement d at i s ≡ Fine → scan_from k d (end_of at i) false (after_item d at i s) ≡ AtFault why o
+        → onward p at (scan_from k d (end_of at i) false (after_item d at i s)) ≡ Err (At why o)
+        → (placement d at i s ≡ Fine → scan_from k d (end_of at i) false (after_item d at i s) ≡ Err (At why o)
         → Found d (end_of at i) false (after_item d at i s) why o)
         → Found d at first s why o
     go Fine q m e f =
@@ -142,7 +143,7 @@ scan_found (suc k) d at first s why o l c e =
 -- and back
 found_scan : (k : ℕ) (d : List ℕ) {at : ℕ} {first : Bool} {s : Opened} {why : Why} {o : ℕ} {last : Bool} {t : Opened}
     → length d - at < k → Chars (drop at d) → Reaches d at first s o last t → (i : Item) → ItemSays last d o i
-    → PlaceSays d o t i (Fault why) → scan_from k d at first s ≡ AtFault why o
+    → PlaceSays d o t i (Fault why) → scan_from k d at first s ≡ Err (At why o)
 unfolding scan_from
 found_scan zero d l c h i x y = absurd (omega arith)
 found_scan (suc k) d {at} {first} {s} {why} l c here i x y =
@@ -188,38 +189,39 @@ module _ {d : List ℕ} (c : Chars d) {why : Why} {o : ℕ} (x : FirstFault d wh
 
 -- ---- the answer on a document
 
-by_chars_lem : (c : Checked) (j r : Judged) → by_chars c j ≡ r → ((o : ℕ) → r ≡ NotChar o → ⊥) → (c ≡ All) × (j ≡ r)
-by_chars_lem All j r e n = (refl, e)
-by_chars_lem (BadAt o) j r e n = absurd (n o (sym e))
+by_chars_lem : (c : Result Unit CharError) (j r : Result ⊤ DocumentError) → by_chars c j ≡ r
+    → ((o : ℕ) → r ≡ Err (NotChar o) → ⊥) → (c ≡ Ok tt) × (j ≡ r)
+by_chars_lem (Ok tt) j r e n = (refl, e)
+by_chars_lem (Err o) j r e n = absurd (n o.valid_up_to (sym e))
 
 -- 6, 7 and 8: the first item at fault
-scanned_fault : (d : List ℕ) → Chars d → (why : Why) (o : ℕ) → scanned d ≡ AtFault why o → FirstFault d why o
+scanned_fault : (d : List ℕ) → Chars d → (why : Why) (o : ℕ) → scanned d ≡ Err (At why o) → FirstFault d why o
 unfolding scanned
 scanned_fault d c why o e =
     let x = scan_found (suc (length d)) d (start_of d) true nothing why o (omega arith) (start_chars d c) e in
     record { first = x.last; opened = x.opened; reached = x.reached; item = x.item; says = x.says; fault = x.fault }
 
-pub fault_scanned : (d : List ℕ) → Chars d → {why : Why} {o : ℕ} → FirstFault d why o → scanned d ≡ AtFault why o
+pub fault_scanned : (d : List ℕ) → Chars d → {why : Why} {o : ℕ} → FirstFault d why o → scanned d ≡ Err (At why o)
 unfolding scanned
 fault_scanned d c x =
     found_scan (suc (length d)) d (omega arith) (start_chars d c) x.reached x.item x.says x.fault
 
 -- the scan says neither 4 nor 5
 scan_some : (k : ℕ) (d : List ℕ) (at : ℕ) (first : Bool) (s : Opened)
-    → (scan_from k d at first s ≡ Sound) ⊎ ((why : Why) × (o : ℕ) × (scan_from k d at first s ≡ AtFault why o))
+    → (scan_from k d at first s ≡ Ok tt) ⊎ ((why : Why) × (o : ℕ) × (scan_from k d at first s ≡ Err (At why o)))
 unfolding scan_from
 scan_some zero d at first s = inr (Ill, at, refl)
 scan_some (suc k) d at first s =
     let i = item_at first d at in
     go (placement d at i s) (scan_some k d (end_of at i) false (after_item d at i s))
   where
-    go : {n : Judged} (p : Placement) → (n ≡ Sound) ⊎ ((why : Why) × (o : ℕ) × (n ≡ AtFault why o))
-        → (onward p at n ≡ Sound) ⊎ ((why : Why) × (o : ℕ) × (onward p at n ≡ AtFault why o))
+    go : {n : Result ⊤ DocumentError} (p : Placement) → (n ≡ Ok tt) ⊎ ((why : Why) × (o : ℕ) × (n ≡ Err (At why o)))
+        → (onward p at n ≡ Ok tt) ⊎ ((why : Why) × (o : ℕ) × (onward p at n ≡ Err (At why o)))
     go Fine f = f
     go (Fault w) f = inr (w, at, refl)
     go Over f = inl refl
 
-some_scanned : (d : List ℕ) → (scanned d ≡ Sound) ⊎ ((why : Why) × (o : ℕ) × (scanned d ≡ AtFault why o))
+some_scanned : (d : List ℕ) → (scanned d ≡ Ok tt) ⊎ ((why : Why) × (o : ℕ) × (scanned d ≡ Err (At why o)))
 unfolding scanned
 some_scanned d = scan_some (suc (length d)) d (start_of d) true nothing
 
@@ -229,57 +231,58 @@ unfolding judge_of
 judge_says d = size (ltb 16777216 (length d)) refl
   where
     items : length d ≤ 16777216 → (NamesOther (drop (start_of d) d) → ⊥) → Chars d
-        → (scanned d ≡ Sound) ⊎ ((why : Why) × (o : ℕ) × (scanned d ≡ AtFault why o))
+        → (scanned d ≡ Ok tt) ⊎ ((why : Why) × (o : ℕ) × (scanned d ≡ Err (At why o)))
         → DocumentSays d (scanned d)
     items l n c (inl e) = rw e (sound (record { size = l; chars = c; derived = scanned_document d n c e }))
     items l n c (inr (why, o, e)) = rw e (at_fault l n c (scanned_fault d c why o e))
 
-    chars : length d ≤ 16777216 → (NamesOther (drop (start_of d) d) → ⊥) → (r : Checked) → CheckSays d r
+    chars : length d ≤ 16777216 → (NamesOther (drop (start_of d) d) → ⊥) → (r : Result Unit CharError) → CheckSays d r
         → DocumentSays d (by_chars r (scanned d))
-    chars l n All c = items l n c (some_scanned d)
-    chars l n (BadAt o) h = not_char l n h
+    chars l n (Ok tt) c = items l n c (some_scanned d)
+    chars l n (Err o) h = not_char l n h
 
     encoding : length d ≤ 16777216 → (b : Bool) → other_encoding (drop (start_of d) d) ≡ b
-        → DocumentSays d (cond b (OtherEncoding (start_of d)) (by_chars (check_of d) (scanned d)))
+        → DocumentSays d (cond b (Err (OtherEncoding (start_of d))) (by_chars (check_of d) (scanned d)))
     encoding l true e = in_other_encoding l ((other_iff (drop (start_of d) d)).0 e)
     encoding l false e = chars l (named_none (drop (start_of d) d) e) (check_of d) (check_says d)
 
-    size : (b : Bool) → ltb 16777216 (length d) ≡ b → DocumentSays d (cond b TooLong (by_encoding d (by_chars (check_of d) (scanned d))))
+    size : (b : Bool) → ltb 16777216 (length d) ≡ b
+        → DocumentSays d (cond b (Err TooLong) (by_encoding d (by_chars (check_of d) (scanned d))))
     size true q = too_long (ltb-true 16777216 (length d) q)
     size false q = encoding (ltb-false 16777216 (length d) q) (other_encoding (drop (start_of d) d)) refl
 
 -- and no other answer does
-pub judge_only : (d : List ℕ) (j : Judged) → DocumentSays d j → judge_of d ≡ j
+pub judge_only : (d : List ℕ) (j : Result ⊤ DocumentError) → DocumentSays d j → judge_of d ≡ j
 unfolding judge_of
-judge_only d TooLong (too_long l) = rw (lt-ltb 16777216 (length d) l) refl
-judge_only d (OtherEncoding o) (in_other_encoding l n) = rw (le-ltb 16777216 (length d) l, (other_iff (drop (start_of d) d)).1 n) refl
-judge_only d (NotChar o) (not_char l n h) =
-    rw (le-ltb 16777216 (length d) l, none_named (drop (start_of d) d) n, ← check_only d (BadAt o) h) refl
-judge_only d (AtFault why o) (at_fault l n c x) =
-    rw (le-ltb 16777216 (length d) l, none_named (drop (start_of d) d) n, ← check_only d All c) (fault_scanned d c x)
-judge_only d Sound (sound {f} x) = derived_sound d x.size x.chars x.derived
+judge_only d (Err TooLong) (too_long l) = rw (lt-ltb 16777216 (length d) l) refl
+judge_only d (Err (OtherEncoding o)) (in_other_encoding l n) = rw (le-ltb 16777216 (length d) l, (other_iff (drop (start_of d) d)).1 n) refl
+judge_only d (Err (NotChar o)) (not_char l n h) =
+    rw (le-ltb 16777216 (length d) l, none_named (drop (start_of d) d) n, ← check_only d (Err (record { valid_up_to = o })) h) refl
+judge_only d (Err (At why o)) (at_fault l n c x) =
+    rw (le-ltb 16777216 (length d) l, none_named (drop (start_of d) d) n, ← check_only d (Ok tt) c) (fault_scanned d c x)
+judge_only d (Ok _) (sound {f} x) = derived_sound d x.size x.chars x.derived
 
 -- "given exactly when the first item has the right shape of a declaration and names another encoding", in a document that is not too long
-other_said : {d : List ℕ} {o : ℕ} → DocumentSays d (OtherEncoding o)
+other_said : {d : List ℕ} {o : ℕ} → DocumentSays d (Err (OtherEncoding o))
     → (length d ≤ 16777216) × (o ≡ start_of d) × NamesOther (drop (start_of d) d)
 other_said (in_other_encoding l n) = (l, refl, n)
 
 pub other_exactly : (d : List ℕ) (o : ℕ)
-    → judge_of d ≡ OtherEncoding o ↔ ((length d ≤ 16777216) × (o ≡ start_of d) × NamesOther (drop (start_of d) d))
+    → judge_of d ≡ Err (OtherEncoding o) ↔ ((length d ≤ 16777216) × (o ≡ start_of d) × NamesOther (drop (start_of d) d))
 other_exactly d o = (
   (λ e. other_said (rw e at (judge_says d))),
-  (λ (l, e, n). rw e (judge_only d (OtherEncoding (start_of d)) (in_other_encoding l n))),
+  (λ (l, e, n). rw e (judge_only d (Err (OtherEncoding (start_of d))) (in_other_encoding l n))),
 )
 
 -- 6, 7 and 8; and 5
-pub fault_first : (d : List ℕ) (why : Why) (o : ℕ) → judge_of d ≡ AtFault why o → FirstFault d why o
+pub fault_first : (d : List ℕ) (why : Why) (o : ℕ) → judge_of d ≡ Err (At why o) → FirstFault d why o
 fault_first d why o e = go (rw e at (judge_says d))
   where
-    go : DocumentSays d (AtFault why o) → FirstFault d why o
+    go : DocumentSays d (Err (At why o)) → FirstFault d why o
     go (at_fault l n c x) = x
 
-pub char_first : (d : List ℕ) (o : ℕ) → judge_of d ≡ NotChar o → CheckSays d (BadAt o)
+pub char_first : (d : List ℕ) (o : ℕ) → judge_of d ≡ Err (NotChar o) → CheckSays d (Err (record { valid_up_to = o }))
 char_first d o e = go (rw e at (judge_says d))
   where
-    go : DocumentSays d (NotChar o) → CheckSays d (BadAt o)
+    go : DocumentSays d (Err (NotChar o)) → CheckSays d (Err (record { valid_up_to = o }))
     go (not_char l n h) = h

@@ -10,6 +10,7 @@ use native.Mathlib.Omega.{arith}
 use borrow.Author.Tests.{ltb-false}
 use lib.Dec.{ltb}
 use lib.ListN.{length, drop, length-append}
+use Rattle.std.specs.Prelude.{Ok, Err}
 use Rattle.xml.specs.Productions.{is_char, XMLDecl}
 use Rattle.xml.specs.Encoding.{NamesOther}
 use Rattle.xml.specs.Utf8.{utf8, is_scalar}
@@ -22,8 +23,8 @@ use Rattle.xml.proofs.Character.{begins_split}
 use Rattle.xml.proofs.Encoding.{declared_utf8}
 use Rattle.chars.specs.Check.{check_of}
 use Rattle.chars.specs.Meaning.{CheckSays}
-use Rattle.chars.specs.declared.whole.Checked.{Checked}
-use Rattle.chars.specs.declared.whole.Checked.TheVariants.{All, BadAt}
+use Rattle.std.specs.Prelude.{Result, Ok, Err}
+use Rattle.chars.specs.declared.whole.CharError.{CharError}
 use Rattle.chars.specs.Name.{reading_at}
 use Rattle.chars.proofs.Meaning.{check_says}
 use Rattle.readers.specs.Named.{declaration_of, other_encoding}
@@ -38,7 +39,7 @@ use Rattle.items.specs.Item.{Kind, declares, item_by, item_of, item_at}
 use Rattle.document.specs.Place.{placement, after_item, end_of}
 use Rattle.document.specs.Judge.{front, start_of, nothing, scanned, by_chars, judge_of}
 use Rattle.document.specs.declared.Placement.TheVariants.{Fine, Over}
-use Rattle.document.specs.declared.judge.Judged.TheVariants.{Sound, TooLong, OtherEncoding}
+use Rattle.document.specs.declared.DocumentError.TheVariants.{TooLong, OtherEncoding}
 use Rattle.trees.specs.Grown.{item_tokens, tokens_from, tokens_of, grown, forest_of}
 use Rattle.trees.proofs.Passes.{Passes, scan_passes}
 use Rattle.demands.proofs.Told.{first_kind, declared_kind}
@@ -125,7 +126,7 @@ module _ (k : ℕ) (d : List ℕ) (at : ℕ) (l : at ≤ length d) (c : Chars (d
 
 -- ---- the judgement
 
-pub scanned_document : (d : List ℕ) → (NamesOther (drop (start_of d) d) → ⊥) → Chars d → scanned d ≡ Sound
+pub scanned_document : (d : List ℕ) → (NamesOther (drop (start_of d) d) → ⊥) → Chars d → scanned d ≡ Ok tt
     → Document Small (drop (start_of d) d) (forest_of d)
 unfolding scanned tokens_of forest_of
 scanned_document d n c e =
@@ -133,19 +134,19 @@ scanned_document d n c e =
     (scan_passes (suc (length d)) d (start_of d) true nothing e)
 
 -- a sound document is within the size, names no other encoding, is made of Chars, and no item of it is at fault
-pub sound_scanned : (d : List ℕ) → judge_of d ≡ Sound
-    → (length d ≤ 16777216) × (NamesOther (drop (start_of d) d) → ⊥) × Chars d × (scanned d ≡ Sound)
+pub sound_scanned : (d : List ℕ) → judge_of d ≡ Ok tt
+    → (length d ≤ 16777216) × (NamesOther (drop (start_of d) d) → ⊥) × Chars d × (scanned d ≡ Ok tt)
 unfolding judge_of
 sound_scanned d = go (ltb 16777216 (length d)) (other_encoding (drop (start_of d) d)) (check_of d) refl refl (check_says d)
   where
-    go : (b o : Bool) (r : Checked) → ltb 16777216 (length d) ≡ b → other_encoding (drop (start_of d) d) ≡ o → CheckSays d r
-        → cond b TooLong (cond o (OtherEncoding (start_of d)) (by_chars r (scanned d))) ≡ Sound
-        → (length d ≤ 16777216) × (NamesOther (drop (start_of d) d) → ⊥) × Chars d × (scanned d ≡ Sound)
+    go : (b o : Bool) (r : Result Unit CharError) → ltb 16777216 (length d) ≡ b → other_encoding (drop (start_of d) d) ≡ o → CheckSays d r
+        → cond b (Err TooLong) (cond o (Err (OtherEncoding (start_of d))) (by_chars r (scanned d))) ≡ Ok tt
+        → (length d ≤ 16777216) × (NamesOther (drop (start_of d) d) → ⊥) × Chars d × (scanned d ≡ Ok tt)
     go true o r q n x e = absurd (false≢true cc)
     go false true r q n x e = absurd (false≢true cc)
-    go false false (BadAt k) q n x e = absurd (false≢true cc)
-    go false false All q n x e = (ltb-false 16777216 (length d) q, named_none (drop (start_of d) d) n, x, e)
+    go false false (Err k) q n x e = absurd (false≢true cc)
+    go false false (Ok tt) q n x e = (ltb-false 16777216 (length d) q, named_none (drop (start_of d) d) n, x, e)
 
-pub sound_document : (d : List ℕ) → judge_of d ≡ Sound
+pub sound_document : (d : List ℕ) → judge_of d ≡ Ok tt
     → (length d ≤ 16777216) × Chars d × Document Small (drop (start_of d) d) (forest_of d)
 sound_document d e = let (l, n, c, s) = sound_scanned d e in (l, c, scanned_document d n c s)

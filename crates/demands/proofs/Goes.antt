@@ -8,17 +8,18 @@ use native.Mathlib.Omega.{arith}
 use borrow.Author.Tests.{leb-true, le-leb}
 use lib.Dec.{leb}
 use lib.ListN.{length, drop, length-append}
+use Rattle.std.specs.Prelude.{Ok}
 use Rattle.xml.specs.Notation.{Rule, Reads, Star, done, more, char, bytes}
 use Rattle.xml.specs.Productions.{PI, Comment as CommentRule, CDSect, Reference as ReferenceRule, CharData, S, except, same}
 use Rattle.xml.specs.Sign.{Refers}
 use Rattle.xml.specs.Forest.{Name, Tag}
-use Rattle.xml.specs.Document.{Opens, Closes, Item as ItemOf, Some, Small}
+use Rattle.xml.specs.Document.{Opens, Closes, Item as ItemOf, Some as NonEmpty, Small}
 use Rattle.xml.proofs.Bools.{or_left, or_right}
 use Rattle.xml.proofs.Same.{same_refl}
 use Rattle.utf8.specs.Place.{ends_at, Stands}
 use Rattle.chars.specs.Space.{space_end}
 use Rattle.chars.specs.Meaning.{SpaceSays}
-use Rattle.chars.specs.declared.name.Reading.TheVariants.{Ends}
+use Rattle.std.specs.Prelude.{Some}
 use Rattle.chars.proofs.Meaning.{space_only}
 use Rattle.xml.proofs.Run.{starts_not}
 use Rattle.readers.specs.Meaning.{Chars, TextIs, tag_end}
@@ -26,7 +27,6 @@ use Rattle.readers.specs.Says.{ReadingSays, TextSays}
 use Rattle.readers.proofs.Left.{end_stands, end_ahead}
 use Rattle.readers.proofs.Reference.{reads_refers, refers_first}
 use Rattle.references.specs.Meaning.{ReferenceSays}
-use Rattle.references.specs.declared.reference.Saying.TheVariants.{Says}
 use Rattle.tags.specs.Kept.{name_from}
 use Rattle.tags.specs.declared.Item.{Item}
 use Rattle.tags.specs.declared.Item.TheVariants.{Declaration, Instruction, Comment, Section, Reference, Text, Start, Finish}
@@ -43,7 +43,6 @@ use Rattle.document.specs.Judge.{scan_from}
 use Rattle.document.specs.declared.Placement.TheVariants.{Fine, Fault}
 use Rattle.document.specs.declared.Why.{Why}
 use Rattle.document.specs.declared.Why.TheVariants as why
-use Rattle.document.specs.declared.judge.Judged.TheVariants.{Sound}
 use Rattle.trees.specs.Grown.{Token, finish, aside, part, tag_of, started, item_tokens, tokens_from}
 use Rattle.trees.proofs.Passes.{over_fine}
 use Rattle.demands.proofs.Parts.{Stops, part_is, drop_past, stops_space}
@@ -52,7 +51,7 @@ use Rattle.demands.proofs.Begins.{comment_kind, instruction_kind, section_kind, 
 use Rattle.demands.proofs.Begins.{start_kind, plain_kind, space_first, space_is_text}
 
 pub record Goes (d : List ℕ) (at : ℕ) (s : Opened) (ts : List Token) : Type 0 where
-  pub scans : (k : ℕ) → length d < k + at → (scan_from k d at false s ≡ Sound) × (tokens_from k d at false ≡ ts)
+  pub scans : (k : ℕ) → length d < k + at → (scan_from k d at false s ≡ Ok tt) × (tokens_from k d at false ≡ ts)
 
 -- ---- one item more
 
@@ -85,7 +84,7 @@ goes_on d at i s ts q p g = record { scans = go }
     z : (at < end_of at i) × (end_of at i ≤ length d)
     z = ahead d at i s (inside_is d at i q) p
 
-    go : (k : ℕ) → length d < k + at → (scan_from k d at false s ≡ Sound) × (tokens_from k d at false ≡ item_tokens d at i ts)
+    go : (k : ℕ) → length d < k + at → (scan_from k d at false s ≡ Ok tt) × (tokens_from k d at false ≡ item_tokens d at i ts)
     go zero l = absurd (let (a, b) = z in omega arith)
     go (suc k) l =
         let (x, y) = g.scans k (let (a, b) = z in omega arith) in
@@ -102,7 +101,7 @@ unfolding scan_from tokens_from
 goes_over d at p = record { scans = go }
   where
     go : (k : ℕ) → length d < k + at
-        → (scan_from k d at false (record { names = []; rooted = true }) ≡ Sound) × (tokens_from k d at false ≡ [])
+        → (scan_from k d at false (record { names = []; rooted = true }) ≡ Ok tt) × (tokens_from k d at false ≡ [])
     go zero l = absurd (let h : at ≤ length d = p.inside in omega arith)
     go (suc k) l = rw (over_item d at p.rest) (refl, refl)
 
@@ -121,13 +120,13 @@ module _ (d : List ℕ) {at : ℕ} {s : List ℕ} (p : Stands d at s) where
       let l = end_ahead d at t in
       record { to = ends_at d at t; ahead = l; stands = x; raw_is = part_is d raw t at _ (p.rest ∙ e) x l }
 
-  pub says_at : (r : Rule) {raw t : List ℕ} → Reads r s t → (x : Read d at raw t) → ReadingSays r d at (Ends x.to)
+  pub says_at : (r : Rule) {raw t : List ℕ} → Reads r s t → (x : Read d at raw t) → ReadingSays r d at (Some x.to)
   says_at r y x = (rw (p.rest, x.stands.rest) y, x.ahead, x.stands.inside)
 
-  refers_at : (n : ℕ) {raw t : List ℕ} → Refers n s t → (x : Read d at raw t) → ReferenceSays d at (Says n x.to)
+  refers_at : (n : ℕ) {raw t : List ℕ} → Refers n s t → (x : Read d at raw t) → ReferenceSays d at (Some (n, x.to))
   refers_at n y x = (rw (p.rest, x.stands.rest) y, x.ahead, x.stands.inside)
 
-  text_at : {raw t : List ℕ} → TextIs s t → (x : Read d at raw t) → TextSays d at (Ends x.to)
+  text_at : {raw t : List ℕ} → TextIs s t → (x : Read d at raw t) → TextSays d at (Some x.to)
   text_at y x = (rw (p.rest, x.stands.rest) y, x.ahead, x.stands.inside)
 
   here : (c : Chars s) (i : Item) {k : kinds.Kind} → kind_of false s ≡ k → KindSays k d at i → i ≡ item_at false d at
@@ -178,11 +177,11 @@ module _ (d : List ℕ) {at : ℕ} {s : List ℕ} (p : Stands d at s) (c : Chars
       let q = here d p c (Text x.to) (plain_kind s n y) (refl, text_at d p i x) in
       rw (← x.raw_is) (goes_on d at (Text x.to) o ts q (ap formed w) (next x.to x.stands))
 
-  pub data_goes : {raw m : List ℕ} {ts : List Token} → Some raw → ItemOf CharData raw s m → Stops m → some o.names ≡ true
+  pub data_goes : {raw m : List ℕ} {ts : List Token} → NonEmpty raw → ItemOf CharData raw s m → Stops m → some o.names ≡ true
       → ((e : ℕ) → Stands d e m → Goes d e o ts) → Goes d at o (aside raw ∷ ts)
   data_goes {raw} {m} {ts} n i z w next = go i.reads.0 i.raw_is refl refl
     where
-      nonempty : (raw s : List ℕ) → Some raw → s ≡ raw ++ s → ⊥
+      nonempty : (raw s : List ℕ) → NonEmpty raw → s ≡ raw ++ s → ⊥
       nonempty [] s n e = n
       nonempty (b ∷ raw) s n e =
           let y : length s ≡ suc (length (raw ++ s)) = ap length e in omega (arith, length-append raw s)

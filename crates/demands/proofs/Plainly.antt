@@ -9,6 +9,7 @@ use Prim.Native.Nat.{ℕ, zero, suc, ◌≤◌}
 use borrow.Author.Tests.{eqb-true, leb-true}
 use lib.Dec.{eqb, leb}
 use lib.ListN.{length, drop}
+use Rattle.std.specs.Prelude.{Result, Ok, Err, ⊤}
 use Rattle.xml.specs.Utf8.{utf8, is_scalar}
 use Rattle.xml.specs.Notation.{bytes}
 use Rattle.xml.specs.Productions.{is_char, is_space, is_name_start, is_name_more, is_name, digit_of}
@@ -34,13 +35,13 @@ use Rattle.tags.specs.Tag.{tag_at, end_tag_at}
 use Rattle.items.specs.Item.{declares, kind_of, item_at}
 use Rattle.document.specs.Place.{blank}
 use Rattle.document.specs.Judge.{start_of, scan_from, scanned, judge_of}
-use Rattle.document.specs.declared.judge.Judged.{Judged}
-use Rattle.document.specs.declared.judge.Judged.TheVariants.{Sound, TooLong, OtherEncoding, NotChar, AtFault}
+use Rattle.document.specs.declared.DocumentError.{DocumentError}
+use Rattle.document.specs.declared.DocumentError.TheVariants.{TooLong, OtherEncoding, NotChar, At}
 use Rattle.demands.proofs.Accepted.{accepted}
 use Rattle.demands.proofs.Characters.{document_chars}
 
 -- "A document is accepted exactly when it is in UTF-8 and keeps XML 1.0 (Fifth Edition) without a document type, within the stated sizes"
-pub accepted_plainly : (d : List ℕ) → judge_of d ≡ Sound ↔ ((length d ≤ 16777216) × Chars d × Derived Small (drop (start_of d) d))
+pub accepted_plainly : (d : List ℕ) → judge_of d ≡ Ok tt ↔ ((length d ≤ 16777216) × Chars d × Derived Small (drop (start_of d) d))
 accepted_plainly d = (
   λ e. let (l, c, (f, x)) = (accepted d).0 e in (l, c, document_plain Small x),
   λ (l, c, x). (accepted d).1 (l, c, plain_document Small x),
@@ -98,12 +99,12 @@ underived =
 
 -- ---- what is computed of them: how they are judged, that no byte order mark stands in front, and that they are short
 
-abbrev is_sound : Judged → Bool
-is_sound Sound = true
-is_sound TooLong = false
-is_sound (OtherEncoding o) = false
-is_sound (NotChar o) = false
-is_sound (AtFault w o) = false
+abbrev is_sound : Result ⊤ DocumentError → Bool
+is_sound (Ok _) = true
+is_sound (Err TooLong) = false
+is_sound (Err (OtherEncoding o)) = false
+is_sound (Err (NotChar o)) = false
+is_sound (Err (At w o)) = false
 
 abbrev every : (List ℕ → Bool) → List (List ℕ) → Bool
 every f [] = true
@@ -124,12 +125,12 @@ tables_computed = refl
 
 -- ---- so they are derived, or not
 
-sound_is : (j : Judged) → is_sound j ≡ true → j ≡ Sound
-sound_is Sound e = refl
-sound_is TooLong e = absurd (false≢true e)
-sound_is (OtherEncoding o) e = absurd (false≢true e)
-sound_is (NotChar o) e = absurd (false≢true e)
-sound_is (AtFault w o) e = absurd (false≢true e)
+sound_is : (j : Result ⊤ DocumentError) → is_sound j ≡ true → j ≡ Ok tt
+sound_is (Ok _) e = refl
+sound_is (Err TooLong) e = absurd (false≢true e)
+sound_is (Err (OtherEncoding o)) e = absurd (false≢true e)
+sound_is (Err (NotChar o)) e = absurd (false≢true e)
+sound_is (Err (At w o)) e = absurd (false≢true e)
 
 module _ (d : List ℕ) where
   sorted_derived : sorted true d ≡ true → Derived Small d
@@ -144,7 +145,7 @@ module _ (d : List ℕ) where
       let z = eqb-true (start_of d) 0 (and_left (eqb (start_of d) 0) _ r) in
       let l = leb-true (length d) 16777216 (and_right (eqb (start_of d) 0) _ r) in
       let (f, x) = plain_document Small h in
-      let s : judge_of d ≡ Sound = (accepted_plainly d).1 (l, document_chars x, rw z h) in
+      let s : judge_of d ≡ Ok tt = (accepted_plainly d).1 (l, document_chars x, rw z h) in
       false≢true (rw s at (and_left (not (is_sound (judge_of d))) _ e))
 
 every_all : {P : List ℕ → Type 0} (f : List ℕ → Bool) → ((d : List ℕ) → f d ≡ true → P d) → (ds : List (List ℕ)) → every f ds ≡ true

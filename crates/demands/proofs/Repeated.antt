@@ -10,12 +10,12 @@ use mathlib.Core.Logic.{◌⊎◌, inl, inr, ◌↔◌}
 use mathlib.Core.Option.{Option}
 use Prim.Native.Nat.{ℕ, suc, ◌≤◌, ◌<◌}
 use lib.ListN.{length}
+use Rattle.std.specs.Prelude.{Ok}
 use Rattle.xml.specs.Forest.{Name, render}
 use Rattle.attributes.specs.Attribute.{Attribute}
 use Rattle.paths.specs.Path.{Step, AttributeTest, Path, print_line, print_list, All, none, more, Good}
 use Rattle.paths.specs.Answer.{Before, Says, sound}
 use Rattle.paths.specs.Judge.{list_answer, list_paths}
-use Rattle.paths.specs.declared.ListAnswer.TheVariants.{Sound}
 use Rattle.paths.proofs.Meaning.{says, says_only, paths_print, print_once}
 use Rattle.matcher.specs.Says.{Some, this, later, verdict_of}
 use Rattle.matcher.specs.declared.Verdict.{Verdict}
@@ -62,7 +62,7 @@ module _ (list list' : List ℕ) (l : Within (list_paths list) (list_paths list'
   unfolding count_of
   same_count d = ap (λ (v : Judge). count v [] (forest_of d)) (same_verdicts (list_paths list) (list_paths list') l m)
 
-pub same_lists : (list list' : List ℕ) → list_answer list ≡ Sound → list_answer list' ≡ Sound
+pub same_lists : (list list' : List ℕ) → list_answer list ≡ Ok tt → list_answer list' ≡ Ok tt
     → Within (list_paths list) (list_paths list') → Within (list_paths list') (list_paths list) → SameOutcome list list'
 unfolding answer_of bytes_after
 same_lists list list' p q l m = record { answer_same = answers; bytes_same = buffers }
@@ -70,12 +70,12 @@ same_lists list list' p q l m = record { answer_same = answers; bytes_same = buf
     answers : (d : List ℕ) (room : ℕ) → SameNumbers (answer_of list d room) (answer_of list' d room)
     answers d room =
         rw (p, q, same_cut list list' l m d, same_count list list' l m d)
-        (numbers_same Sound (judge_of d) room (cut_of list' d) (count_of list' d) (tests_of list d) (tests_of list' d))
+        (numbers_same (Ok tt) (judge_of d) room (cut_of list' d) (count_of list' d) (tests_of list d) (tests_of list' d))
 
     buffers : (d o : List ℕ) → bytes_after list d o ≡ bytes_after list' d o
     buffers d o =
         rw (p, q, same_cut list list' l m d, same_count list list' l m d)
-        (bytes_same Sound (judge_of d) (cut_of list' d) (count_of list' d) (tests_of list d) (tests_of list' d) o)
+        (bytes_same (Ok tt) (judge_of d) (cut_of list' d) (count_of list' d) (tests_of list d) (tests_of list' d) o)
 
 -- ---- a line put into a list of paths
 
@@ -155,7 +155,7 @@ good_covered (this c) (more g gs) =
 good_covered (later s) (more g gs) = good_covered s gs
 
 -- two accepted lists of the same paths, in any order and each as often as it likes
-pub same_members : (list list' : List ℕ) → list_answer list ≡ Sound → list_answer list' ≡ Sound
+pub same_members : (list list' : List ℕ) → list_answer list ≡ Ok tt → list_answer list' ≡ Ok tt
     → AllStand (list_paths list) (list_paths list')
     → AllStand (list_paths list') (list_paths list) → SameOutcome list list'
 same_members list list' p q l m = same_lists list list' p q (all_each (λ r. stands_covers) l) (all_each (λ r. stands_covers) m)
@@ -170,20 +170,20 @@ prints_put p (z ∷ xs) ys =
     ∙ simp append_assoc
 
 -- the lines of the sound list are those of `xs` and then those of `ys`; between them a line is put that one of them covers
-module _ (list : List ℕ) (xs ys : List Path) (p : Path) (accepted : list_answer list ≡ Sound) (lines : list_paths list ≡ xs ++ ys)
+module _ (list : List ℕ) (xs ys : List Path) (p : Path) (accepted : list_answer list ≡ Ok tt) (lines : list_paths list ≡ xs ++ ys)
     (covered : Some (λ q. StandsAs p q) (xs ++ ys)) where
   all_good : All Good (xs ++ p ∷ ys)
   all_good =
       let g : All Good (xs ++ ys) = rw lines at (paths_print list accepted).1 in
       all_put Good p xs ys g (good_covered covered g)
 
-  put_paths : list_answer (with_line xs p ys) ≡ Sound
+  put_paths : list_answer (with_line xs p ys) ≡ Ok tt
       → list_paths (with_line xs p ys) ≡ xs ++ p ∷ ys
   put_paths e =
       let z = paths_print (with_line xs p ys) e in
       print_once _ (xs ++ p ∷ ys) z.1 all_good (z.0 ∙ sym (prints_put p xs ys))
 
-  pub covered_line : list_answer (with_line xs p ys) ≡ Sound
+  pub covered_line : list_answer (with_line xs p ys) ≡ Ok tt
       → SameOutcome list (with_line xs p ys)
   covered_line e =
       same_lists list (with_line xs p ys) accepted e
@@ -191,33 +191,33 @@ module _ (list : List ℕ) (xs ys : List Path) (p : Path) (accepted : list_answe
       (rw (lines, put_paths e) (put_within p xs ys covered))
 
   -- "but count as lines"
-  pub counted_lines : (list_answer (with_line xs p ys) ≡ Sound)
+  pub counted_lines : (list_answer (with_line xs p ys) ≡ Ok tt)
       ↔ ((length (xs ++ ys) < 32) × (length (with_line xs p ys) ≤ 8192))
   counted_lines = (taken, given)
     where
-      size : {s : List ℕ} → Says s Sound → length s ≤ 8192
+      size : {s : List ℕ} → Says s (Ok tt) → length s ≤ 8192
       size (sound l ps b n) = l
 
-      taken : list_answer (with_line xs p ys) ≡ Sound
+      taken : list_answer (with_line xs p ys) ≡ Ok tt
           → (length (xs ++ ys) < 32) × (length (with_line xs p ys) ≤ 8192)
       taken e =
           let n = (paths_print (with_line xs p ys) e).2 in
           (rw (put_paths e, length_put p xs ys) at n, size (rw e at (says (with_line xs p ys))))
 
       given : (length (xs ++ ys) < 32) × (length (with_line xs p ys) ≤ 8192)
-          → list_answer (with_line xs p ys) ≡ Sound
+          → list_answer (with_line xs p ys) ≡ Ok tt
       given h =
           let b : Before (with_line xs p ys) (xs ++ p ∷ ys) [] =
           record { prints = sym (append-nil (print_list (xs ++ p ∷ ys)) ∙ prints_put p xs ys); good = all_good } in
-          says_only (with_line xs p ys) Sound (sound h.1 (xs ++ p ∷ ys) b (rw (length_put p xs ys) h.0))
+          says_only (with_line xs p ys) (Ok tt) (sound h.1 (xs ++ p ∷ ys) b (rw (length_put p xs ys) h.0))
 
 -- "Repeated lines change nothing": a line that stands in the list, once more, anywhere; and at the end
-pub repeated_lines : (list : List ℕ) (xs ys : List Path) (p : Path) → list_answer list ≡ Sound → list_paths list ≡ xs ++ ys
-    → Stands p (xs ++ ys) → list_answer (with_line xs p ys) ≡ Sound → SameOutcome list (with_line xs p ys)
+pub repeated_lines : (list : List ℕ) (xs ys : List Path) (p : Path) → list_answer list ≡ Ok tt → list_paths list ≡ xs ++ ys
+    → Stands p (xs ++ ys) → list_answer (with_line xs p ys) ≡ Ok tt → SameOutcome list (with_line xs p ys)
 repeated_lines list xs ys p accepted lines s = covered_line list xs ys p accepted lines (stands_covers s)
 
-pub repeated_last : (list : List ℕ) (p : Path) → list_answer list ≡ Sound → Stands p (list_paths list)
-    → list_answer (list ++ print_line p) ≡ Sound → SameOutcome list (list ++ print_line p)
+pub repeated_last : (list : List ℕ) (p : Path) → list_answer list ≡ Ok tt → Stands p (list_paths list)
+    → list_answer (list ++ print_line p) ≡ Ok tt → SameOutcome list (list ++ print_line p)
 unfolding print_list
 repeated_last list p accepted s e =
     let q : with_line (list_paths list) p [] ≡ list ++ print_line p =
@@ -227,9 +227,9 @@ repeated_last list p accepted s e =
 
 -- the same path, with the same test, once marked and once not is as if it stood there marked alone
 pub marked_wins : (list : List ℕ) (xs ys : List Path) (steps : List Step) (test : Option AttributeTest)
-    → list_answer list ≡ Sound → list_paths list ≡ xs ++ ys
+    → list_answer list ≡ Ok tt → list_paths list ≡ xs ++ ys
     → Stands (record { steps = steps; test = test; marked = true }) (xs ++ ys)
-    → list_answer (with_line xs (record { steps = steps; test = test; marked = false }) ys) ≡ Sound
+    → list_answer (with_line xs (record { steps = steps; test = test; marked = false }) ys) ≡ Ok tt
     → SameOutcome list (with_line xs (record { steps = steps; test = test; marked = false }) ys)
 marked_wins list xs ys steps test accepted lines s =
     covered_line list xs ys (record { steps = steps; test = test; marked = false }) accepted lines

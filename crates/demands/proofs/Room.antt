@@ -7,6 +7,7 @@ use mathlib.Core.List.{List, [], ◌∷◌}
 use Prim.Native.Nat.{ℕ, ◌+◌, ◌-◌, ◌*◌, ◌≤◌}
 use native.Mathlib.Omega.{arith}
 use lib.ListN.{length, length-append, length-drop}
+use Rattle.std.specs.Prelude.{Ok, Err}
 use Rattle.xml.specs.Notation.{Rule, bytes, text}
 use Rattle.xml.specs.Forest.{Name, Tag, Forest, nil, other, elem, render}
 use Rattle.xml.specs.Utf8.{utf8, is_scalar}
@@ -18,7 +19,6 @@ use Rattle.chars.specs.Name.{name_of}
 use Rattle.chars.specs.Check.{check_of}
 use Rattle.paths.specs.Judge.{lines, judge, list_answer, list_paths}
 use Rattle.paths.specs.Reader.{read_all}
-use Rattle.paths.specs.declared.ListAnswer.TheVariants as lists
 use Rattle.matcher.specs.Says.{verdict_of}
 use Rattle.matcher.specs.declared.Verdict.{Verdict}
 use Rattle.matcher.specs.declared.Verdict.TheVariants.{Unselected, Selected, Marked}
@@ -28,13 +28,12 @@ use Rattle.tags.specs.Tag.{tag_at}
 use Rattle.items.specs.Item.{declares, kind_of, item_at}
 use Rattle.document.specs.Place.{some}
 use Rattle.document.specs.Judge.{start_of, scan_from, scanned, judge_of}
-use Rattle.document.specs.declared.judge.Judged.TheVariants.{Sound}
 use Rattle.trees.specs.Cut.{Judge, on, any, place, cut}
 use Rattle.trees.specs.Grown.{tokens_from, tokens_of, forest_of}
 use Rattle.trees.specs.Written.{verdicts, cut_of, count_of, tests_of}
 use Rattle.trees.proofs.Bytes.{forest_bytes}
 use Rattle.cutter.specs.Answer.{answer_of}
-use Rattle.cutter.specs.declared.Answer.TheVariants.{Written, Short}
+use Rattle.refusals.specs.declared.CutError.TheVariants as errors
 use Rattle.demands.specs.Answers.{Cuts, AnswerSays, short}
 use Rattle.demands.proofs.First.{sound_scanned, sound_document}
 use Rattle.demands.proofs.Selected.{written_says}
@@ -85,7 +84,7 @@ forest_at_most v up (elem t kids close rest) (h, i, j) =
 -- ---- "a cut of an accepted document of n bytes has at most 2 × n − 1 bytes"
 
 -- by every list: one that is refused has no paths, and its cut is the root's tags
-pub cut_at_most : (list d : List ℕ) → judge_of d ≡ Sound → length (cut_of list d) ≤ 2 * length d - 1
+pub cut_at_most : (list d : List ℕ) → judge_of d ≡ Ok tt → length (cut_of list d) ≤ 2 * length d - 1
 unfolding cut_of
 cut_at_most list d e =
     let h = document_each Roomy empty_roomy full_roomy (sound_document d e).2 in
@@ -95,7 +94,7 @@ cut_at_most list d e =
     omega arith
 
 -- without a difference: a document that is accepted is not empty, since a cut is not
-pub cut_under_twice : (list d : List ℕ) → judge_of d ≡ Sound → length (cut_of list d) + 1 ≤ 2 * length d
+pub cut_under_twice : (list d : List ℕ) → judge_of d ≡ Ok tt → length (cut_of list d) + 1 ≤ 2 * length d
 unfolding cut_of
 cut_under_twice list d e =
     let (w, q) = cut_front Small small_less (verdicts (list_paths list)) (sound_document d e).2 in
@@ -108,24 +107,25 @@ cuts_at_most {list} {d} x = let z = cuts_only x in rw z.bytes_are (cut_at_most l
 -- ---- calls: "The field edition must reserve memory before it reads."
 
 -- the length written
-pub written_at_most : (list d : List ℕ) (room n c t : ℕ) → answer_of list d room ≡ Written n c t → n ≤ 2 * length d - 1
+pub written_at_most : (list d : List ℕ) (room n c t : ℕ) → answer_of list d room ≡ Ok (record { length = n; selected = c; tests = t })
+    → n ≤ 2 * length d - 1
 written_at_most list d room n c t e = let z = written_says list d room n c t e in rw z.2 (cut_at_most list d z.1)
 
 -- with so much room a sound list cuts every sound document
-pub room_enough : (list d : List ℕ) (room : ℕ) → list_answer list ≡ lists.Sound → judge_of d ≡ Sound → 2 * length d - 1 ≤ room
-    → answer_of list d room ≡ Written (length (cut_of list d)) (count_of list d) (tests_of list d)
+pub room_enough : (list d : List ℕ) (room : ℕ) → list_answer list ≡ Ok tt → judge_of d ≡ Ok tt → 2 * length d - 1 ≤ room
+    → answer_of list d room ≡ Ok (record { length = length (cut_of list d); selected = count_of list d; tests = tests_of list d })
 room_enough list d room p q l = answers list d room p q (omega (arith, cut_at_most list d q))
 
 -- and no call is refused by 9, whatever the list and the document
-pub never_short : (list d : List ℕ) (room n : ℕ) → 2 * length d - 1 ≤ room → answer_of list d room ≡ Short n → ⊥
+pub never_short : (list d : List ℕ) (room n : ℕ) → 2 * length d - 1 ≤ room → answer_of list d room ≡ Err (errors.Short n) → ⊥
 never_short list d room n l e = go (rw e at (says_answer list d room))
   where
-    go : {n : ℕ} → AnswerSays list d room (Short n) → ⊥
+    go : {n : ℕ} → AnswerSays list d room (Err (errors.Short n)) → ⊥
     go (short x r) = omega (arith, cuts_at_most x)
 
 -- ---- no smaller number would do: `<g/>` is accepted, and its cut by the empty list has 7 bytes
 
-pub at_most_reached : (judge_of (bytes "<g/>") ≡ Sound) × (length (cut_of [] (bytes "<g/>")) ≡ 2 * length (bytes "<g/>") - 1)
+pub at_most_reached : (judge_of (bytes "<g/>") ≡ Ok tt) × (length (cut_of [] (bytes "<g/>")) ≡ 2 * length (bytes "<g/>") - 1)
 unfolding judge_of other_encoding scanned scan_from check_of cut_of list_paths verdicts verdict_of forest_of tokens_of tokens_from start_of
     item_at kind_of declares ends_at tag_at tag_of piece_named before gather attribute_of small_tag space_of skip name_of expect starts run
     character guess number utf8 is_scalar is_char is_space is_name is_name_start is_name_more list_answer judge lines read_all

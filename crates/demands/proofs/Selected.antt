@@ -11,17 +11,15 @@ use native.Mathlib.Nat.{zero-add, add_assoc}
 use borrow.Author.Tests.{ltb-false}
 use lib.Dec.{ltb}
 use lib.ListN.{length}
+use Rattle.std.specs.Prelude.{Result, Ok, Err, ⊤}
 use Rattle.xml.specs.Forest.{Name, Forest, nil, other, elem}
 use Rattle.attributes.specs.Attribute.{Attribute}
 use Rattle.attributes.specs.Held.{attributes_of}
 use Rattle.paths.specs.Path.{Path}
 use Rattle.paths.specs.Judge.{list_answer, list_paths}
-use Rattle.paths.specs.declared.ListAnswer.{ListAnswer}
-use Rattle.paths.specs.declared.ListAnswer.TheVariants as lists
+use Rattle.paths.specs.declared.ListError.{ListError}
 use Rattle.document.specs.Judge.{judge_of}
-use Rattle.document.specs.declared.Why.TheVariants as why
-use Rattle.document.specs.declared.judge.Judged.{Judged}
-use Rattle.document.specs.declared.judge.Judged.TheVariants as judged
+use Rattle.document.specs.declared.DocumentError.{DocumentError}
 use Rattle.matcher.specs.Says.{this, later, BySome, ByMarked, Says, verdict_of}
 use Rattle.matcher.specs.declared.Verdict.{Verdict}
 use Rattle.matcher.specs.declared.Verdict.TheVariants.{Unselected, Selected, Marked}
@@ -29,8 +27,10 @@ use Rattle.matcher.proofs.Meaning.{says}
 use Rattle.trees.specs.Cut.{is_selected, one, count}
 use Rattle.trees.specs.Grown.{forest_of}
 use Rattle.trees.specs.Written.{root_first, verdicts, cut_of, count_of, tests_of}
-use Rattle.cutter.specs.Answer.{by_list, by_document, by_room, answer_of}
-use Rattle.cutter.specs.declared.Answer.TheVariants.{Written, Short}
+use Rattle.cutter.specs.Answer.{by_list, by_document, by_room, answer_of, second_of, third_of}
+use Rattle.cutter.specs.declared.answer.Cut.{Cut}
+use Rattle.refusals.specs.declared.CutError.{CutError}
+use Rattle.refusals.specs.declared.CutError.TheVariants as errors
 use Rattle.demands.specs.Elements.{Element, elements, how_many}
 
 -- ---- "A path selects an element exactly when ..": the verdict is that of a choice of places, and of the test where there is one
@@ -82,36 +82,33 @@ count_selected list d = count_elements (list_paths list) [] (forest_of d)
 
 -- ---- the answer under 0 hands back the length of the cut and that number
 
-by_room_lem : (room : ℕ) (w : List ℕ) (c t n k m : ℕ) → by_room room w c t ≡ Written n k m → (n ≡ length w) × (k ≡ c) × (length w ≤ room)
+by_room_lem : (room : ℕ) (w : List ℕ) (c t n k m : ℕ) → by_room room w c t ≡ Ok (record { length = n; selected = k; tests = m })
+    → (n ≡ length w) × (k ≡ c) × (length w ≤ room)
 by_room_lem room w c t n k m = go (ltb room (length w)) refl
   where
-    go : (b : Bool) → ltb room (length w) ≡ b → cond b (Short (length w)) (Written (length w) c t) ≡ Written n k m
+    go : (b : Bool) → ltb room (length w) ≡ b
+        → cond {A = Result Cut CutError} b (Err (errors.Short (length w))) (Ok (record { length = length w; selected = c; tests = t }))
+        ≡ Ok (record { length = n; selected = k; tests = m })
         → (n ≡ length w) × (k ≡ c) × (length w ≤ room)
     go true q e = absurd (false≢true cc)
-    go false q e = (cc, cc, ltb-false room (length w) q)
+    go false q e = (sym (ap second_of e), sym (ap third_of e), ltb-false room (length w) q)
 
 -- written: the list and the document are sound, and what is handed back is the length of the cut and the number of elements selected
-pub written_says : (list d : List ℕ) (room n k m : ℕ) → answer_of list d room ≡ Written n k m
-    → (list_answer list ≡ lists.Sound) × (judge_of d ≡ judged.Sound) × (n ≡ length (cut_of list d))
+pub written_says : (list d : List ℕ) (room n k m : ℕ) → answer_of list d room ≡ Ok (record { length = n; selected = k; tests = m })
+    → (list_answer list ≡ Ok tt) × (judge_of d ≡ Ok tt) × (n ≡ length (cut_of list d))
     × (k ≡ how_many (chosen (list_paths list)) (elements [] (forest_of d)))
     × (length (cut_of list d) ≤ room)
 unfolding answer_of
 written_says list d room n k m = go (list_answer list) (judge_of d) refl refl
   where
-    go : (a : ListAnswer) (j : Judged) → list_answer list ≡ a → judge_of d ≡ j
-        → by_list a (by_document j (by_room room (cut_of list d) (count_of list d) (tests_of list d))) ≡ Written n k m
-        → (list_answer list ≡ lists.Sound) × (judge_of d ≡ judged.Sound) × (n ≡ length (cut_of list d))
+    go : (a : Result ⊤ ListError) (j : Result ⊤ DocumentError) → list_answer list ≡ a → judge_of d ≡ j
+        → by_list a (by_document j (by_room room (cut_of list d) (count_of list d) (tests_of list d)))
+        ≡ Ok (record { length = n; selected = k; tests = m })
+        → (list_answer list ≡ Ok tt) × (judge_of d ≡ Ok tt) × (n ≡ length (cut_of list d))
         × (k ≡ how_many (chosen (list_paths list)) (elements [] (forest_of d)))
         × (length (cut_of list d) ≤ room)
-    go lists.Sound judged.Sound p q e =
+    go (Ok _) (Ok _) p q e =
         let z = by_room_lem room (cut_of list d) (count_of list d) (tests_of list d) n k m e in
         (p, q, z.0, z.1 ∙ count_selected list d, z.2)
-    go lists.Sound judged.TooLong p q e = absurd (false≢true cc)
-    go lists.Sound (judged.OtherEncoding o) p q e = absurd (false≢true cc)
-    go lists.Sound (judged.NotChar o) p q e = absurd (false≢true cc)
-    go lists.Sound (judged.AtFault why.Doctype o) p q e = absurd (false≢true cc)
-    go lists.Sound (judged.AtFault why.Malformed o) p q e = absurd (false≢true cc)
-    go lists.Sound (judged.AtFault why.TooLarge o) p q e = absurd (false≢true cc)
-    go lists.TooLong j p q e = absurd (false≢true cc)
-    go (lists.Malformed l) j p q e = absurd (false≢true cc)
-    go (lists.TooLarge l) j p q e = absurd (false≢true cc)
+    go (Ok _) (Err x) p q e = absurd (false≢true cc)
+    go (Err x) j p q e = absurd (false≢true cc)

@@ -11,7 +11,7 @@ use Rattle.xml.specs.Notation.{Rule, bytes}
 use Rattle.xml.specs.Productions.{STag, ETag, EmptyElemTag}
 use Rattle.xml.specs.Forest.{Name, Tag}
 use Rattle.xml.specs.Document.{Opens, Closes, Item, AllShort}
-use Rattle.chars.specs.declared.name.Reading.TheVariants.{Ends}
+use Rattle.std.specs.Prelude.{Some}
 use Rattle.readers.specs.Named as named
 use Rattle.readers.specs.Meaning.{Chars, tag_end, TagIs, EndTagIs}
 use Rattle.readers.specs.Says.{ReadingSays}
@@ -104,5 +104,5 @@ module _ (d : List ℕ) (at : ℕ) where
   pub finish_chars : {n e : ℕ} → FinishIs d at n e → Chars (drop at d) → Chars (drop e d)
   finish_chars x c = rw x.ends.rest (end_tag_chars x.stands c)
 
-  pub item_sound : (r : Rule) {e : ℕ} → ReadingSays r d at (Ends e) → Item r (part d at e) (drop at d) (drop e d)
+  pub item_sound : (r : Rule) {e : ℕ} → ReadingSays r d at (Some e) → Item r (part d at e) (drop at d) (drop e d)
   item_sound r {e} (x, l, h) = record { reads = x; raw_is = part_left d at e l }

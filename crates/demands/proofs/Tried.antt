@@ -9,24 +9,23 @@ use native.Mathlib.Nat.{suc-mul, zero-mul}
 use native.Mathlib.Omega.{arith}
 use lib.Dec.{ltb}
 use lib.ListN.{length, length-append}
+use Rattle.std.specs.Prelude.{Result, Ok, Err, ⊤}
 use Rattle.xml.specs.Forest.{Name, Forest, nil, other, elem}
 use Rattle.attributes.specs.Held.{attributes_of}
 use Rattle.paths.specs.Path.{Path, All}
 use Rattle.paths.specs.Judge.{list_answer, list_paths}
-use Rattle.paths.specs.declared.ListAnswer.{ListAnswer}
-use Rattle.paths.specs.declared.ListAnswer.TheVariants as lists
-use Rattle.document.specs.declared.judge.Judged.{Judged}
-use Rattle.document.specs.declared.judge.Judged.TheVariants as judged
+use Rattle.paths.specs.declared.ListError.{ListError}
+use Rattle.document.specs.declared.DocumentError.{DocumentError}
 use Rattle.compiled.proofs.OverLines.{sound_sized}
 use Rattle.matcher.specs.Tried.{Counted, none, this, other as skipped, Placing, steps_of, Tried}
 use Rattle.matcher.proofs.Tests.{counted_append, counted_most, tests_told}
 use Rattle.trees.specs.Cut.{tally}
 use Rattle.trees.specs.Grown.{forest_of}
 use Rattle.trees.specs.Written.{root_first, name_tests, tests_of}
-use Rattle.cutter.specs.Answer.{by_list, fault_of, by_document, by_room, after}
-use Rattle.cutter.specs.declared.Answer.{Answer}
-use Rattle.cutter.specs.declared.Answer.TheVariants.{Written, ListTooLong, ListMalformed, ListTooLarge, TooLong}
-use Rattle.cutter.specs.declared.Answer.TheVariants.{OtherEncoding, NotChar, Short}
+use Rattle.cutter.specs.Answer.{by_list, by_document, by_room, after}
+use Rattle.cutter.specs.declared.answer.Cut.{Cut}
+use Rattle.refusals.specs.declared.CutError.{CutError}
+use Rattle.refusals.specs.declared.CutError.TheVariants as errors
 use Rattle.demands.specs.Elements.{Element, elements, pairs}
 use Rattle.demands.specs.Repeated.{SameNumbers}
 use Rattle.demands.specs.Answers.{Tests}
@@ -75,7 +74,7 @@ module _ (ps : List Path) (few : length ps ≤ 32) (short : All (λ p. length p.
       (rw (pairs_append inner behind (steps_of ps)) (counted_append (tests_below (t.name ∷ up) kids) (tests_below up rest)))
 
 -- by a list that is accepted
-pub tests_counted : (list d : List ℕ) → list_answer list ≡ lists.Sound
+pub tests_counted : (list d : List ℕ) → list_answer list ≡ Ok tt
     → Tests (list_paths list) (elements [] (forest_of d)) (tests_of list d)
 unfolding tests_of
 tests_counted list d e =
@@ -88,38 +87,29 @@ tests_at_most ps xs c = rw (length_pairs xs (steps_of ps)) at (counted_most c)
 
 -- ---- answers that differ in the number of name tests
 
-same : (a : Answer) → SameNumbers a a
+same : (a : Result Cut CutError) → SameNumbers a a
 same a = record { number_same = refl; second_same = refl; third_same = refl }
 
 module _ (w : List ℕ) (c t u : ℕ) where
-  in_room : (b : Bool)
-      → SameNumbers (cond b (Short (length w)) (Written (length w) c t)) (cond b (Short (length w)) (Written (length w) c u))
-  in_room true = same (Short (length w))
+  abbrev in_room_of : Bool → ℕ → Result Cut CutError
+  in_room_of b n = cond b (Err (errors.Short (length w))) (Ok (record { length = length w; selected = c; tests = n }))
+
+  in_room : (b : Bool) → SameNumbers (in_room_of b t) (in_room_of b u)
+  in_room true = same (Err (errors.Short (length w)))
   in_room false = record { number_same = refl; second_same = refl; third_same = refl }
 
-  bytes_in_room : (o : List ℕ) (b : Bool)
-      → after (cond b (Short (length w)) (Written (length w) c t)) w o ≡ after (cond b (Short (length w)) (Written (length w) c u)) w o
+  bytes_in_room : (o : List ℕ) (b : Bool) → after (in_room_of b t) w o ≡ after (in_room_of b u) w o
   bytes_in_room o true = refl
   bytes_in_room o false = refl
 
-pub numbers_same : (l : ListAnswer) (j : Judged) (room : ℕ) (w : List ℕ) (c t u : ℕ)
+pub numbers_same : (l : Result ⊤ ListError) (j : Result ⊤ DocumentError) (room : ℕ) (w : List ℕ) (c t u : ℕ)
     → SameNumbers (by_list l (by_document j (by_room room w c t))) (by_list l (by_document j (by_room room w c u)))
-numbers_same lists.Sound judged.Sound room w c t u = in_room w c t u (ltb room (length w))
-numbers_same lists.Sound judged.TooLong room w c t u = same TooLong
-numbers_same lists.Sound (judged.OtherEncoding o) room w c t u = same (OtherEncoding o)
-numbers_same lists.Sound (judged.NotChar o) room w c t u = same (NotChar o)
-numbers_same lists.Sound (judged.AtFault y o) room w c t u = same (fault_of y o)
-numbers_same lists.TooLong j room w c t u = same ListTooLong
-numbers_same (lists.Malformed n) j room w c t u = same (ListMalformed n)
-numbers_same (lists.TooLarge n) j room w c t u = same (ListTooLarge n)
+numbers_same (Ok _) (Ok _) room w c t u = in_room w c t u (ltb room (length w))
+numbers_same (Ok _) (Err e) room w c t u = same (Err (errors.Document e))
+numbers_same (Err e) j room w c t u = same (Err (errors.List e))
 
-pub bytes_same : (l : ListAnswer) (j : Judged) (w : List ℕ) (c t u : ℕ) (o : List ℕ)
+pub bytes_same : (l : Result ⊤ ListError) (j : Result ⊤ DocumentError) (w : List ℕ) (c t u : ℕ) (o : List ℕ)
     → after (by_list l (by_document j (by_room (length o) w c t))) w o ≡ after (by_list l (by_document j (by_room (length o) w c u))) w o
-bytes_same lists.Sound judged.Sound w c t u o = bytes_in_room w c t u o (ltb (length o) (length w))
-bytes_same lists.Sound judged.TooLong w c t u o = refl
-bytes_same lists.Sound (judged.OtherEncoding k) w c t u o = refl
-bytes_same lists.Sound (judged.NotChar k) w c t u o = refl
-bytes_same lists.Sound (judged.AtFault y k) w c t u o = refl
-bytes_same lists.TooLong j w c t u o = refl
-bytes_same (lists.Malformed n) j w c t u o = refl
-bytes_same (lists.TooLarge n) j w c t u o = refl
+bytes_same (Ok _) (Ok _) w c t u o = bytes_in_room w c t u o (ltb (length o) (length w))
+bytes_same (Ok _) (Err e) w c t u o = refl
+bytes_same (Err e) j w c t u o = refl

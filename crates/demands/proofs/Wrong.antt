@@ -5,6 +5,7 @@ use mathlib.Core.List.{List, [], ◌++◌}
 use Prim.Native.Nat.{ℕ}
 use native.Mathlib.Omega.{arith}
 use lib.ListN.{length, get_or, take, replicate}
+use Rattle.std.specs.Prelude.{Result, Ok}
 use Rattle.xml.specs.Utf8.{utf8, is_scalar}
 use Rattle.xml.specs.Notation.{bytes}
 use Rattle.xml.specs.Productions.{is_char, is_space, is_name_start, is_name_more, is_name}
@@ -30,12 +31,12 @@ use Rattle.document.specs.Judge.{start_of, scan_from, scanned, judge_of}
 use Rattle.trees.specs.Grown.{tokens_from, tokens_of, forest_of}
 use Rattle.trees.specs.Written.{verdicts, cut_of, count_of, tests_of}
 use Rattle.cutter.specs.Answer.{answer_of, bytes_after, number_of, second_of, third_of}
-use Rattle.cutter.specs.declared.Answer.{Answer}
-use Rattle.cutter.specs.declared.Answer.TheVariants.{Written}
+use Rattle.cutter.specs.declared.answer.Cut.{Cut}
+use Rattle.refusals.specs.declared.CutError.{CutError}
 
 -- what a filter hands back: an answer, and the buffer after
 abbrev pub Filter : Type 0
-Filter = List ℕ → List ℕ → List ℕ → Answer × List ℕ
+Filter = List ℕ → List ℕ → List ℕ → Result Cut CutError × List ℕ
 
 -- the contract of `cut`
 abbrev pub Meets : Filter → Type 0
@@ -58,7 +59,7 @@ doc_a = bytes "<g/>"
 abbrev doc_b : List ℕ
 doc_b = bytes "<g><p><v/></p></g>"
 
-row_a : answer_of none doc_a 21 ≡ Written 7 0 (tests_of none doc_a)
+row_a : answer_of none doc_a 21 ≡ Ok (record { length = 7; selected = 0; tests = tests_of none doc_a })
 unfolding answer_of bytes_after judge_of other_encoding scanned scan_from start_of blank check_of space_end cut_of count_of verdicts
     verdict_of forest_of tokens_of tokens_from item_at kind_of declares ends_at tag_at end_tag_at tag_of end_tag_of piece_named before
     gather attribute_of small_tag text_of eq_of space_of skip value_of quoted_of many piece_of is_mark reference_of entity_ref_of
@@ -67,7 +68,7 @@ unfolding answer_of bytes_after judge_of other_encoding scanned scan_from start_
     print_line
 row_a = refl
 
-row_b : answer_of list_b doc_b 21 ≡ Written 21 1 (tests_of list_b doc_b)
+row_b : answer_of list_b doc_b 21 ≡ Ok (record { length = 21; selected = 1; tests = tests_of list_b doc_b })
 unfolding answer_of bytes_after judge_of other_encoding scanned scan_from start_of blank check_of space_end cut_of count_of verdicts
     verdict_of forest_of tokens_of tokens_from item_at kind_of declares ends_at tag_at end_tag_at tag_of end_tag_of piece_named before
     gather attribute_of small_tag text_of eq_of space_of skip value_of quoted_of many piece_of is_mark reference_of entity_ref_of
@@ -97,10 +98,10 @@ bytes_b = refl
 -- ---- the filters
 
 module _ (f : Filter) (meets : Meets f) where
-  answer_a : (f none doc_a dots).0 ≡ Written 7 0 (tests_of none doc_a)
+  answer_a : (f none doc_a dots).0 ≡ Ok (record { length = 7; selected = 0; tests = tests_of none doc_a })
   answer_a = (meets none doc_a dots).0 ∙ row_a
 
-  answer_b : (f list_b doc_b dots).0 ≡ Written 21 1 (tests_of list_b doc_b)
+  answer_b : (f list_b doc_b dots).0 ≡ Ok (record { length = 21; selected = 1; tests = tests_of list_b doc_b })
   answer_b = (meets list_b doc_b dots).0 ∙ row_b
 
   buffer_a : (f none doc_a dots).1 ≡ bytes "<g></g>" ++ replicate 14 46

@@ -12,8 +12,10 @@ use borrow.Author.Tests.{lt-ltb, le-ltb}
 use lib.Dec.{ltb}
 use lib.ListN.{length, take, drop, get_or, set, length-set}
 use lib.Seq.{get_or-set_same, get_or-set_other}
+use Rattle.std.specs.Prelude.{Err}
 use Rattle.paths.specs.Judge.{list_paths}
 use Rattle.attributes.specs.Held.{attributes_in}
+use Rattle.document.specs.declared.ItemError.{ItemError}
 use Rattle.document.specs.Levels.{names_of}
 use Rattle.matcher.specs.Says.{verdict_of}
 use Rattle.trees.specs.Grown.{part}
@@ -33,7 +35,6 @@ use Rattle.document.specs.declared.Placement.TheVariants.{Fine}
 use Rattle.document.specs.declared.Why.{Why}
 use Rattle.trees.proofs.Passes.{over_nothing, over_closed}
 use Rattle.descent.specs.Tree.{Safe, opening, Going, Stops, closed, over, ElementEnds, ElementIs, ContentEnds, ContentIs}
-use Rattle.descent.specs.declared.tree.Read.TheVariants.{Fault}
 use Rattle.descent.proofs.Going.{going_finish}
 use Rattle.descent.specs.declared.ink.Run.{Run}
 use Rattle.descent.specs.declared.ink.Tag.{Tag}
@@ -159,9 +160,9 @@ module _ (list d starts lens : List ℕ) (level : ℕ) (kept : Bool) (r : Run) (
       }
 
   -- a fault inside
-  pub element_fault : {why : Why} {p : ℕ} (o₂ : List ℕ)
-      → ContentIs list d own size (record { level = record { 0 = level + 1 }; rooted = true }) kept₁ tag.end false r₁ o₁ (Fault why p) o₂
-      → ElementIs list d starts lens level kept tag false r o (Fault why p) o₂
+  pub element_fault : {f : ItemError} (o₂ : List ℕ)
+      → ContentIs list d own size (record { level = record { 0 = level + 1 }; rooted = true }) kept₁ tag.end false r₁ o₁ (Err f) o₂
+      → ElementIs list d starts lens level kept tag false r o (Err f) o₂
   element_fault o₂ w o₀ first rooted twice e fine g =
       w o₀ (going_tag g safe.order ls ll e fine behind ends inside ev mv refl)
 

@@ -5,10 +5,11 @@ use mathlib.Core.Bool.{Bool, true, false}
 use mathlib.Core.List.{List, [], ◌∷◌}
 use Prim.Native.Nat.{ℕ}
 use lib.ListN.{get_or}
+use Rattle.std.specs.Prelude.{Ok, Err}
 use Rattle.xml.specs.Notation.{bytes}
 use Rattle.paths.specs.declared.Kind.{Kind}
 use Rattle.paths.specs.declared.Kind.TheVariants.{Child, Descendant, SelfStep, DescendantOrSelf}
-use Rattle.cutter.specs.declared.Answer.TheVariants as full
+use Rattle.refusals.specs.declared.CutError.TheVariants as errors
 use Rattle.descent.specs.Places.{may_stand, passes_by, can_stand}
 use Rattle.descent.specs.Answer.{without, number_of, second_of, third_of}
 
@@ -33,6 +34,8 @@ drawing : (row Descendant 2 1 (true ∷ false ∷ false ∷ false ∷ []) ≡ tr
 unfolding may_stand row
 drawing = (refl, refl)
 
-numbers : (number_of (without (full.Written 21 1 3)) ≡ 0) × (second_of (without (full.Written 21 1 3)) ≡ 21)
-    × (third_of (without (full.Written 21 1 3)) ≡ 1) × (number_of (without (full.Short 21)) ≡ 9) × (third_of (without (full.Short 21)) ≡ 0)
+numbers : (number_of (without (Ok (record { length = 21; selected = 1; tests = 3 }))) ≡ 0)
+    × (second_of (without (Ok (record { length = 21; selected = 1; tests = 3 }))) ≡ 21)
+    × (third_of (without (Ok (record { length = 21; selected = 1; tests = 3 }))) ≡ 1) × (number_of (without (Err (errors.Short 21))) ≡ 9)
+    × (third_of (without (Err (errors.Short 21))) ≡ 0)
 numbers = (refl, refl, refl, refl, refl)

@@ -1,4 +1,5 @@
 -- States on the way. In order: the first; an item at fault; one item on, whatever it is; an item that is no tag; a tag; an end tag.
+use Rattle.std.specs.Prelude.{Ok, Err}
 use Rattle.document.proofs.Placing.{Unstarted, Unfinished}
 use mathlib.Core.Path.{◌≡◌, refl, sym, ap, ◌∙◌}
 use mathlib.Core.Bool.{Bool, true, false}
@@ -17,7 +18,7 @@ use Rattle.document.specs.Judge.{start_of, onward, scan_from, scanned}
 use Rattle.document.specs.declared.Placement.{Placement}
 use Rattle.document.specs.declared.Placement.TheVariants.{Fine, Fault as Faulty, Over}
 use Rattle.document.specs.declared.Why.{Why}
-use Rattle.document.specs.declared.judge.Judged.TheVariants.{Sound, AtFault}
+use Rattle.document.specs.declared.DocumentError.TheVariants.{At}
 use Rattle.trees.specs.Cut.{Judge}
 use Rattle.trees.specs.Grown.{Token, part, item_tokens, tokens_from, tokens_of}
 use Rattle.trees.specs.Engine.{Engine, engine, begun, on_finish, on_aside, run as runs}
@@ -81,13 +82,13 @@ module _ {list d starts lens o₀ : List ℕ} {level : ℕ} {rooted kept : Bool}
       (sym (tokens_turn left.0 d at first e) ∙ ap (λ (k : ℕ). tokens_from k d at first) (sym left.1))
       ∙ v.makes
 
-  pub going_fault : (why : Why) → placement d at i s ≡ Faulty why → AtFault why at ≡ scanned d
+  pub going_fault : (why : Why) → placement d at i s ≡ Faulty why → Err (At why at) ≡ scanned d
   going_fault why h =
       sym (ap (λ (p : Placement). onward p at (scan_from left.0 d (end_of at i) false (after_item d at i s))) h) ∙ turned
 
   -- the items are over: the document is sound, and the engine has written its cut
   module _ (h : placement d at i s ≡ Over) where
-    pub going_sound : Sound ≡ scanned d
+    pub going_sound : Ok tt ≡ scanned d
     going_sound =
         sym (ap (λ (p : Placement). onward p at (scan_from left.0 d (end_of at i) false (after_item d at i s))) h) ∙ turned
 

@@ -10,6 +10,7 @@ use native.Mathlib.Omega.{arith}
 use borrow.Author.Tests.{ne_eqb}
 use lib.ListN.{length, take, drop, get_or, set, length-set, replicate, length-replicate, length-append}
 use lib.Seq.{get_or-set_same, get_or-set_other}
+use Rattle.std.specs.Prelude.{Option as Maybe, None, Some, Ok}
 use Rattle.xml.specs.Notation.{bytes}
 use Rattle.utf8.proofs.Place.{drop_end}
 use Rattle.paths.specs.Path.{Test, any, named, Step, AttributeTest, Path, print_kind, print_test, print_step, print_mark, print_line}
@@ -17,12 +18,9 @@ use Rattle.paths.specs.Path.{test_size, ProperTest}
 use Rattle.paths.specs.Reader.{Run, cons, step_at, steps, Ending, ending_of, print_end, end_at, path_of}
 use Rattle.paths.specs.Judge.{lines, list_answer, list_paths}
 use Rattle.paths.specs.Place.{step_placed, step_end_at, ended, line_end_at}
-use Rattle.paths.specs.declared.ListAnswer.TheVariants.{Sound}
 use Rattle.paths.specs.declared.LineEnd.{LineEnd}
-use Rattle.paths.specs.declared.LineEnd.TheVariants.{Ends as LineEnds, Fault as NoEnd}
 use Rattle.paths.specs.declared.Kind.{Kind}
-use Rattle.paths.specs.declared.StepEnd.{StepEnd}
-use Rattle.paths.specs.declared.StepEnd.TheVariants.{Step as StepTo, Fault as NoStep}
+use Rattle.paths.specs.declared.Step.{Step as PlacedStep}
 use Rattle.paths.proofs.Names.{name_long}
 use Rattle.paths.proofs.Print.{read_inside}
 use Rattle.paths.proofs.Steps.{step_undoes, step_long, steps_none}
@@ -46,35 +44,35 @@ use Rattle.descent.proofs.Places.{names_long, at_level, can_step}
 
 -- ---- a step that is read
 
-module _ {d : List ℕ} {at : ℕ} {k : Kind} {name len end : ℕ} (h : StepHere d at k name len end) where
-  pub passes_here : (n : List ℕ) → passes_by d name len n ≡ passes_name h.step n
+module _ {d : List ℕ} {at : ℕ} {y : PlacedStep} (h : StepHere d at y) where
+  pub passes_here : (n : List ℕ) → passes_by d y.name y.len n ≡ passes_name h.step n
   passes_here n = go h.step.test refl h.proper.test
     where
-      go : (x : Test) → h.step.test ≡ x → ProperTest x → passes_by d name len n ≡ passes n h.step.test
-      go any e p = let z : len ≡ 0 = h.size ∙ ap test_size e in rw (z, e)
+      go : (x : Test) → h.step.test ≡ x → ProperTest x → passes_by d y.name y.len n ≡ passes n h.step.test
+      go any e p = let z : y.len ≡ 0 = h.size ∙ ap test_size e in rw (z, e)
       go (named m) e p =
-          let z : len ≡ length m = h.size ∙ ap test_size e in
+          let z : y.len ≡ length m = h.size ∙ ap test_size e in
           let l = name_long m p.name in
-          let y : len ≡ 0 → ⊥ = λ q. omega arith in
-          rw (ne_eqb len 0 y, h.bytes m e, e)
+          let u : y.len ≡ 0 → ⊥ = λ q. omega arith in
+          rw (ne_eqb y.len 0 u, h.bytes m e, e)
 
 -- its name is inside the list
-pub step_name : (d : List ℕ) (at : ℕ) {r : StepEnd} → r ≡ step_end_at d at → {k : Kind} {name len end : ℕ} → r ≡ StepTo k name len end
-    → name + len ≤ length d
+pub step_name : (d : List ℕ) (at : ℕ) {r : Maybe PlacedStep} → r ≡ step_end_at d at → {y : PlacedStep} → r ≡ Some y
+    → y.name + y.len ≤ length d
 unfolding step_end_at print_step
-step_name d at q {k} {name} {len} {end} f = go (step_at (drop at d)) refl (sym f ∙ q)
+step_name d at q {y} f = go (step_at (drop at d)) refl (sym f ∙ q)
   where
     size : (x : Test) → test_size x ≤ length (print_test x)
     size any = omega arith
     size (named m) = omega arith
 
-    go : (o : Option Step) → step_at (drop at d) ≡ o → StepTo k name len end ≡ step_placed at o → name + len ≤ length d
+    go : (o : Option Step) → step_at (drop at d) ≡ o → Some y ≡ step_placed at o → y.name + y.len ≤ length d
     go none e z = absurd (let z : ◌≡◌ {A = ℕ} 0 1 = cc in omega arith)
     go (some x) e z =
-        let a : name ≡ at + length (print_kind x.kind) = cc in
-        let b : len ≡ test_size x.test = cc in
+        let a : y.name ≡ at + length (print_kind x.kind) = cc in
+        let b : y.len ≡ test_size x.test = cc in
         let i = read_inside step_undoes step_long d at e in
-        let y = size x.test in
+        let u = size x.test in
         let w = length-append (print_kind x.kind) (print_test x.test) in
         omega arith
 
@@ -132,36 +130,36 @@ module _ {list d starts lens : List ℕ} {level from : ℕ} where
     pub walk_places : length can ≡ 65
     walk_places = w.places.long
 
-    module _ {r : StepEnd} (q : r ≡ step_end_at list i) where
-      module _ {k : Kind} {name len end : ℕ} (f : r ≡ StepTo k name len end) where
-        here : StepHere list i k name len end
+    module _ {r : Maybe PlacedStep} (q : r ≡ step_end_at list i) where
+      module _ {y : PlacedStep} (f : r ≡ Some y) where
+        here : StepHere list i y
         here = step_here list i q f
 
-        pub walk_less : length list - end < length list - i
+        pub walk_less : length list - y.end < length list - i
         walk_less = omega (arith, here.on, here.inside)
 
-        pub walk_name : name + len ≤ length list
+        pub walk_name : y.name + y.len ≤ length list
         walk_name = step_name list i q f
 
-        pub walk_on : {can' : List Bool} → Stepped k (passes_by list name len) (name_at d starts lens) level can can'
-            → Walking list d starts lens level from end can'
+        pub walk_on : {can' : List Bool} → Stepped y.kind (passes_by list y.name y.len) (name_at d starts lens) level can can'
+            → Walking list d starts lens level from y.end can'
         walk_on {can'} t =
             record {
               done = w.done ++ here.step ∷ [];
               every =
                   w.every
                   ∙ ap (λ (y : Run Step). w.done ++ y.all) here.runs
-                  ∙ sym (append_assoc w.done (here.step ∷ []) (steps (drop end list)).all);
+                  ∙ sym (append_assoc w.done (here.step ∷ []) (steps (drop y.end list)).all);
               left = sym (ap (λ (y : Run Step). y.rest) here.runs) ∙ w.left;
               places =
                   can_step (root_first (names_of d starts lens level)) level (name_at d starts lens) (at_level d starts lens level)
-                  w.done here.step (passes_by list name len) (passes_here here) w.places
-                  (subst (λ (y : Kind). Stepped y (passes_by list name len) (name_at d starts lens) level can can') here.kind t);
+                  w.done here.step (passes_by list y.name y.len) (passes_here here) w.places
+                  (subst (λ (k : Kind). Stepped k (passes_by list y.name y.len) (name_at d starts lens) level can can') here.kind t);
               begun = omega (arith, w.begun, here.on);
               inside = here.inside;
             }
 
-      pub walk_end : r ≡ NoStep → {b : Bool} → b ≡ get_or can level false
+      pub walk_end : r ≡ None → {b : Bool} → b ≡ get_or can level false
           → LineIs list from (root_first (names_of d starts lens level)) b i
       walk_end f {b} e =
           let n = steps_none (drop i list) (step_none list i q f) in
@@ -208,7 +206,7 @@ pub record Saying (list : List ℕ) (names : List (List ℕ)) (xs : List Attribu
   pub rest_is : (lines (drop at list)).rest ≡ []
   pub inside : at ≤ length list
 
-pub say_start : {list : List ℕ} {names : List (List ℕ)} {xs : List Attribute} → list_answer list ≡ Sound
+pub say_start : {list : List ℕ} {names : List (List ℕ)} {xs : List Attribute} → list_answer list ≡ Ok tt
     → Saying list names xs 0 false false
 say_start {list} {names} {xs} e =
     let q = sound_lines list e in
@@ -237,73 +235,74 @@ module _ {list : List ℕ} {names : List (List ℕ)} {xs : List Attribute} {at :
     ends : end_at (drop end list) ≡ some (ending_of line.path)
     ends = ap end_at (sym w.rest_is) ∙ line.has_end
 
-    module _ {r : LineEnd} (q : r ≡ line_end_at list end) where
+    module _ {r : Maybe LineEnd} (q : r ≡ line_end_at list end) where
       -- a sound list has no such line
-      pub say_fault : r ≡ NoEnd → {w : Verdict} → w ≡ verdict_of (list_paths list) names xs
+      pub say_fault : r ≡ None → {w : Verdict} → w ≡ verdict_of (list_paths list) names xs
       say_fault f = absurd (none-ne-some _ (sym (end_none list end q f) ∙ ends))
 
-      module _ {name len value size : ℕ} {m : Bool} {next : ℕ} (g : r ≡ LineEnds name len value size m next) where
-        here_ends : EndHere list end name len value size m next
+      module _ {y : LineEnd} (g : r ≡ Some y) where
+        here_ends : EndHere list end y
         here_ends = end_here list end q g
 
         ending_is : here_ends.ending ≡ ending_of line.path
         ending_is = some-injective _ _ (sym here_ends.found ∙ ends)
 
-        bounds : (name + len ≤ next) × (value + size ≤ next)
+        bounds : (y.name + y.len ≤ y.next) × (y.value + y.size ≤ y.next)
         bounds = go here_ends.ending.test here_ends.ending.marked here_ends.placed here_ends.ends
           where
-            go : (x : Option AttributeTest) (y : Bool)
-                → LineEnds name len value size m next ≡ ended end x y (end + length (print_end (record { test = x; marked = y })))
-                → next ≡ end + length (print_end (record { test = x; marked = y })) → (name + len ≤ next) × (value + size ≤ next)
-            go none y z e =
-                let a : name ≡ 0 = cc in
-                let b : len ≡ 0 = cc in
-                let c : value ≡ 0 = cc in
-                let s : size ≡ 0 = cc in
+            go : (x : Option AttributeTest) (m : Bool)
+                → Some y ≡ Some (ended end x m (end + length (print_end (record { test = x; marked = m }))))
+                → y.next ≡ end + length (print_end (record { test = x; marked = m }))
+                → (y.name + y.len ≤ y.next) × (y.value + y.size ≤ y.next)
+            go none m z e =
+                let a : y.name ≡ 0 = cc in
+                let b : y.len ≡ 0 = cc in
+                let c : y.value ≡ 0 = cc in
+                let s : y.size ≡ 0 = cc in
                 (omega arith, omega arith)
-            go (some x) y z e =
-                let a : name ≡ end + 2 = cc in
-                let b : len ≡ length x.name = cc in
-                let c : value ≡ end + 2 + length x.name + 2 = cc in
-                let s : size ≡ length x.value = cc in
-                let t : length (print_end (record { test = some x; marked = y }))
-                ≡ 2 + (length x.name + (2 + (length x.value + 2))) + length (print_mark y ++ bytes "\n") =
+            go (some x) m z e =
+                let a : y.name ≡ end + 2 = cc in
+                let b : y.len ≡ length x.name = cc in
+                let c : y.value ≡ end + 2 + length x.name + 2 = cc in
+                let s : y.size ≡ length x.value = cc in
+                let t : length (print_end (record { test = some x; marked = m }))
+                ≡ 2 + (length x.name + (2 + (length x.value + 2))) + length (print_mark m ++ bytes "\n") =
                 simp length-append (omega arith) in
                 (omega arith, omega arith)
 
-        pub say_name : name + len ≤ length list
+        pub say_name : y.name + y.len ≤ length list
         say_name = omega (arith, bounds.0, here_ends.inside)
 
-        pub say_value : value + size ≤ length list
+        pub say_value : y.value + y.size ≤ length list
         say_value = omega (arith, bounds.1, here_ends.inside)
 
-        pub say_less : length list - next < length list - at
+        pub say_less : length list - y.next < length list - at
         say_less = omega (arith, here_ends.on, here_ends.inside, w.begun)
 
-        test_is : passes_test_by list name len value size xs ≡ passes_test line.path.test xs
+        test_is : passes_test_by list y.name y.len y.value y.size xs ≡ passes_test line.path.test xs
         test_is =
             go here_ends.ending.test refl
             ∙ ap (λ (y : Ending). passes_test y.test xs) ending_is
           where
             go : (x : Option AttributeTest) → here_ends.ending.test ≡ x
-                → passes_test_by list name len value size xs ≡ passes_test here_ends.ending.test xs
+                → passes_test_by list y.name y.len y.value y.size xs ≡ passes_test here_ends.ending.test xs
             go none e = rw (e, here_ends.untested e)
             go (some x) e =
                 let t = here_ends.tested x e in
-                let y : len ≡ 0 → ⊥ = λ z. omega (arith, t.some) in
-                rw (ne_eqb len 0 y, t.named, t.valued, e)
+                let u : y.len ≡ 0 → ⊥ = λ z. omega (arith, t.some) in
+                rw (ne_eqb y.len 0 u, t.named, t.valued, e)
 
-        next_is : next ≡ at + length (print_line line.path)
+        next_is : y.next ≡ at + length (print_line line.path)
         next_is =
             here_ends.ends
             ∙ ap (λ (y : Ending). end + length (print_end y)) ending_is
             ∙ sym (line_ends list at end (ending_of line.path) w.begun w.inside w.rest_is)
             ∙ ap (λ (ss : List Step). at + length (print_line (path_of ss (ending_of line.path)))) line.has_steps
 
-        runs : lines (drop at list) ≡ cons line.path (lines (drop next list))
+        runs : lines (drop at list) ≡ cons line.path (lines (drop y.next list))
         runs = line.runs ∙ ap (λ (k : ℕ). cons line.path (lines (drop k list))) (sym next_is)
 
-        module _ {t : Bool} (et : t ≡ passes_test_by list name len value size xs) where
+        module _ {t : Bool} (et : t ≡ passes_test_by list y.name y.len y.value y.size xs) where
           picks_is : sel && t ≡ picks line.path names xs
           picks_is =
               and_comm sel t
@@ -311,23 +310,23 @@ module _ {list : List ℕ} {names : List (List ℕ)} {xs : List Attribute} {at :
               ∙ ap (λ (b : Bool). passes_test line.path.test xs && b)
               (w.selects_is ∙ ap (λ (ss : List Step). selects ss names) line.has_steps)
 
-          mark_is : (sel && t) && m ≡ line.path.marked && picks line.path names xs
+          mark_is : (sel && t) && y.marked ≡ line.path.marked && picks line.path names xs
           mark_is =
-              and_comm (sel && t) m
+              and_comm (sel && t) y.marked
               ∙ ap (λ (b : Bool). b && (sel && t)) (here_ends.mark ∙ ap (λ (y : Ending). y.marked) ending_is)
               ∙ ap (λ (b : Bool). line.path.marked && b) picks_is
 
-          pub say_more : Saying list names xs next (selected || (sel && t)) (marked || ((sel && t) && m))
+          pub say_more : Saying list names xs y.next (selected || (sel && t)) (marked || ((sel && t) && y.marked))
           say_more =
               record {
                 any_is =
                     or_assoc selected (sel && t) _
-                    ∙ ap (λ (b : Bool). selected || (b || some_of (λ p. picks p names xs) (lines (drop next list)).all)) picks_is
+                    ∙ ap (λ (b : Bool). selected || (b || some_of (λ p. picks p names xs) (lines (drop y.next list)).all)) picks_is
                     ∙ ap (λ (r : Run Path). selected || some_of (λ p. picks p names xs) r.all) (sym runs)
                     ∙ v.any_is;
                 marked_is =
-                    or_assoc marked ((sel && t) && m) _
-                    ∙ ap (λ (b : Bool). marked || (b || some_of (λ p. p.marked && picks p names xs) (lines (drop next list)).all)) mark_is
+                    or_assoc marked ((sel && t) && y.marked) _
+                    ∙ ap (λ (b : Bool). marked || (b || some_of (λ p. p.marked && picks p names xs) (lines (drop y.next list)).all)) mark_is
                     ∙ ap (λ (r : Run Path). marked || some_of (λ p. p.marked && picks p names xs) r.all) (sym runs)
                     ∙ v.marked_is;
                 rest_is = sym (ap (λ (r : Run Path). r.rest) runs) ∙ v.rest_is;

@@ -2,14 +2,15 @@
 -- contracts of `cutter::cut` and of `cut` here allow, on the same list, document and buffer, is the same but for the number of name tests:
 -- the three other numbers are equal, and every byte of the buffer is. Both are over the contracts that the toolchain makes of the source.
 use mathlib.Core.Path.{◌≡◌, refl, sym, ap, ◌∙◌}
+use Rattle.std.specs.Prelude.{Result, Ok, Err}
 use Rattle.contracts.specs.One.{OneOutcome}
 use Rattle.cutter.specs.Answer as full_answer
-use Rattle.cutter.specs.declared.Answer.{Answer as Full}
-use Rattle.cutter.specs.declared.Answer.TheVariants as full
+use Rattle.cutter.specs.declared.answer.Cut.{Cut as Full}
+use Rattle.refusals.specs.declared.CutError.{CutError}
 use Rattle.cutter.proofs.cut.Reads as full_cut
 use Rattle.descent.specs.Agree.{Agree}
 use Rattle.descent.specs.Answer.{without, number_of, second_of, third_of}
-use Rattle.descent.specs.declared.Answer.{Answer}
+use Rattle.descent.specs.declared.answer.Cut.{Cut}
 use Rattle.descent.proofs.cut.Reads as cut
 
 pub cut_one : OneOutcome cut.Asked cut.Learnt (λ κs e. e.1.1.0.now)
@@ -22,47 +23,20 @@ pub cut_agree : Agree full_cut.Asked full_cut.Learnt cut.Asked cut.Learnt (λ κ
     (λ κs e. e.1.1.0.now)
 cut_agree κs a z z' e e' x x' p q = (q.0 ∙ sym (ap without p.0), p.1 ∙ sym q.1)
 
-number_same : (a : Full) → number_of (without a) ≡ full_answer.number_of a
-number_same (full.Written n c t) = refl
-number_same full.ListTooLong = refl
-number_same (full.ListMalformed n) = refl
-number_same (full.ListTooLarge n) = refl
-number_same full.TooLong = refl
-number_same (full.OtherEncoding n) = refl
-number_same (full.NotChar n) = refl
-number_same (full.Doctype n) = refl
-number_same (full.Malformed n) = refl
-number_same (full.TooLarge n) = refl
-number_same (full.Short n) = refl
+number_same : (a : Result Full CutError) → number_of (without a) ≡ full_answer.number_of a
+number_same (Ok c) = refl
+number_same (Err e) = refl
 
-second_same : (a : Full) → second_of (without a) ≡ full_answer.second_of a
-second_same (full.Written n c t) = refl
-second_same full.ListTooLong = refl
-second_same (full.ListMalformed n) = refl
-second_same (full.ListTooLarge n) = refl
-second_same full.TooLong = refl
-second_same (full.OtherEncoding n) = refl
-second_same (full.NotChar n) = refl
-second_same (full.Doctype n) = refl
-second_same (full.Malformed n) = refl
-second_same (full.TooLarge n) = refl
-second_same (full.Short n) = refl
+second_same : (a : Result Full CutError) → second_of (without a) ≡ full_answer.second_of a
+second_same (Ok c) = refl
+second_same (Err e) = refl
 
-third_same : (a : Full) → third_of (without a) ≡ full_answer.third_of a
-third_same (full.Written n c t) = refl
-third_same full.ListTooLong = refl
-third_same (full.ListMalformed n) = refl
-third_same (full.ListTooLarge n) = refl
-third_same full.TooLong = refl
-third_same (full.OtherEncoding n) = refl
-third_same (full.NotChar n) = refl
-third_same (full.Doctype n) = refl
-third_same (full.Malformed n) = refl
-third_same (full.TooLarge n) = refl
-third_same (full.Short n) = refl
+third_same : (a : Result Full CutError) → third_of (without a) ≡ full_answer.third_of a
+third_same (Ok c) = refl
+third_same (Err e) = refl
 
 -- the numbers, less the fourth
-abbrev pub Alike : Full → Answer → Type 0
+abbrev pub Alike : Result Full CutError → Result Cut CutError → Type 0
 Alike z z' =
     (number_of z' ≡ full_answer.number_of z) × (second_of z' ≡ full_answer.second_of z) × (third_of z' ≡ full_answer.third_of z)
 

@@ -1,5 +1,7 @@
 -- The loop of `content`: a law for each way on and each way out. The invariant: the state now is safe, and where the state at the beginning
 -- was on the way, it is.
+use Rattle.std.specs.Prelude.{Result, Ok, Err}
+use Rattle.document.specs.declared.ItemError.{ItemError}
 use Rattle.document.proofs.Placing.{Unstarted, Unfinished}
 use mathlib.Core.Path.{◌≡◌, refl, sym, ◌∙◌, subst}
 use mathlib.Core.Bool.{Bool, true, false}
@@ -26,8 +28,7 @@ use Rattle.descent.specs.Ink.{Moves, Ready}
 use Rattle.descent.specs.Tree.{Safe, Going, closed, over, ElementEnds, ElementIs, ContentIs}
 use Rattle.descent.specs.declared.ink.Run.{Run}
 use Rattle.descent.specs.declared.ink.Tag.{Tag}
-use Rattle.descent.specs.declared.tree.Read.{Read}
-use Rattle.descent.specs.declared.tree.Read.TheVariants.{Ends, Fault}
+use Rattle.descent.specs.declared.tree.End.{End}
 use Rattle.descent.proofs.Going.{going_fault, going_aside}
 
 pub record Reading (list d starts lens : List ℕ) (level : ℕ) (kept rooted₀ : Bool) (at₀ : ℕ) (first₀ : Bool) (r₀ : Run) (o₀ : List ℕ)
@@ -63,11 +64,13 @@ module _ {list d starts lens : List ℕ} {level : ℕ} {kept rooted₀ : Bool} {
       -- ---- out
 
       pub read_fault : (why : Why) → p ≡ Faulty why
-          → ContentIs list d starts lens (record { level = record { 0 = level }; rooted = rooted₀ }) kept at₀ first₀ r₀ o₀ (Fault why at) o
+          → ContentIs list d starts lens (record { level = record { 0 = level }; rooted = rooted₀ }) kept at₀ first₀ r₀ o₀
+          (Err (record { why = why; at = at })) o
       read_fault why h b g = going_fault (v.goes b g) e why (sym q ∙ h)
 
       pub read_over : p ≡ Over
-          → ContentIs list d starts lens (record { level = record { 0 = level }; rooted = rooted₀ }) kept at₀ first₀ r₀ o₀ (Ends at at r) o
+          → ContentIs list d starts lens (record { level = record { 0 = level }; rooted = rooted₀ }) kept at₀ first₀ r₀ o₀
+          (Ok (record { at = at; end = at; run = r })) o
       read_over h =
           record {
             ahead = v.ahead;
@@ -87,7 +90,7 @@ module _ {list d starts lens : List ℕ} {level : ℕ} {kept rooted₀ : Bool} {
 
         pub read_finish : {n end : ℕ} → i ≡ Finish n end
             → ContentIs list d starts lens (record { level = record { 0 = level }; rooted = rooted₀ }) kept at₀ first₀ r₀ o₀
-            (Ends at end r) o
+            (Ok (record { at = at; end = end; run = r })) o
         read_finish {n} {end} f =
             record {
               ahead = v.ahead;
@@ -167,19 +170,19 @@ module _ {list d starts lens : List ℕ} {level : ℕ} {kept rooted₀ : Bool} {
           tag = record { at = at; name = n; head = b; end = f }
 
           -- what the element came to, x
-          module _ (x : Read) (o' : List ℕ) (w : ElementIs list d starts lens level kept tag m r o x o') where
-            pub read_inner_fault : {why : Why} {z : ℕ} → x ≡ Fault why z
+          module _ (x : Result End ItemError) (o' : List ℕ) (w : ElementIs list d starts lens level kept tag m r o x o') where
+            pub read_inner_fault : {f : ItemError} → x ≡ Err f
                 → ContentIs list d starts lens (record { level = record { 0 = level }; rooted = rooted₀ }) kept at₀ first₀ r₀ o₀
-                (Fault why z) o'
-            read_inner_fault {why} {z} g c k =
-                let u = subst (λ (y : Read). ElementIs list d starts lens level kept tag m r o y o') g w in
+                (Err f) o'
+            read_inner_fault {f} g c k =
+                let u = subst (λ (y : Result End ItemError). ElementIs list d starts lens level kept tag m r o y o') g w in
                 u c first rooted t (sym s ∙ e) (rw s at (sym q ∙ h)) (v.goes c k)
 
-            module _ {z end : ℕ} {r' : Run} (g : x ≡ Ends z end r') where
-              ended : ElementEnds list d starts lens level kept tag m r o end r' o'
-              ended = subst (λ (y : Read). ElementIs list d starts lens level kept tag m r o y o') g w
+            module _ {z : End} (g : x ≡ Ok z) where
+              ended : ElementEnds list d starts lens level kept tag m r o z.end z.run o'
+              ended = subst (λ (y : Result End ItemError). ElementIs list d starts lens level kept tag m r o y o') g w
 
-              pub read_element : Reading list d starts lens level kept rooted₀ at₀ first₀ r₀ o₀ true end false r' o'
+              pub read_element : Reading list d starts lens level kept rooted₀ at₀ first₀ r₀ o₀ true z.end false z.run o'
               read_element =
                   let u = ended in
                   record {
@@ -191,7 +194,7 @@ module _ {list d starts lens : List ℕ} {level : ℕ} {kept rooted₀ : Bool} {
                     goes = λ c k. u.goes c first rooted t (sym s ∙ e) (rw s at (sym q ∙ h)) (v.goes c k);
                   }
 
-              pub read_shorter : length d - end < length d - at
+              pub read_shorter : length d - z.end < length d - at
               read_shorter = let u = ended in omega (arith, u.ahead, u.safe.within)
 
 pub ruleset reading = (

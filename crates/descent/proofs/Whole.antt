@@ -6,14 +6,15 @@ use Prim.Native.Nat.{ℕ, ◌≤◌}
 use native.Mathlib.Omega.{arith}
 use lib.ListN.{length, replicate, length-replicate}
 use lib.Seq.{sets}
+use Rattle.std.specs.Prelude.{Result, Ok, Err}
 use Rattle.document.specs.Judge.{start_of}
 use Rattle.document.specs.declared.Open.{Open}
+use Rattle.document.specs.declared.ItemError.{ItemError}
 use Rattle.document.proofs.Judging.{judge_start}
 use Rattle.trees.specs.Engine.{Engine, out_of, num_of}
 use Rattle.descent.specs.Tree.{Safe, opening, Going, Stops, closed, over, ContentEnds, ContentIs, WholeEnds, WholeTold, WholeIs}
 use Rattle.descent.specs.declared.ink.Run.{Run}
-use Rattle.descent.specs.declared.tree.Read.{Read}
-use Rattle.descent.specs.declared.tree.Read.TheVariants.{Ends, Fault}
+use Rattle.descent.specs.declared.tree.End.{End}
 use Rattle.descent.proofs.Going.{going_start, going_sound, going_whole}
 
 abbrev outermost : Open
@@ -60,12 +61,13 @@ module _ (d : List ℕ) {opened : Open} {r : Run} {at : ℕ} (eo : opened ≡ re
               laid = g.stands.text.laid ∙ ap (λ (x : Engine). sets o 0 (out_of x)) z;
             }
 
-    pub whole_is : (x : Read) (o' : List ℕ) → ContentIs list d starts lens opened false at true r o x o' → WholeIs list d o x o'
+    pub whole_is : (x : Result End ItemError) (o' : List ℕ) → ContentIs list d starts lens opened false at true r o x o'
+        → WholeIs list d o x o'
     whole_is x o' w =
         record { told = go x (subst (λ (y : Open). ContentIs list d starts lens y false at true r o x o') eo w) }
       where
-        go : (x : Read) → ContentIs list d starts lens outermost false at true r o x o' → WholeTold list d o x o'
-        go (Ends at' end r') w = ended at' end r' o' w
-        go (Fault why p) w = w o (going_start list d o er ea starts lens)
+        go : (x : Result End ItemError) → ContentIs list d starts lens outermost false at true r o x o' → WholeTold list d o x o'
+        go (Ok e) w = ended e.at e.end e.run o' w
+        go (Err e) w = w o (going_start list d o er ea starts lens)
 
 pub ruleset wholes = (whole_safe, whole_is)

@@ -3,7 +3,7 @@
 -- element takes a state that is on the way before its tag to one that is on the way behind its end, whatever buffer there was at the
 -- beginning; and an item at fault is the one that the scan finds. In order: what the code needs to be safe; states on the way; where
 -- content stops; an element, and content; a whole document.
-use Rattle.std.specs.Prelude.{◌≡◌, Bool, true, false, List, ℕ, ◌-◌, ◌*◌, ◌≤◌, ◌<◌, length}
+use Rattle.std.specs.Prelude.{◌≡◌, Bool, true, false, List, ℕ, ◌-◌, ◌*◌, ◌≤◌, ◌<◌, length, Result, Ok, Err}
 use Rattle.std.proofs.lemmas.List.Edits.{sets}
 use Rattle.paths.specs.Judge.{list_paths}
 use Rattle.tags.specs.declared.Item.TheVariants.{Start, Finish}
@@ -13,7 +13,8 @@ use Rattle.document.specs.Levels.{names_of}
 use Rattle.document.specs.Judge.{scan_from, scanned}
 use Rattle.document.specs.declared.Open.{Open}
 use Rattle.document.specs.declared.Placement.TheVariants.{Fine, Over}
-use Rattle.document.specs.declared.judge.Judged.TheVariants.{Sound, AtFault}
+use Rattle.document.specs.declared.ItemError.{ItemError}
+use Rattle.document.specs.declared.DocumentError.TheVariants.{At}
 use Rattle.trees.specs.Grown.{tokens_from, tokens_of}
 use Rattle.trees.specs.Engine.{Engine, begun, run as runs}
 use Rattle.trees.specs.Written.{verdicts, cut_of, count_of}
@@ -21,8 +22,7 @@ use Rattle.output.specs.Levels.{Placed}
 use Rattle.descent.specs.Ink.{Stands}
 use Rattle.descent.specs.declared.ink.Run.{Run}
 use Rattle.descent.specs.declared.ink.Tag.{Tag}
-use Rattle.descent.specs.declared.tree.Read.{Read}
-use Rattle.descent.specs.declared.tree.Read.TheVariants.{Ends, Fault}
+use Rattle.descent.specs.declared.tree.End.{End}
 
 -- ---- what the code needs: the names are inside the document, the numbers far from 64 bits, and a kept entry is open in the input alone
 
@@ -68,14 +68,15 @@ pub record ElementEnds (list d starts lens : List ℕ) (level : ℕ) (kept : Boo
       → placement d tag.at (Start tag.name tag.head tag.end empty twice) (opening d starts lens level rooted) ≡ Fine
       → Going list d starts lens o₀ level rooted kept r tag.at first o → Going list d starts lens o₀ level true kept r' end false o'
 
-abbrev pub ElementIs : List ℕ → List ℕ → List ℕ → List ℕ → ℕ → Bool → Tag → Bool → Run → List ℕ → Read → List ℕ → Type 0
-ElementIs list d starts lens level kept tag empty r o (Ends at end r') o' =
-    ElementEnds list d starts lens level kept tag empty r o end r' o'
-ElementIs list d starts lens level kept tag empty r o (Fault why p) o' =
+abbrev pub ElementIs : List ℕ → List ℕ → List ℕ → List ℕ → ℕ → Bool → Tag → Bool → Run → List ℕ → Result End ItemError
+    → List ℕ → Type 0
+ElementIs list d starts lens level kept tag empty r o (Ok e) o' =
+    ElementEnds list d starts lens level kept tag empty r o e.end e.run o'
+ElementIs list d starts lens level kept tag empty r o (Err e) o' =
     (o₀ : List ℕ) (first rooted twice : Bool)
     → Start tag.name tag.head tag.end empty twice ≡ item_at first d tag.at
     → placement d tag.at (Start tag.name tag.head tag.end empty twice) (opening d starts lens level rooted) ≡ Fine
-    → Going list d starts lens o₀ level rooted kept r tag.at first o → AtFault why p ≡ scanned d
+    → Going list d starts lens o₀ level rooted kept r tag.at first o → Err (At e.why e.at) ≡ scanned d
 
 pub record ContentEnds (list d starts lens : List ℕ) (opened : Open) (kept : Bool) (at : ℕ) (first : Bool) (r : Run) (o : List ℕ)
     (at' end : ℕ) (r' : Run) (o' : List ℕ) : Type 0 where
@@ -90,23 +91,24 @@ pub record ContentEnds (list d starts lens : List ℕ) (opened : Open) (kept : B
   pub goes : (o₀ : List ℕ) → Going list d starts lens o₀ opened.level.0 opened.rooted kept r at first o
       → Going list d starts lens o₀ opened.level.0 rooted kept r' at' later o'
 
-abbrev pub ContentIs : List ℕ → List ℕ → List ℕ → List ℕ → Open → Bool → ℕ → Bool → Run → List ℕ → Read → List ℕ → Type 0
-ContentIs list d starts lens opened kept at first r o (Ends at' end r') o' =
-    ContentEnds list d starts lens opened kept at first r o at' end r' o'
-ContentIs list d starts lens opened kept at first r o (Fault why p) o' =
-    (o₀ : List ℕ) → Going list d starts lens o₀ opened.level.0 opened.rooted kept r at first o → AtFault why p ≡ scanned d
+abbrev pub ContentIs : List ℕ → List ℕ → List ℕ → List ℕ → Open → Bool → ℕ → Bool → Run → List ℕ → Result End ItemError
+    → List ℕ → Type 0
+ContentIs list d starts lens opened kept at first r o (Ok e) o' =
+    ContentEnds list d starts lens opened kept at first r o e.at e.end e.run o'
+ContentIs list d starts lens opened kept at first r o (Err e) o' =
+    (o₀ : List ℕ) → Going list d starts lens o₀ opened.level.0 opened.rooted kept r at first o → Err (At e.why e.at) ≡ scanned d
 
 -- ---- a whole document: it is sound, and its cut is laid into the buffer as far as that reaches; or the scan finds the fault
 
 pub record WholeEnds (list d o : List ℕ) (r : Run) (o' : List ℕ) : Type 0 where
-  pub sound : Sound ≡ scanned d
+  pub sound : Ok tt ≡ scanned d
   pub long : r.len ≡ length (cut_of list d)
   pub counted : r.count ≡ count_of list d
   pub laid : o' ≡ sets o 0 (cut_of list d)
 
-abbrev pub WholeTold : List ℕ → List ℕ → List ℕ → Read → List ℕ → Type 0
-WholeTold list d o (Ends at end r) o' = WholeEnds list d o r o'
-WholeTold list d o (Fault why p) o' = AtFault why p ≡ scanned d
+abbrev pub WholeTold : List ℕ → List ℕ → List ℕ → Result End ItemError → List ℕ → Type 0
+WholeTold list d o (Ok e) o' = WholeEnds list d o e.run o'
+WholeTold list d o (Err e) o' = Err (At e.why e.at) ≡ scanned d
 
-pub record WholeIs (list d o : List ℕ) (r : Read) (o' : List ℕ) : Type 0 where
+pub record WholeIs (list d o : List ℕ) (r : Result End ItemError) (o' : List ℕ) : Type 0 where
   pub told : WholeTold list d o r o'

@@ -76,12 +76,10 @@ fn open_chain(
     ensures upper_bound { result ≤ len + 1073741952 }
 {
     let mut len = len;
-    let mut k = lo;
-    while k < hi {
+    for k in lo..hi {
         let a = starts[k];
         let e = a + lens[k];
         len = start_tag(out, len, &doc[a..e]);
-        k += 1;
     }
     len
 }
@@ -115,7 +113,7 @@ pub fn start(
         (on_start (verdict_by verdict) (name_at doc.now starts.now lens.now level)
         (part doc.now tag.at tag.head) (part doc.now tag.at tag.end)) (level + 1)
         (kept || is_marked verdict) result out.new }
-    ensures reached { Reached kept verdict level run.reached.0 result.reached.0 }
+    ensures level_after { Reached kept verdict level run.reached.0 result.reached.0 }
 {
     let at = tag.at;
     let reached = run.reached.0;
@@ -182,7 +180,7 @@ pub fn finish(
         × (end ≤ length doc.now) × Placed doc.now starts.now lens.now (level + 1) }
     ensures moves { Moves doc.now starts.now lens.now (level + 1) kept run out.old
         (on_finish (part doc.now at end)) level (cond kept (ltb (run.reached.0 + 1) (level + 1)) false) result out.new }
-    ensures reached_value { kept ≡ true → result.reached.0 ≡ run.reached.0 }
+    ensures level_stays { kept ≡ true → result.reached.0 ≡ run.reached.0 }
 {
     let reached = run.reached.0;
     if kept {
@@ -209,10 +207,10 @@ pub fn finish(
 // An item that is no tag: "Everything else is dropped", but inside a kept entry it stays.
 pub fn aside(doc: &[u8], out: &mut [u8], kept: bool, at: usize, end: usize, run: Run) -> Run
     requires { Ready doc.now run × (at ≤ end) × (end ≤ length doc.now) }
-    ensures by_index { (starts lens : List ℕ) (level : ℕ) → run.reached.0 ≤ level
+    ensures moves { (starts lens : List ℕ) (level : ℕ) → run.reached.0 ≤ level
         → Moves doc.now starts lens level kept run out.old (on_aside (part doc.now at end)) level kept result
         out.new }
-    ensures reached_value { result.reached.0 ≡ run.reached.0 }
+    ensures level_stays { result.reached.0 ≡ run.reached.0 }
 {
     if kept {
         let len = raw(doc, out, run.len, at, end);

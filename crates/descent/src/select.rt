@@ -8,11 +8,9 @@
 //     /b                                    .   .   .   x        one place below one of these, and the name there is b
 //
 // The last step can have place 3, so the path selects this b.
-ghost use Rattle.std.specs.Prelude.{◌≡◌, ◌+◌, ◌≤◌, length};
+ghost use Rattle.std.specs.Prelude.{◌≡◌, ◌+◌, ◌≤◌, length, Ok};
 ghost use Rattle.tags.specs.Kept.{name_from};
-ghost use Rattle.points.specs.Class.{class_table};
 ghost use Rattle.paths.specs.Judge.{list_answer, list_paths};
-ghost use Rattle.paths.specs.declared.ListAnswer.TheVariants.{Sound};
 ghost use Rattle.attributes.specs.Held.{attributes_in};
 ghost use Rattle.matcher.specs.Says.{decided as decided_of, verdict_of};
 ghost use Rattle.document.specs.Levels.{names_of};
@@ -23,8 +21,8 @@ ghost use Rattle.descent.specs.Places.{may_stand, passes_by, name_at, Stepped, I
 use attribute::has::has;
 use chars::text::stands;
 use document::Open;
-use paths::{Kind, LineEnd, StepEnd, end_at, step_at};
-use points::table::Classes;
+use paths::{Kind, end_at, step_at};
+use points::class::Classes;
 
 // Not selected; selected; selected by a path that is marked.
 #[derive(Clone, Copy)]
@@ -94,14 +92,12 @@ fn step(
 {
     let mut right = can[0];
     let mut above = can[0];
-    let mut p: usize = 0;
-    while p < level {
+    for p in 0..level {
         let there = can[p + 1];
         let may = may_stand(kind, right, above, there);
         can[p + 1] = may & passes(list, test, len, doc, starts[p], lens[p]);
         right = there;
         above = above | there;
-        p += 1;
     }
     can[0] = false; // "place 0 is no element, so no step takes it"
 }
@@ -122,18 +118,16 @@ fn line_at(
     let mut can = [false; Line::PLACES];
     can[0] = true; // "before the first step is place 0"
     let mut i = at;
+    // Each turn goes on where the step ended, so the place is no count.
     loop {
         match step_at(list, i) {
-            StepEnd::Step {
-                kind,
-                name,
-                len,
-                end,
-            } => {
-                step(list, kind, name, len, doc, starts, lens, level, &mut can);
-                i = end;
+            Some(found) => {
+                step(
+                    list, found.kind, found.name, found.len, doc, starts, lens, level, &mut can,
+                );
+                i = found.end;
             }
-            StepEnd::Fault => {
+            None => {
                 return Line {
                     selects: can[level],
                     end: i,
@@ -154,7 +148,7 @@ fn passes_test(
     size: usize,
     tag: &[u8],
 ) -> bool
-    requires { (table.now ≡ class_table) × (name + len ≤ length list.now) × (value + size ≤ length list.now) }
+    requires { (name + len ≤ length list.now) × (value + size ≤ length list.now) }
     ensures { result ≡ passes_test_by list.now name len value size (attributes_in 0 tag.now) }
 {
     if len == 0 {
@@ -189,30 +183,25 @@ pub fn said_of(
     level: usize,
     tag: &[u8],
 ) -> Verdict
-    requires { (table.now ≡ class_table) × (list_answer list.now ≡ Sound) × Inside doc.now starts.now lens.now level }
+    requires { (list_answer list.now ≡ Ok tt) × Inside doc.now starts.now lens.now level }
     ensures { verdict_by result ≡ verdict_of (list_paths list.now)
         (root_first (names_of doc.now starts.now lens.now level)) (attributes_in 0 tag.now) }
 {
     let mut at: usize = 0;
     let mut selected = false;
     let mut marked = false;
+    // Each turn goes on where the line ended, so the place is no count.
     while at < list.len() {
         let line = line_at(list, at, doc, starts, lens, level);
         match end_at(list, line.end) {
-            LineEnd::Ends {
-                name,
-                len,
-                value,
-                size,
-                marked: mark,
-                next,
-            } => {
-                let picks = line.selects & passes_test(table, list, name, len, value, size, tag);
+            Some(end) => {
+                let tested = passes_test(table, list, end.name, end.len, end.value, end.size, tag);
+                let picks = line.selects & tested;
                 selected = selected | picks;
-                marked = marked | (picks & mark);
-                at = next;
+                marked = marked | (picks & end.marked);
+                at = end.next;
             }
-            LineEnd::Fault => {
+            None => {
                 return decided(marked, selected);
             }
         }

@@ -9,10 +9,8 @@
 //                                                                  finish </p> <--- item </p>
 //                                finish </g> <--- item </g>  <----
 //        no item is left  <-----
-ghost use Rattle.std.specs.Prelude.{◌≡◌, ◌+◌, ◌≤◌, ◌<◌, length};
-ghost use Rattle.points.specs.Class.{class_table};
+ghost use Rattle.std.specs.Prelude.{◌≡◌, ◌+◌, ◌≤◌, ◌<◌, length, Ok};
 ghost use Rattle.paths.specs.Judge.{list_answer};
-ghost use Rattle.paths.specs.declared.ListAnswer.TheVariants.{Sound};
 ghost use Rattle.descent.specs.Ink.{is_marked};
 ghost use Rattle.descent.specs.Tree.{Safe, ElementIs, ContentIs, WholeIs};
 
@@ -20,16 +18,17 @@ use crate::ink::{Run, Tag, aside, finish, start};
 use crate::select::{Verdict, said_of};
 use document::judge::start_of;
 use document::place::{end_of, place};
-use document::{InputLevel, Open, Placement, Why};
+use document::{InputLevel, ItemError, Open, Placement};
 use items::told::item;
-use points::table::Classes;
+use points::class::Classes;
 use tags::Item;
 
-// What reading came to: an end, from a place to its end, with what is written before it; or the item at fault.
+// What reading came to where no item is at fault: an end, from a place to its end, with what is written before it.
 #[derive(Drop)]
-pub enum Read {
-    Ends { at: usize, end: usize, run: Run },
-    Fault(Why, usize),
+pub struct End {
+    pub at: usize,
+    pub end: usize,
+    pub run: Run,
 }
 
 // Whether an element is a kept entry.
@@ -58,8 +57,8 @@ fn element(
     tag: Tag,
     empty: bool,
     run: Run,
-) -> Read
-    requires { (table.now ≡ class_table) × (list_answer list.now ≡ Sound) × (level < 64)
+) -> Result<End, ItemError>
+    requires { (list_answer list.now ≡ Ok tt) × (level < 64)
         × Safe doc.now starts.now lens.now level kept run tag.at × (tag.at + 1 + tag.name ≤ tag.head) × (tag.head < tag.end)
         × (tag.end ≤ length doc.now) }
     ensures { ElementIs list.now doc.now starts.now lens.now level kept tag empty run
@@ -82,24 +81,27 @@ fn element(
     // "an empty tag is its own end"
     if empty {
         let run = finish(doc, &own, &sizes, out, level, inside, end, end, begun);
-        return Read::Ends { at: end, end, run };
+        return Ok(End { at: end, end, run });
     }
     // "the kept children": its content, one level deeper
     let opened = Open {
         level: InputLevel(level + 1),
         rooted: true,
     };
-    match content(
+    let read = content(
         table, list, doc, &own, &sizes, out, opened, inside, end, false, begun,
-    ) {
-        // "The first item at fault decides": nothing after it is read
-        Read::Fault(why, o) => Read::Fault(why, o),
-        // then its end tag
-        Read::Ends { at, end, run } => {
-            let run = finish(doc, &own, &sizes, out, level, inside, at, end, run);
-            Read::Ends { at, end, run }
-        }
-    }
+    );
+    // "The first item at fault decides": nothing after it is read
+    let inner = read?;
+    // then its end tag
+    let run = finish(
+        doc, &own, &sizes, out, level, inside, inner.at, inner.end, inner.run,
+    );
+    Ok(End {
+        at: inner.at,
+        end: inner.end,
+        run,
+    })
 }
 
 // What stands from a place on inside the elements that are open, up to the end tag of the innermost; outside the root, up to the end of the
@@ -117,8 +119,8 @@ fn content(
     at: usize,
     first: bool,
     run: Run,
-) -> Read
-    requires { (table.now ≡ class_table) × (list_answer list.now ≡ Sound)
+) -> Result<End, ItemError>
+    requires { (list_answer list.now ≡ Ok tt)
         × Safe doc.now starts.now lens.now opened.level.0 kept run at }
     ensures { ContentIs list.now doc.now starts.now lens.now opened kept at first run
         out.old result out.new }
@@ -128,6 +130,7 @@ fn content(
     let mut at = at;
     let mut first = first;
     let mut run = run;
+    // Each turn goes on where the item or the element ended, so the place is no count.
     loop {
         let next = item(table, doc, at, first);
         let here = Open {
@@ -137,18 +140,18 @@ fn content(
         match place(doc, starts, lens, here, at, next) {
             // "An item is at fault in this order"; "The first item at fault decides"
             Placement::Fault(why) => {
-                return Read::Fault(why, at);
+                return Err(ItemError { why, at });
             }
             // the items have run out, with a root and no element open
             Placement::Over => {
-                return Read::Ends { at, end: at, run };
+                return Ok(End { at, end: at, run });
             }
             Placement::Fine => {
                 // "as first item only": a declaration may stand at the front alone
                 first = false;
                 // "End tags match": this is the end tag of the element that reads this content
                 if let Item::Finish { name: _, end } = next {
-                    return Read::Ends { at, end, run };
+                    return Ok(End { at, end, run });
                 }
                 // an element inside: it is read to its end, and content goes on behind it
                 if let Item::Start {
@@ -165,23 +168,13 @@ fn content(
                         head,
                         end,
                     };
-                    match element(
+                    let inner = element(
                         table, list, doc, starts, lens, out, level, kept, tag, empty, run,
-                    ) {
-                        Read::Fault(why, o) => {
-                            return Read::Fault(why, o);
-                        }
-                        Read::Ends {
-                            at: _,
-                            end: e,
-                            run: after,
-                        } => {
-                            run = after;
-                            at = e;
-                            rooted = true;
-                            continue;
-                        }
-                    }
+                    )?;
+                    run = inner.run;
+                    at = inner.end;
+                    rooted = true;
+                    continue;
                 }
                 // "Everything else is dropped: text, comments, instructions and the declaration too", unless it stands in a kept entry
                 let end = end_of(at, next);
@@ -193,8 +186,8 @@ fn content(
 }
 
 // A whole document of characters, from its first item on: its root is the element in the content outside all elements.
-pub fn whole(table: &Classes, list: &[u8], doc: &[u8], out: &mut [u8]) -> Read
-    requires { (table.now ≡ class_table) × (list_answer list.now ≡ Sound) × (length doc.now ≤ 16777216) }
+pub fn whole(table: &Classes, list: &[u8], doc: &[u8], out: &mut [u8]) -> Result<End, ItemError>
+    requires { (list_answer list.now ≡ Ok tt) × (length doc.now ≤ 16777216) }
     ensures { WholeIs list.now doc.now out.old result out.new }
 {
     let starts = [0usize; Open::LEVELS];

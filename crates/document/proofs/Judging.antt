@@ -7,10 +7,11 @@ use Prim.Native.Nat.{ℕ, zero, suc, ◌+◌, ◌-◌, ◌^◌, ◌≤◌, ◌<�
 use native.Mathlib.Omega.{arith}
 use borrow.Author.Tests.{lt-ltb, le-ltb}
 use lib.ListN.{length, drop, set, replicate, length-replicate}
+use Rattle.std.specs.Prelude.{Result, Ok, Err, ⊤}
 use Rattle.xml.specs.Character.{begins}
 use Rattle.chars.specs.Check.{check_of}
-use Rattle.chars.specs.declared.whole.Checked.{Checked}
-use Rattle.chars.specs.declared.whole.Checked.TheVariants.{All, BadAt}
+use Rattle.std.specs.Prelude.{Result, Ok, Err}
+use Rattle.chars.specs.declared.whole.CharError.{CharError}
 use Rattle.readers.specs.Named.{other_encoding}
 use Rattle.readers.proofs.Answers.{text_inside}
 use Rattle.tags.specs.declared.Item.{Item}
@@ -26,8 +27,8 @@ use Rattle.document.specs.declared.Open.{Open}
 use Rattle.document.specs.declared.Why.{Why}
 use Rattle.document.specs.declared.Placement.{Placement}
 use Rattle.document.specs.declared.Placement.TheVariants.{Fine, Fault, Over}
-use Rattle.document.specs.declared.judge.Judged.{Judged}
-use Rattle.document.specs.declared.judge.Judged.TheVariants.{Sound, TooLong, OtherEncoding, NotChar, AtFault}
+use Rattle.document.specs.declared.DocumentError.{DocumentError}
+use Rattle.document.specs.declared.DocumentError.TheVariants.{TooLong, OtherEncoding, NotChar, At}
 use Rattle.document.proofs.After.{opened_after, names_after}
 
 -- ---- the place of the first item
@@ -138,12 +139,12 @@ module _ {d starts lens : List ℕ} {o : Open} {at : ℕ} {first : Bool} (v : Ju
       ∙ ap (λ (k : ℕ). scan_from k d at first s) (sym (left_is v))
       ∙ v.same
 
-  pub judge_fault : (why : Why) → p ≡ Fault why → AtFault why at ≡ scanned d
+  pub judge_fault : (why : Why) → p ≡ Fault why → Err (At why at) ≡ scanned d
   judge_fault why h =
       sym (ap (λ (x : Placement). onward x at (scan_from (left v) d (end_of at i) false (after_item d at i (opened_of d starts lens o)))) h)
       ∙ step
 
-  pub judge_over : p ≡ Over → Sound ≡ scanned d
+  pub judge_over : p ≡ Over → Ok tt ≡ scanned d
   judge_over h =
       sym (ap (λ (x : Placement). onward x at (scan_from (left v) d (end_of at i) false (after_item d at i (opened_of d starts lens o)))) h)
       ∙ step
@@ -175,7 +176,7 @@ module _ {d starts lens : List ℕ} {o : Open} {at : ℕ} {first : Bool} (v : Ju
 -- ---- `judge`
 
 module _ (d : List ℕ) where
-  pub judged_long : 16777216 < length d → TooLong ≡ judge_of d
+  pub judged_long : 16777216 < length d → Err TooLong ≡ judge_of d
   unfolding judge_of
   judged_long l = sym (rw (lt-ltb 16777216 (length d) l))
 
@@ -185,16 +186,16 @@ module _ (d : List ℕ) where
   judged_named e q h = rw (← e) (sym q ∙ h)
 
   module _ (l : length d ≤ 16777216) where
-    pub judged_other : {o : ℕ} → o ≡ start_of d → {b : Bool} → b ≡ other_encoding (drop o d) → b ≡ true → OtherEncoding o ≡ judge_of d
+    pub judged_other : {o : ℕ} → o ≡ start_of d → {b : Bool} → b ≡ other_encoding (drop o d) → b ≡ true → Err (OtherEncoding o) ≡ judge_of d
     unfolding judge_of
-    judged_other e q h = ap OtherEncoding e ∙ sym (rw (le-ltb 16777216 (length d) l, judged_named e q h))
+    judged_other e q h = ap (λ (n : ℕ). Err (OtherEncoding n)) e ∙ sym (rw (le-ltb 16777216 (length d) l, judged_named e q h))
 
-    module _ (n : other_encoding (drop (start_of d) d) ≡ false) {c : Checked} (e : c ≡ check_of d) where
-      pub judged_items : c ≡ All → {r : Judged} → r ≡ scanned d → r ≡ judge_of d
+    module _ (n : other_encoding (drop (start_of d) d) ≡ false) {c : Result Unit CharError} (e : c ≡ check_of d) where
+      pub judged_items : c ≡ Ok tt → {r : Result ⊤ DocumentError} → r ≡ scanned d → r ≡ judge_of d
       unfolding judge_of
       judged_items q h = h ∙ sym (rw (le-ltb 16777216 (length d) l, n, sym e ∙ q))
 
-      pub judged_char : {k : ℕ} → c ≡ BadAt k → NotChar k ≡ judge_of d
+      pub judged_char : {k : ℕ} → c ≡ Err (record { valid_up_to = k }) → Err (NotChar k) ≡ judge_of d
       unfolding judge_of
       judged_char q = sym (rw (le-ltb 16777216 (length d) l, n, sym e ∙ q))
 

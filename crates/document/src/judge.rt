@@ -2,27 +2,15 @@
 // decides. The declaration is read before the characters are checked, on any bytes. The three bytes EF BB BF are skipped at the front, and
 // counted in every place.
 ghost use Rattle.std.specs.Prelude.{◌≡◌};
-ghost use Rattle.points.specs.Class.{class_table};
 ghost use Rattle.document.specs.Judge.{start_of, scanned, judge_of};
 
 use crate::place::{end_of, keep, place};
-use crate::{Open, Placement, Why};
+use crate::{DocumentError, Open, Placement};
 use chars::text::stands;
-use chars::whole::{Checked, check};
+use chars::whole::check;
 use instructions::declaration::names_other;
 use items::told::item;
-use points::table::{Classes, classes};
-
-// What is said of a document: sound; over 16,777,216 bytes; the declaration at a place names another encoding than UTF-8; the first
-// sequence that is no character begins at a place; an item at a place is at fault, and why.
-#[derive(Drop)]
-pub enum Judged {
-    Sound,
-    TooLong,
-    OtherEncoding(usize),
-    NotChar(usize),
-    AtFault(Why, usize),
-}
+use points::class::Classes;
 
 // The place of the first item.
 pub fn start_of(doc: &[u8]) -> usize
@@ -35,8 +23,7 @@ pub fn start_of(doc: &[u8]) -> usize
 }
 
 // Item by item.
-fn scan(table: &Classes, doc: &[u8]) -> Judged
-    requires { table.now ≡ class_table }
+fn scan(table: &Classes, doc: &[u8]) -> Result<(), DocumentError>
     ensures { result ≡ scanned doc.now }
 {
     let mut starts = [0usize; Open::LEVELS];
@@ -44,6 +31,7 @@ fn scan(table: &Classes, doc: &[u8]) -> Judged
     let mut opened = Open::none();
     let mut at = start_of(doc);
     let mut first = true;
+    // Each turn goes on where the item ended, so the place is no count.
     loop {
         let next = item(table, doc, at, first);
         match place(doc, &starts, &lens, opened, at, next) {
@@ -54,31 +42,31 @@ fn scan(table: &Classes, doc: &[u8]) -> Judged
                 first = false;
             }
             Placement::Fault(why) => {
-                return Judged::AtFault(why, at);
+                return Err(DocumentError::At(why, at));
             }
             Placement::Over => {
-                return Judged::Sound;
+                return Ok(());
             }
         }
     }
 }
 
 // Any document.
-pub fn judge(doc: &[u8]) -> Judged
+pub fn judge(doc: &[u8]) -> Result<(), DocumentError>
     ensures { result ≡ judge_of doc.now }
 {
     if doc.len() > Open::BYTES {
-        return Judged::TooLong;
+        return Err(DocumentError::TooLong);
     }
     let start = start_of(doc);
     if names_other(doc, start) {
-        return Judged::OtherEncoding(start);
+        return Err(DocumentError::OtherEncoding(start));
     }
     match check(doc) {
-        Checked::All => {
-            let lent = classes();
+        Ok(()) => {
+            let lent = Classes::new();
             scan(&lent, doc)
         }
-        Checked::BadAt(o) => Judged::NotChar(o),
+        Err(e) => Err(DocumentError::NotChar(e.valid_up_to)),
     }
 }

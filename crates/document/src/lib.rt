@@ -2,6 +2,9 @@
 // root, nothing but comments, instructions and white space outside it, end tags that match, no attribute name twice, depth 64.
 #![tactic(auto)]
 
+ghost use Rattle.std.specs.Prelude.{◌≡◌};
+ghost use Rattle.document.specs.declared.DocumentError.TheVariants.{At};
+
 pub mod place; // an item in its place
 pub mod judge; // the answer on a document
 
@@ -24,14 +27,40 @@ impl Open {
 }
 
 // Why an item is at fault: a document type; not well-formed; over a size.
-#[derive(Clone, Copy)]
+#[derive(Clone, Copy, Debug, PartialEq, Eq)]
 pub enum Why {
     Doctype,
     Malformed,
     TooLarge,
 }
 
-// Whether an item may stand where it stands: it may; it is at fault; or nothing is left, and the document is sound.
+// An item at fault: why, and the place where it begins.
+#[derive(Clone, Copy, Debug, PartialEq, Eq)]
+pub struct ItemError {
+    pub why: Why,
+    pub at: usize,
+}
+
+// Why a document is refused: it is over 16,777,216 bytes; its declaration, at a place, names another encoding than UTF-8; the first
+// sequence that is no character begins at a place; an item is at fault, why, and where it begins.
+#[derive(Clone, Copy, Debug, PartialEq, Eq)]
+pub enum DocumentError {
+    TooLong,
+    OtherEncoding(usize),
+    NotChar(usize),
+    At(Why, usize),
+}
+
+impl From<ItemError> for DocumentError {
+    ghost from_gives = { λ e d. d ≡ At e.why e.at };
+
+    fn from(e: ItemError) -> DocumentError {
+        DocumentError::At(e.why, e.at)
+    }
+}
+
+// Whether an item may stand where it stands: it may; it is at fault; or nothing is left, and the document is sound. Three cases and no
+// `Result`: where nothing is left there is neither an item to go on behind nor a fault, and a fault is handed up with the item's place.
 #[derive(Drop)]
 pub enum Placement {
     Fine,

@@ -5,6 +5,7 @@ use mathlib.Core.Path.{◌≡◌, refl}
 use mathlib.Core.List.{List, [], ◌∷◌, ◌++◌}
 use Prim.Native.Nat.{ℕ, zero, suc}
 use Prim.Native.String.{String}
+use Rattle.std.specs.Prelude.{Result, Ok, Err, ⊤}
 use Rattle.xml.specs.Utf8.{utf8, is_scalar}
 use Rattle.xml.specs.Notation.{bytes}
 use Rattle.xml.specs.Productions.{is_char, is_space, is_name_start, is_name_more, is_name, digit_of}
@@ -26,15 +27,15 @@ use Rattle.items.specs.Item.{declares, kind_of, item_at}
 use Rattle.document.specs.Place.{blank}
 use Rattle.document.specs.Judge.{front, start_of, scan_from, scanned, judge_of}
 use Rattle.document.specs.declared.Why.TheVariants.{Doctype, Malformed, TooLarge}
-use Rattle.document.specs.declared.judge.Judged.{Judged}
-use Rattle.document.specs.declared.judge.Judged.TheVariants.{Sound, OtherEncoding, NotChar, AtFault}
+use Rattle.document.specs.declared.DocumentError.{DocumentError}
+use Rattle.document.specs.declared.DocumentError.TheVariants.{OtherEncoding, NotChar, At}
 
 infix 10 ◌gives◌
-abbrev ◌gives◌ : List ℕ → Judged → Row Judged
+abbrev ◌gives◌ : List ℕ → Result ⊤ DocumentError → Row (Result ⊤ DocumentError)
 d gives r = d at 0 gives r
 
 infix 10 ◌is◌
-abbrev ◌is◌ : String → Judged → Row Judged
+abbrev ◌is◌ : String → Result ⊤ DocumentError → Row (Result ⊤ DocumentError)
 s is r = bytes s gives r
 
 -- n times w; n elements, one in the other
@@ -45,72 +46,72 @@ times (suc n) w = w ++ times n w
 abbrev nested : ℕ → List ℕ → List ℕ
 nested n w = times n (bytes "<a>") ++ w ++ times n (bytes "</a>")
 
-pub documents : List (Row Judged)
+pub documents : List (Row (Result ⊤ DocumentError))
 documents =
-    ("<g/>" is Sound)
-    ∷ ("<g></g >" is Sound)
-    ∷ ("<g>a&amp;b<![CDATA[<]]><!----><?p?><v k='1'/></g>" is Sound)
-    ∷ ("<?xml version='1.0'?> <!-- a --> <g/> <?p?> \n" is Sound)
-    ∷ (front ++ bytes "<g/>" gives Sound)
-    ∷ (front ++ bytes "<?xml version='1.0'?><g/>" gives Sound)
+    ("<g/>" is (Ok tt))
+    ∷ ("<g></g >" is (Ok tt))
+    ∷ ("<g>a&amp;b<![CDATA[<]]><!----><?p?><v k='1'/></g>" is (Ok tt))
+    ∷ ("<?xml version='1.0'?> <!-- a --> <g/> <?p?> \n" is (Ok tt))
+    ∷ (front ++ bytes "<g/>" gives (Ok tt))
+    ∷ (front ++ bytes "<?xml version='1.0'?><g/>" gives (Ok tt))
     -- outside the root
-    ∷ ("" is AtFault Malformed 0)
-    ∷ (front gives AtFault Malformed 3)
-    ∷ (" \n" is AtFault Malformed 2)
-    ∷ ("a<g/>" is AtFault Malformed 0)
-    ∷ ("<g/> a" is AtFault Malformed 4)
-    ∷ ("&lt;<g/>" is AtFault Malformed 0)
-    ∷ ("<g/><![CDATA[]]>" is AtFault Malformed 4)
-    ∷ ("<g/><h/>" is AtFault Malformed 4)
-    ∷ (" <?xml version='1.0'?><g/>" is AtFault Malformed 1)
-    ∷ (bytes "<g/>" ++ front gives AtFault Malformed 4)
+    ∷ ("" is Err (At Malformed 0))
+    ∷ (front gives Err (At Malformed 3))
+    ∷ (" \n" is Err (At Malformed 2))
+    ∷ ("a<g/>" is Err (At Malformed 0))
+    ∷ ("<g/> a" is Err (At Malformed 4))
+    ∷ ("&lt;<g/>" is Err (At Malformed 0))
+    ∷ ("<g/><![CDATA[]]>" is Err (At Malformed 4))
+    ∷ ("<g/><h/>" is Err (At Malformed 4))
+    ∷ (" <?xml version='1.0'?><g/>" is Err (At Malformed 1))
+    ∷ (bytes "<g/>" ++ front gives Err (At Malformed 4))
     -- tags
-    ∷ ("<g>" is AtFault Malformed 3)
-    ∷ ("</g>" is AtFault Malformed 0)
-    ∷ ("<g></h>" is AtFault Malformed 3)
-    ∷ ("<g><v></g></v>" is AtFault Malformed 6)
-    ∷ ("<g/></g>" is AtFault Malformed 4)
-    ∷ ("<g a='1' b='2' a='3'/>" is AtFault Malformed 0)
+    ∷ ("<g>" is Err (At Malformed 3))
+    ∷ ("</g>" is Err (At Malformed 0))
+    ∷ ("<g></h>" is Err (At Malformed 3))
+    ∷ ("<g><v></g></v>" is Err (At Malformed 6))
+    ∷ ("<g/></g>" is Err (At Malformed 4))
+    ∷ ("<g a='1' b='2' a='3'/>" is Err (At Malformed 0))
     -- document types
-    ∷ ("<!DOCTYPE g><g/>" is AtFault Doctype 0)
-    ∷ ("<g><!DOCTYPE g></g>" is AtFault Doctype 3)
-    ∷ ("<g><v></g><!DOCTYPE g>" is AtFault Malformed 6)
+    ∷ ("<!DOCTYPE g><g/>" is Err (At Doctype 0))
+    ∷ ("<g><!DOCTYPE g></g>" is Err (At Doctype 3))
+    ∷ ("<g><v></g><!DOCTYPE g>" is Err (At Malformed 6))
     -- depth 64, and one more
-    ∷ (nested 64 [] gives Sound)
-    ∷ (nested 63 (bytes "<a/>") gives Sound)
-    ∷ (nested 65 [] gives AtFault TooLarge 192)
-    ∷ (nested 64 (bytes "<a/>") gives AtFault TooLarge 192)
+    ∷ (nested 64 [] gives (Ok tt))
+    ∷ (nested 63 (bytes "<a/>") gives (Ok tt))
+    ∷ (nested 65 [] gives Err (At TooLarge 192))
+    ∷ (nested 64 (bytes "<a/>") gives Err (At TooLarge 192))
     -- characters come first
-    ∷ (bytes "<g>" ++ 0xFF ∷ [] gives NotChar 3)
-    ∷ (bytes "</g>" ++ 0x0 ∷ [] gives NotChar 4)
+    ∷ (bytes "<g>" ++ 0xFF ∷ [] gives Err (NotChar 3))
+    ∷ (bytes "</g>" ++ 0x0 ∷ [] gives Err (NotChar 4))
     -- examples i and j
-    ∷ ("<g><v></g>" is AtFault Malformed 6)
+    ∷ ("<g><v></g>" is Err (At Malformed 6))
     -- "a declaration without an encoding, or one that says UTF-8 with ASCII letter case ignored"
-    ∷ ("<?xml version='1.0' standalone='yes'?><g/>" is Sound)
-    ∷ ("<?xml version='1.0' encoding='UTF-8'?><g/>" is Sound)
-    ∷ ("<?xml version=\"1.0\" encoding=\"utf-8\" standalone='no' ?><g/>" is Sound)
-    ∷ ("<?xml version='1.1' encoding='Utf-8'?><g/>" is Sound)
-    ∷ (front ++ bytes "<?xml version='1.0' encoding='uTF-8'?><g/>" gives Sound)
+    ∷ ("<?xml version='1.0' standalone='yes'?><g/>" is (Ok tt))
+    ∷ ("<?xml version='1.0' encoding='UTF-8'?><g/>" is (Ok tt))
+    ∷ ("<?xml version=\"1.0\" encoding=\"utf-8\" standalone='no' ?><g/>" is (Ok tt))
+    ∷ ("<?xml version='1.1' encoding='Utf-8'?><g/>" is (Ok tt))
+    ∷ (front ++ bytes "<?xml version='1.0' encoding='uTF-8'?><g/>" gives (Ok tt))
     -- "names another encoding", behind either quote, with `standalone` and behind the three bytes, whose offset counts
-    ∷ ("<?xml version='1.0' encoding='ISO-8859-1'?><g/>" is OtherEncoding 0)
-    ∷ ("<?xml version=\"1.0\" encoding=\"ISO-8859-1\" standalone='yes'?><g/>" is OtherEncoding 0)
-    ∷ (front ++ bytes "<?xml version='1.0' encoding='ISO-8859-1'?><g/>" gives OtherEncoding 3)
-    ∷ ("<?xml version='1.0' encoding='UTF8'?><g/>" is OtherEncoding 0)
-    ∷ ("<?xml version='1.0' encoding='UTF'?><g/>" is OtherEncoding 0)
-    ∷ ("<?xml version='1.0' encoding='UTF-8x'?><g/>" is OtherEncoding 0)
+    ∷ ("<?xml version='1.0' encoding='ISO-8859-1'?><g/>" is Err (OtherEncoding 0))
+    ∷ ("<?xml version=\"1.0\" encoding=\"ISO-8859-1\" standalone='yes'?><g/>" is Err (OtherEncoding 0))
+    ∷ (front ++ bytes "<?xml version='1.0' encoding='ISO-8859-1'?><g/>" gives Err (OtherEncoding 3))
+    ∷ ("<?xml version='1.0' encoding='UTF8'?><g/>" is Err (OtherEncoding 0))
+    ∷ ("<?xml version='1.0' encoding='UTF'?><g/>" is Err (OtherEncoding 0))
+    ∷ ("<?xml version='1.0' encoding='UTF-8x'?><g/>" is Err (OtherEncoding 0))
     -- 10 whatever stands behind it: bytes that read as UTF-8, bytes that do not, a document type, nothing
-    ∷ (bytes "<?xml version='1.0' encoding='ISO-8859-1'?><g>" ++ 0xC3 ∷ 0xA9 ∷ bytes "</g>" gives OtherEncoding 0)
-    ∷ (bytes "<?xml version='1.0' encoding='ISO-8859-1'?><g>" ++ 0xE9 ∷ bytes "</g>" gives OtherEncoding 0)
-    ∷ ("<?xml version='1.0' encoding='ISO-8859-1'?><!DOCTYPE g>" is OtherEncoding 0)
-    ∷ ("<?xml version='1.0' encoding='ISO-8859-1'?>" is OtherEncoding 0)
+    ∷ (bytes "<?xml version='1.0' encoding='ISO-8859-1'?><g>" ++ 0xC3 ∷ 0xA9 ∷ bytes "</g>" gives Err (OtherEncoding 0))
+    ∷ (bytes "<?xml version='1.0' encoding='ISO-8859-1'?><g>" ++ 0xE9 ∷ bytes "</g>" gives Err (OtherEncoding 0))
+    ∷ ("<?xml version='1.0' encoding='ISO-8859-1'?><!DOCTYPE g>" is Err (OtherEncoding 0))
+    ∷ ("<?xml version='1.0' encoding='ISO-8859-1'?>" is Err (OtherEncoding 0))
     -- a bad byte inside breaks the shape; so does less than [23]; a declaration that is not first is none
-    ∷ (bytes "<?xml version='1.0' encoding='ISO-8859" ++ 0xE9 ∷ bytes "'?><g/>" gives NotChar 38)
-    ∷ ("<?xml encoding='ISO-8859-1'?><g/>" is AtFault Malformed 0)
-    ∷ ("<?xml version='1.0' encoding='ISO-8859-1'>" is AtFault Malformed 0)
-    ∷ ("<?xml version='1.0' encoding=''?><g/>" is AtFault Malformed 0)
-    ∷ ("<?xml version='1.0' standalone='yes' encoding='ISO-8859-1'?><g/>" is AtFault Malformed 0)
-    ∷ (" <?xml version='1.0' encoding='ISO-8859-1'?><g/>" is AtFault Malformed 1)
-    ∷ ("<g/><?xml version='1.0' encoding='ISO-8859-1'?>" is AtFault Malformed 4)
+    ∷ (bytes "<?xml version='1.0' encoding='ISO-8859" ++ 0xE9 ∷ bytes "'?><g/>" gives Err (NotChar 38))
+    ∷ ("<?xml encoding='ISO-8859-1'?><g/>" is Err (At Malformed 0))
+    ∷ ("<?xml version='1.0' encoding='ISO-8859-1'>" is Err (At Malformed 0))
+    ∷ ("<?xml version='1.0' encoding=''?><g/>" is Err (At Malformed 0))
+    ∷ ("<?xml version='1.0' standalone='yes' encoding='ISO-8859-1'?><g/>" is Err (At Malformed 0))
+    ∷ (" <?xml version='1.0' encoding='ISO-8859-1'?><g/>" is Err (At Malformed 1))
+    ∷ ("<g/><?xml version='1.0' encoding='ISO-8859-1'?>" is Err (At Malformed 4))
     ∷ []
 
 pub documents_computed : answers (λ d k. judge_of d) documents ≡ expected documents

@@ -5,6 +5,7 @@ use mathlib.Core.Path.{◌≡◌, refl}
 use mathlib.Core.List.{List, [], ◌∷◌, ◌++◌, map, head-eq_of_cons-eq, tail-eq_of_cons-eq}
 use Prim.Native.Nat.{ℕ, zero, suc}
 use lib.ListN.{replicate}
+use Rattle.std.specs.Prelude.{Ok}
 use Rattle.xml.specs.Utf8.{utf8, is_scalar}
 use Rattle.xml.specs.Notation.{bytes}
 use Rattle.xml.specs.Productions.{is_name_start, is_name_more, is_name}
@@ -13,7 +14,6 @@ use Rattle.chars.specs.Name.{name_of}
 use Rattle.paths.specs.Path.{All, none, more, print_step, print_line}
 use Rattle.paths.specs.Reader.{read_all, kind_at, test_at, step_at, steps, attribute_at, mark_at, end_at, line_at}
 use Rattle.paths.specs.Judge.{within, sound_at, lines, judge, list_answer, list_paths}
-use Rattle.paths.specs.declared.ListAnswer.TheVariants.{Sound}
 use Rattle.lookup.specs.Index.{padded}
 use Rattle.compiled.specs.Bits.{column, stays_of, goes_of, far_of, lasts_of, marks_of, fit_of}
 use Rattle.matcher.specs.Says.{Says}
@@ -178,7 +178,7 @@ verdict_in r =
     picked_by f (passing_of ps (selecting_by (state_of ps r.above) f) [])
 
 -- every list is sound
-pub sound : map (λ r. list_answer r.list) rows ≡ map (λ r. Sound) rows
+pub sound : map (λ r. list_answer r.list) rows ≡ map (λ r. (Ok tt)) rows
 unfolding rows list_answer judge lines sound_at within line_at steps read_all end_at mark_at attribute_at step_at test_at kind_at print_step
     print_line name_of run starts
     character guess value_of utf8 is_scalar is_name_start is_name_more is_name
@@ -191,7 +191,7 @@ unfolding rows list_paths list_answer judge lines sound_at within line_at steps 
     lasts_of marks_of column padded
 computed = refl
 
-all_meant : (rs : List Row) → map (λ r. list_answer r.list) rs ≡ map (λ r. Sound) rs → map verdict_in rs ≡ map (λ r. r.verdict) rs
+all_meant : (rs : List Row) → map (λ r. list_answer r.list) rs ≡ map (λ r. (Ok tt)) rs → map verdict_in rs ≡ map (λ r. r.verdict) rs
     → All (λ r. Says (list_paths r.list) (r.above ++ r.own ∷ []) [] r.verdict) rs
 all_meant [] e q = none
 all_meant (r ∷ rs) e q =

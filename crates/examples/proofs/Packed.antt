@@ -5,6 +5,7 @@ use mathlib.Core.Path.{◌≡◌, refl}
 use mathlib.Core.List.{List, [], ◌∷◌, ◌++◌, map}
 use mathlib.Core.Option.{none, some}
 use Prim.Native.Nat.{ℕ, zero, suc}
+use Rattle.std.specs.Prelude.{Ok, Err}
 use Rattle.xml.specs.Utf8.{utf8, is_scalar}
 use Rattle.xml.specs.Notation.{bytes}
 use Rattle.xml.specs.Productions.{is_char, is_name_start, is_name_more, is_name, except}
@@ -16,7 +17,8 @@ use Rattle.paths.specs.Judge.{within, sound_at, lines, judge, list_answer, list_
 use Rattle.packed.specs.Packed.{pack_step, pack_record, pack_line, pack_list, pack_of}
 use Rattle.packed.specs.Spelled.{kind_of, spell_step, spell_steps, spell_attribute, spell_line, spell_lines, spelled, same, packs, text_of}
 use Rattle.packed.specs.Answer.{pack_answer, unpack_answer}
-use Rattle.packed.specs.declared.Answer.TheVariants.{Written, TooLong, Malformed, TooLarge, NotPacked, Short}
+use Rattle.paths.specs.declared.ListError.TheVariants.{TooLong, Malformed, TooLarge}
+use Rattle.packed.specs.declared.PackError.TheVariants.{List as OfList, NotPacked, Short}
 
 -- ---- how they are written
 
@@ -170,7 +172,8 @@ largest_computed = refl
 pub answers_computed :
     pack_answer [] 0 ∷ pack_answer [] 1 ∷ pack_answer (bytes "/a\n") 8 ∷ pack_answer (bytes "/a\n") 9 ∷ pack_answer (bytes "/a\n/a") 0
     ∷ pack_answer (times 33 (bytes "/a\n")) 0 ∷ pack_answer (times 8193 (bytes "/")) 0 ∷ []
-    ≡ Short 1 ∷ Written 1 ∷ Short 9 ∷ Written 9 ∷ Malformed 2 ∷ TooLarge 33 ∷ TooLong ∷ []
+    ≡ Err (Short 1) ∷ Ok 1 ∷ Err (Short 9) ∷ Ok 9
+    ∷ Err (OfList (Malformed 2)) ∷ Err (OfList (TooLarge 33)) ∷ Err (OfList TooLong) ∷ []
 unfolding pack_answer unpack_answer text_of packs same spelled spell_lines spell_line spell_attribute spell_steps spell_step kind_of pack_of
     pack_list pack_line pack_record pack_step list_paths list_answer judge lines sound_at within line_at steps read_all end_at mark_at
     attribute_at step_at test_at kind_at print_step print_line name_of run starts character guess value_of utf8 is_scalar is_name_start
@@ -179,7 +182,7 @@ answers_computed = refl
 
 pub back_computed :
     unpack_answer (1 ∷ []) 0 ∷ unpack_answer (1 ∷ line_a) 2 ∷ unpack_answer (1 ∷ line_a) 3 ∷ unpack_answer (2 ∷ line_a) 0 ∷ []
-    ≡ Written 0 ∷ Short 3 ∷ Written 3 ∷ NotPacked ∷ []
+    ≡ Ok 0 ∷ Err (Short 3) ∷ Ok 3 ∷ Err NotPacked ∷ []
 unfolding pack_answer unpack_answer text_of packs same spelled spell_lines spell_line spell_attribute spell_steps spell_step kind_of pack_of
     pack_list pack_line pack_record pack_step list_paths list_answer judge lines sound_at within line_at steps read_all end_at mark_at
     attribute_at step_at test_at kind_at print_step print_line name_of run starts character guess value_of utf8 is_scalar is_name_start

@@ -1,13 +1,16 @@
 -- Two results that one contract allows are equal, over the contracts that the toolchain makes of the source: of `choughbell_characters`,
--- `choughbell_judge`, `refusal` and `numbers_of`, which can't change what they are lent, and of `choughbell_cut` and `choughbell_cut_with`
--- with what they leave in the buffer. Of the log nothing is said. Then the plain engine: one answer, and `plain_alike`, the theorem of Q-9
--- of the two functions that callers have: on the same list, document and buffer their first three numbers are equal, and every byte of the
--- buffer is. Last a batch. Packed lists, covering and mending have theirs in PackingNumbers, CoverNumbers and Mended.
+-- `choughbell_judge`, `refusal`, `list_refusal`, `cut_refusal` and `numbers_of`, which can't change what they are lent, and of
+-- `choughbell_cut` and `choughbell_cut_with` with what they leave in the buffer. Of the log nothing is said. Then the plain engine: one
+-- answer, and `plain_alike`, the theorem of Q-9 of the two functions that callers have: on the same list, document and buffer their first
+-- three numbers are equal, and every byte of the buffer is. Last a batch. Packed lists, covering and mending have theirs in
+-- PackingNumbers, CoverNumbers and Mended.
 use mathlib.Core.Path.{◌≡◌, sym, ap, ◌∙◌}
 use Rattle.contracts.specs.One.{OneResult, OneOutcome}
 use Rattle.exported.proofs.choughbell_characters.Reads as characters
 use Rattle.exported.proofs.choughbell_judge.Reads as judge
 use Rattle.exported.proofs.refusal.Reads as refusal
+use Rattle.exported.proofs.list_refusal.Reads as list_refusal
+use Rattle.exported.proofs.cut_refusal.Reads as cut_refusal
 use Rattle.exported.proofs.numbers_of.Reads as numbers
 use Rattle.exported.proofs.choughbell_cut.Reads as cut
 use Rattle.exported.proofs.choughbell_cut_with.Reads as cut_with
@@ -25,6 +28,12 @@ judge_one κs a z z' e e' x p q = p ∙ sym q
 
 pub refusal_one : OneResult refusal.Asked refusal.Learnt
 refusal_one κs a z z' e e' x p q = p ∙ sym q
+
+pub list_refusal_one : OneResult list_refusal.Asked list_refusal.Learnt
+list_refusal_one κs a z z' e e' x p q = p ∙ sym q
+
+pub cut_refusal_one : OneResult cut_refusal.Asked cut_refusal.Learnt
+cut_refusal_one κs a z z' e e' x p q = p ∙ sym q
 
 pub numbers_one : OneResult numbers.Asked numbers.Learnt
 numbers_one κs a z z' e e' x p q = p ∙ sym q

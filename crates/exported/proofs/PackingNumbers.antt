@@ -1,17 +1,9 @@
--- A case of an answer of a packed list gives its numbers; and two results that one contract allows are equal, with what they leave in the
--- buffer, over the contracts that the toolchain makes of the source: of `choughbell_pack` and `choughbell_unpack`.
-use mathlib.Core.Path.{◌≡◌, sym, ap, ◌∙◌}
+-- Two results that one contract allows are equal, with what they leave in the buffer, over the contracts that the toolchain makes of the
+-- source: of `choughbell_pack` and `choughbell_unpack`.
+use mathlib.Core.Path.{sym, ◌∙◌}
 use Rattle.contracts.specs.One.{OneOutcome}
-use Rattle.packed.specs.declared.Answer.{Answer}
-use Rattle.exported.specs.Packing.{packing_of}
-use Rattle.exported.specs.declared.Numbers.{Numbers}
 use Rattle.exported.proofs.packing.choughbell_pack.Reads as pack
 use Rattle.exported.proofs.packing.choughbell_unpack.Reads as unpack
-
-pub packing_case : {a b : Answer} {r : Numbers} → a ≡ b → r ≡ packing_of b → r ≡ packing_of a
-packing_case h q = q ∙ sym (ap packing_of h)
-
-pub ruleset packing = (packing_case)
 
 pub pack_one : OneOutcome pack.Asked pack.Learnt (λ κs e. e.1.0.now)
 pack_one κs a z z' e e' x p q = (p.0 ∙ sym q.0, p.1 ∙ sym q.1)

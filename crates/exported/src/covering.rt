@@ -2,10 +2,10 @@
 // The library's own answer is the crate `covers`.
 ghost use Rattle.std.specs.Prelude.{◌≡◌};
 ghost use Rattle.covers.specs.Answer.{which_number, cover_answer};
-ghost use Rattle.exported.specs.Covers.{refused_list, covers_numbers};
+ghost use Rattle.exported.specs.Covers.{covers_numbers};
 
-use crate::Numbers;
-use covers::{CoverAnswer, Which};
+use crate::{Numbers, list_refusal, refusal};
+use covers::{CoverError, Which};
 
 // The number of a list: 1 for the narrow one, 2 for the wide one.
 fn which_number(which: Which) -> u64
@@ -17,36 +17,22 @@ fn which_number(which: Which) -> u64
     }
 }
 
-// A refusal of one of two lists.
-fn refusal_of(number: u64, line: usize, which: Which) -> Numbers
-    ensures { result ≡ refused_list number line which }
-{
-    let third = which_number(which);
-    Numbers {
-        number,
-        second: line as u64,
-        third,
-    }
-}
-
 // The numbers of an answer on two lists.
-fn covers_numbers(a: CoverAnswer) -> Numbers
+fn covers_numbers(a: Result<bool, CoverError>) -> Numbers
     ensures { result ≡ covers_numbers a }
 {
     match a {
-        CoverAnswer::Covered => Numbers {
-            number: 0,
-            second: 1,
-            third: 0,
-        },
-        CoverAnswer::Uncovered => Numbers {
-            number: 0,
-            second: 0,
-            third: 0,
-        },
-        CoverAnswer::TooLong(which) => refusal_of(1, 0, which),
-        CoverAnswer::Malformed(which, line) => refusal_of(2, line, which),
-        CoverAnswer::TooLarge(which, line) => refusal_of(3, line, which),
+        Ok(true) => refusal(0, 1),
+        Ok(false) => refusal(0, 0),
+        Err(refused) => {
+            let list = list_refusal(refused.error);
+            let third = which_number(refused.which);
+            Numbers {
+                number: list.number,
+                second: list.second,
+                third,
+            }
+        }
     }
 }
 

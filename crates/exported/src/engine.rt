@@ -3,29 +3,22 @@ ghost use Rattle.std.specs.Prelude.{◌≡◌, length};
 ghost use Rattle.cutter.specs.Answer.{answer_of, bytes_after};
 ghost use Rattle.exported.specs.Plain.{plain_of, three_of};
 
-use crate::{Numbers, refusal};
-use descent::{Answer, cut};
+use crate::{Numbers, cut_refusal};
+use descent::answer::Cut;
+use descent::cut;
+use refusals::CutError;
 
 // The numbers of an answer.
-fn three_of(a: Answer) -> Numbers
+fn three_of(a: Result<Cut, CutError>) -> Numbers
     ensures { result ≡ plain_of a }
 {
     match a {
-        Answer::Written { length, selected } => Numbers {
+        Ok(cut) => Numbers {
             number: 0,
-            second: length as u64,
-            third: selected as u64,
+            second: cut.length as u64,
+            third: cut.selected as u64,
         },
-        Answer::ListTooLong => refusal(1, 0),
-        Answer::ListMalformed(line) => refusal(2, line),
-        Answer::ListTooLarge(line) => refusal(3, line),
-        Answer::TooLong => refusal(4, 0),
-        Answer::OtherEncoding(o) => refusal(10, o),
-        Answer::NotChar(o) => refusal(5, o),
-        Answer::Doctype(o) => refusal(6, o),
-        Answer::Malformed(o) => refusal(7, o),
-        Answer::TooLarge(o) => refusal(8, o),
-        Answer::Short(needed) => refusal(9, needed),
+        Err(e) => cut_refusal(e),
     }
 }
 

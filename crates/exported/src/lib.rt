@@ -1,18 +1,20 @@
 // What callers in Rust and C can call: numbers pass as themselves, a slice as a pointer and then a length. C is given the functions of the
-// crate `exported_c`, which call these. An answer that is an enum in the library is a number here, or three: document 01's "Numbers handed
+// crate `exported_c`, which call these. An answer of the library is a number here, or three: document 01's "Numbers handed
 // back", and 10 for another encoding. A cut has a fourth, document 02's number of name tests. Here the cut, the judgement of a document and
 // its characters; the other calls have modules of their own.
 #![tactic(auto)]
 
 ghost use Rattle.std.specs.Prelude.{◌≡◌, length};
-ghost use Rattle.document.specs.Judge.{why_number, judge_of};
-ghost use Rattle.cutter.specs.Answer.{answer_of, bytes_after};
+ghost use Rattle.paths.specs.Answer.{list_number, list_second};
+ghost use Rattle.document.specs.Judge.{why_number, document_number, document_second, judge_of};
+ghost use Rattle.cutter.specs.Answer.{answer_of, bytes_after, cut_number, cut_second};
 ghost use Rattle.exported.specs.Numbers.{characters_end, refusal_of, refused_of, judged_of, numbers_of};
 
-use chars::whole::Checked;
-use cutter::Answer;
-use document::Why;
-use document::judge::{Judged, judge};
+use cutter::answer::Cut;
+use document::judge::judge;
+use document::{DocumentError, Why};
+use paths::ListError;
+use refusals::CutError;
 
 pub mod engine; // the plain engine
 pub mod post; // a batch
@@ -40,6 +42,51 @@ pub fn refusal(number: u64, second: usize) -> Numbers
     }
 }
 
+// The numbers of a refusal of a list.
+pub fn list_refusal(e: ListError) -> Numbers
+    ensures { result ≡ refusal_of (list_number e) (list_second e) }
+{
+    match e {
+        ListError::TooLong => refusal(1, 0),
+        ListError::Malformed(line) => refusal(2, line),
+        ListError::TooLarge(line) => refusal(3, line),
+    }
+}
+
+// The number of a fault in an item.
+fn why_number(why: Why) -> u64
+    ensures { result ≡ why_number why }
+{
+    match why {
+        Why::Doctype => 6,
+        Why::Malformed => 7,
+        Why::TooLarge => 8,
+    }
+}
+
+// The numbers of a refusal of a document.
+fn document_refusal(e: DocumentError) -> Numbers
+    ensures { result ≡ refusal_of (document_number e) (document_second e) }
+{
+    match e {
+        DocumentError::TooLong => refusal(4, 0),
+        DocumentError::OtherEncoding(o) => refusal(10, o),
+        DocumentError::NotChar(o) => refusal(5, o),
+        DocumentError::At(why, o) => refusal(why_number(why), o),
+    }
+}
+
+// The numbers of a refusal of a cut, by either engine, and of a table.
+pub fn cut_refusal(e: CutError) -> Numbers
+    ensures { result ≡ refusal_of (cut_number e) (cut_second e) }
+{
+    match e {
+        CutError::List(list) => list_refusal(list),
+        CutError::Document(doc) => document_refusal(doc),
+        CutError::Short(needed) => refusal(9, needed),
+    }
+}
+
 // The number, the second, the third, and a fourth: the name tests tried.
 #[repr(C)]
 #[derive(Drop)]
@@ -63,41 +110,25 @@ fn refused(number: u64, second: usize) -> FourNumbers
 }
 
 // The numbers of an answer.
-pub fn numbers_of(a: Answer) -> FourNumbers
+pub fn numbers_of(a: Result<Cut, CutError>) -> FourNumbers
     ensures { result ≡ numbers_of a }
 {
     match a {
-        Answer::Written {
-            length,
-            selected,
-            tests,
-        } => FourNumbers {
+        Ok(cut) => FourNumbers {
             number: 0,
-            second: length as u64,
-            third: selected as u64,
-            fourth: tests as u64,
+            second: cut.length as u64,
+            third: cut.selected as u64,
+            fourth: cut.tests as u64,
         },
-        Answer::ListTooLong => refused(1, 0),
-        Answer::ListMalformed(line) => refused(2, line),
-        Answer::ListTooLarge(line) => refused(3, line),
-        Answer::TooLong => refused(4, 0),
-        Answer::OtherEncoding(o) => refused(10, o),
-        Answer::NotChar(o) => refused(5, o),
-        Answer::Doctype(o) => refused(6, o),
-        Answer::Malformed(o) => refused(7, o),
-        Answer::TooLarge(o) => refused(8, o),
-        Answer::Short(needed) => refused(9, needed),
-    }
-}
-
-// The number of a fault in an item.
-fn why_number(why: Why) -> u64
-    ensures { result ≡ why_number why }
-{
-    match why {
-        Why::Doctype => 6,
-        Why::Malformed => 7,
-        Why::TooLarge => 8,
+        Err(e) => {
+            let told = cut_refusal(e);
+            FourNumbers {
+                number: told.number,
+                second: told.second,
+                third: 0,
+                fourth: 0,
+            }
+        }
     }
 }
 
@@ -107,8 +138,8 @@ pub extern "C" fn choughbell_characters(s: &[u8]) -> usize
     ensures { result ≡ characters_end s.now }
 {
     match chars::whole::check(s) {
-        Checked::All => s.len(),
-        Checked::BadAt(o) => o,
+        Ok(()) => s.len(),
+        Err(e) => e.valid_up_to,
     }
 }
 
@@ -118,11 +149,8 @@ pub extern "C" fn choughbell_judge(doc: &[u8]) -> Numbers
     ensures { result ≡ judged_of (judge_of doc.now) }
 {
     match judge(doc) {
-        Judged::Sound => refusal(0, 0),
-        Judged::TooLong => refusal(4, 0),
-        Judged::OtherEncoding(o) => refusal(10, o),
-        Judged::NotChar(o) => refusal(5, o),
-        Judged::AtFault(why, o) => refusal(why_number(why), o),
+        Ok(()) => refusal(0, 0),
+        Err(e) => document_refusal(e),
     }
 }
 

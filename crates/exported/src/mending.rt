@@ -5,27 +5,23 @@ ghost use Rattle.mend.specs.Answer.{answer_of, bytes_after};
 ghost use Rattle.exported.specs.Mending.{mended_numbers};
 
 use crate::{FourNumbers, refused};
-use mend::{Answer, mend};
+use mend::{MendError, Mended, mend};
 
 // The numbers of an answer: under 0 the length written, the bytes kept and the end tags added.
-fn numbers(a: Answer) -> FourNumbers
+fn numbers(a: Result<Mended, MendError>) -> FourNumbers
     ensures { result ≡ mended_numbers a }
 {
     match a {
-        Answer::Mended {
-            length,
-            kept,
-            added,
-        } => FourNumbers {
+        Ok(mended) => FourNumbers {
             number: 0,
-            second: length as u64,
-            third: kept as u64,
-            fourth: added as u64,
+            second: mended.length as u64,
+            third: mended.kept as u64,
+            fourth: mended.added as u64,
         },
-        Answer::TooLong => refused(4, 0),
-        Answer::OtherEncoding(o) => refused(10, o),
-        Answer::NoRoot(fault) => refused(12, fault),
-        Answer::Short(needed) => refused(9, needed),
+        Err(MendError::TooLong) => refused(4, 0),
+        Err(MendError::OtherEncoding(o)) => refused(10, o),
+        Err(MendError::NoRoot(fault)) => refused(12, fault),
+        Err(MendError::Short(needed)) => refused(9, needed),
     }
 }
 

@@ -4,20 +4,18 @@ ghost use Rattle.std.specs.Prelude.{◌≡◌, length};
 ghost use Rattle.packed.specs.Answer.{pack_answer, pack_bytes, unpack_answer, unpack_bytes};
 ghost use Rattle.exported.specs.Packing.{packing_of};
 
-use crate::{Numbers, refusal};
-use packed::Answer;
+use crate::{Numbers, list_refusal, refusal};
+use packed::PackError;
 
 // The numbers of an answer.
-fn packing_numbers(a: Answer) -> Numbers
+fn packing_numbers(a: Result<usize, PackError>) -> Numbers
     ensures { result ≡ packing_of a }
 {
     match a {
-        Answer::Written(length) => refusal(0, length),
-        Answer::TooLong => refusal(1, 0),
-        Answer::Malformed(line) => refusal(2, line),
-        Answer::TooLarge(line) => refusal(3, line),
-        Answer::NotPacked => refusal(13, 0),
-        Answer::Short(needed) => refusal(9, needed),
+        Ok(length) => refusal(0, length),
+        Err(PackError::List(e)) => list_refusal(e),
+        Err(PackError::NotPacked) => refusal(13, 0),
+        Err(PackError::Short(needed)) => refusal(9, needed),
     }
 }
 

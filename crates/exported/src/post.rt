@@ -3,24 +3,22 @@ ghost use Rattle.std.specs.Prelude.{◌≡◌, length};
 ghost use Rattle.batch.specs.Answer.{batch_of, batch_bytes};
 ghost use Rattle.exported.specs.Batch.{batch_numbers_of};
 
-use crate::{Numbers, refusal};
-use batch::{BatchAnswer, cut_all};
+use crate::{Numbers, list_refusal, refusal};
+use batch::{Batch, BatchError, cut_all};
 
 // The numbers of the answer on a batch.
-fn batch_numbers_of(a: BatchAnswer) -> Numbers
+fn batch_numbers_of(a: Result<Batch, BatchError>) -> Numbers
     ensures { result ≡ batch_numbers_of a }
 {
     match a {
-        BatchAnswer::Written { length, selected } => Numbers {
+        Ok(batch) => Numbers {
             number: 0,
-            second: length as u64,
-            third: selected as u64,
+            second: batch.length as u64,
+            third: batch.selected as u64,
         },
-        BatchAnswer::ListTooLong => refusal(1, 0),
-        BatchAnswer::ListMalformed(line) => refusal(2, line),
-        BatchAnswer::ListTooLarge(line) => refusal(3, line),
-        BatchAnswer::BadBatch(o) => refusal(11, o),
-        BatchAnswer::Short(needed) => refusal(9, needed),
+        Err(BatchError::List(e)) => list_refusal(e),
+        Err(BatchError::BadBatch(o)) => refusal(11, o),
+        Err(BatchError::Short(needed)) => refusal(9, needed),
     }
 }
 

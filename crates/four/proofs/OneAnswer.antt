@@ -3,13 +3,15 @@
 use mathlib.Core.Path.{◌≡◌, sym, ◌∙◌}
 use mathlib.Core.List.{List, [], ◌∷◌}
 use Prim.Native.Nat.{ℕ}
+use Rattle.std.specs.Prelude.{Result}
 use Rattle.contracts.specs.One.{OneOutcome}
-use Rattle.cutter.specs.declared.Answer.{Answer}
+use Rattle.cutter.specs.declared.answer.Cut.{Cut}
+use Rattle.refusals.specs.declared.CutError.{CutError}
 use Rattle.four.specs.declared.Answers.{Answers}
 use Rattle.four.proofs.four.Reads as four
 use Rattle.four.proofs.four_with.Reads as four_with
 
-made_same : {a b c d a' b' c' d' : Answer} → a ≡ a' → b ≡ b' → c ≡ c' → d ≡ d'
+made_same : {a b c d a' b' c' d' : Result Cut CutError} → a ≡ a' → b ≡ b' → c ≡ c' → d ≡ d'
     → ◌≡◌ {A = Answers} (record { first = a; second = b; third = c; fourth = d })
     (record { first = a'; second = b'; third = c'; fourth = d' })
 made_same p q r s = rw (p, q, r, s)

@@ -1,8 +1,9 @@
 -- Four clients in one call. In order: what a client hands over, what it gets back, and that as a call made for it alone gives it; the
 -- seats; and the two claims of document 02's Q-14, on a call and on two calls.
-use Rattle.std.specs.Prelude.{◌≡◌, List, ℕ, length}
+use Rattle.std.specs.Prelude.{◌≡◌, List, ℕ, length, Result}
 use Rattle.cutter.specs.Answer.{answer_of, bytes_after, number_of, second_of, third_of, fourth_of}
-use Rattle.cutter.specs.declared.Answer.{Answer}
+use Rattle.cutter.specs.declared.answer.Cut.{Cut}
+use Rattle.refusals.specs.declared.CutError.{CutError}
 
 -- "each with a list and an output buffer of its own"
 pub record Client : Type 0 where
@@ -20,7 +21,7 @@ pub record Gets : Type 0 where
   pub tests : ℕ
   pub bytes : List ℕ
 
-abbrev pub gets_by : Answer → List ℕ → Gets
+abbrev pub gets_by : Result Cut CutError → List ℕ → Gets
 gets_by a o = record { number = number_of a; place = second_of a; selected = third_of a; tests = fourth_of a; bytes = o }
 
 -- "a call made for it alone"

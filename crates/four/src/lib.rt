@@ -22,10 +22,11 @@ ghost use Rattle.four.specs.Parts.{Listed, Readable};
 
 use compiled::compile::read;
 use compiled::{Compiled, layout};
-use cutter::Answer;
-use parts::{Head, by_list, head_of, serve, sound};
-use paths::ListAnswer;
-use points::table::classes;
+use cutter::answer::Cut;
+use parts::{by_list, head_of, serve, sound};
+use paths::ListError;
+use points::class::Classes;
+use refusals::CutError;
 use together::pass_of_four;
 
 mod parts; // what is answered to one client
@@ -33,10 +34,10 @@ mod parts; // what is answered to one client
 // What is answered to each client.
 #[derive(Drop)]
 pub struct Answers {
-    pub first: Answer,
-    pub second: Answer,
-    pub third: Answer,
-    pub fourth: Answer,
+    pub first: Result<Cut, CutError>,
+    pub second: Result<Cut, CutError>,
+    pub third: Result<Cut, CutError>,
+    pub fourth: Result<Cut, CutError>,
 }
 
 // The length of the log that a client has in a call: 32 KiB of stack each.
@@ -62,10 +63,10 @@ fn measured(
     t2: &Compiled,
     t3: &Compiled,
     t4: &Compiled,
-    a1: ListAnswer,
-    a2: ListAnswer,
-    a3: ListAnswer,
-    a4: ListAnswer,
+    a1: Result<(), ListError>,
+    a2: Result<(), ListError>,
+    a3: Result<(), ListError>,
+    a4: Result<(), ListError>,
     doc: &[u8],
     o1: &mut [u8],
     o2: &mut [u8],
@@ -91,7 +92,7 @@ fn measured(
     let w2 = sound(a2);
     let w3 = sound(a3);
     let w4 = sound(a4);
-    let table = classes();
+    let table = Classes::new();
     let mut x1 = [0u8; 1];
     let mut x2 = [0u8; 1];
     let mut x3 = [0u8; 1];
@@ -172,10 +173,11 @@ fn listed(
     let a3 = read(l3, &mut t3);
     let a4 = read(l4, &mut t4);
     match head_of(doc) {
-        Head::Items => measured(
+        Ok(()) => measured(
             l1, l2, l3, l4, &t1, &t2, &t3, &t4, a1, a2, a3, a4, doc, o1, o2, o3, o4, g1, g2, g3, g4,
         ),
-        Head::Refused(answer) => {
+        Err(e) => {
+            let answer = Err(CutError::Document(e));
             let first = by_list(a1, answer);
             let second = by_list(a2, answer);
             let third = by_list(a3, answer);

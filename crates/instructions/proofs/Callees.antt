@@ -3,7 +3,7 @@
 use mathlib.Core.Path.{◌≡◌, refl, sym, ◌∙◌}
 use mathlib.Core.Bool.{Bool, true, false}
 use mathlib.Core.List.{List}
-use mathlib.Core.Option.{Option, none, some, none-ne-some}
+use mathlib.Core.Option.{Option as Maybe, none, some, none-ne-some}
 use Prim.Native.Nat.{ℕ, ◌≤◌}
 use native.Mathlib.Omega.{arith}
 use lib.Dec.{leb}
@@ -15,7 +15,7 @@ use Rattle.utf8.specs.Place.{ends_at, Stands}
 use Rattle.utf8.proofs.Place.{drop_end}
 use Rattle.chars.specs.Space.{space_end}
 use Rattle.chars.specs.Name.{name_of, name_at, reading_at}
-use Rattle.chars.specs.declared.name.Reading.{Reading}
+use Rattle.std.specs.Prelude.{Option}
 use Rattle.readers.specs.Read.{skip, seek}
 use Rattle.readers.specs.Answer.{Answers, ends, faults}
 use Rattle.readers.proofs.Left.{skip_end, name_leaves, end_stands, end_ahead}
@@ -47,11 +47,11 @@ name_some d at t e = go (leb (length d) at) refl
         (sym (rw (drop_end d at (leb-true (length d) at q), starts_nil is_name_start)) ∙ e))
     go false q = let z = leb-false (length d) at q in omega arith
 
-pub name_answers : (d : List ℕ) (at : ℕ) {r : Reading} → r ≡ name_at d at → Answers d at r (name_of (drop at d))
+pub name_answers : (d : List ℕ) (at : ℕ) {r : Option ℕ} → r ≡ name_at d at → Answers d at r (name_of (drop at d))
 unfolding name_at
 name_answers d at {r} e = rw e (go (name_of (drop at d)) refl)
   where
-    go : (o : Option (List ℕ)) → name_of (drop at d) ≡ o → Answers d at (reading_at d at o) o
+    go : (o : Maybe (List ℕ)) → name_of (drop at d) ≡ o → Answers d at (reading_at d at o) o
     go none q = faults
     go (some t) q = ends (end_stands d at (name_some d at t q) (name_leaves.ends (drop at d) t q)) (end_ahead d at t)
 

@@ -1,16 +1,18 @@
--- [23] XMLDecl. In order: the classes of characters and the loop over a run of one; what stands in the quotes of each part; quotes; a
+-- [23] XMLDecl. In order: the classes of characters and where a run of one ends; what stands in the quotes of each part; quotes; a
 -- part; what stands before the encoding and behind it; the declaration; another encoding. Each law about a function is one way through its
 -- code: what the code answers there is what the reader leaves.
 use mathlib.Core.Path.{◌≡◌, refl, sym, ap, ◌∙◌}
 use mathlib.Core.Bool.{Bool, true, false, cond, not, ◌&&◌, ◌||◌, or_assoc, or-false, and_assoc, and-false, true≢false}
 use mathlib.Core.List.{List, [], ◌∷◌}
-use mathlib.Core.Option.{Option, none, some}
-use Prim.Native.Nat.{ℕ, ◌+◌, ◌-◌, ◌≤◌, ◌<◌}
+use mathlib.Core.Option.{Option as Maybe, none, some}
+use Prim.Native.Nat.{ℕ, zero, suc, ◌+◌, ◌-◌, ◌≤◌, ◌<◌}
 use native.Mathlib.Omega.{arith}
 use borrow.Author.Tests.{ltb-true, lt-leb, eqb-true, eqb-false, not-true, not-false}
 use lib.Dec.{eqb, leb, ltb}
 use lib.ListN.{length, get_or, take, drop, length-drop}
 use lib.Seq.{length-take-le}
+use Rattle.std.specs.List.{AllWithin}
+use Rattle.std.proofs.lemmas.List.{get_or-drop}
 use Rattle.xml.specs.Range.{Range, ◌to◌, sign, within}
 use Rattle.xml.specs.Notation.{bytes, among}
 use Rattle.xml.specs.Character.{begins, starts, run}
@@ -20,8 +22,7 @@ use Rattle.utf8.specs.Place.{Stands}
 use Rattle.utf8.proofs.Place.{drop_step, drop_end}
 use Rattle.chars.specs.Space.{space_end}
 use Rattle.chars.specs.Name.{reading_at}
-use Rattle.chars.specs.declared.name.Reading.{Reading}
-use Rattle.chars.specs.declared.name.Reading.TheVariants.{Ends, Fault}
+use Rattle.std.specs.Prelude.{Option, Some, None}
 use Rattle.chars.proofs.Runs.{Running, run_start, run_stands, run_whole, run_on, Ascii, starts_byte, byte_wide}
 use Rattle.readers.specs.Read.{and_then, or_else, or_stay, expect, skip, space_of, given}
 use Rattle.readers.specs.Value.{is_decimal}
@@ -89,41 +90,49 @@ class_ascii Encoding = low_ascii ("A" to "Z" ∷ "a" to "z" ∷ "0" to "9" ∷ s
 class_ascii Other = record { none_high = λ c l. refl }
 class_ascii Standalone = record { none_high = λ c l. refl }
 
--- ---- the loop: from at to i there are characters of the part's class
+-- ---- a run of a part's class ends at the first byte that does not go on, or with the document
 
-pub record Classed (p : Part) (d : List ℕ) (at i : ℕ) : Type 0 where
+-- from at to i there are characters of the part's class
+record Classed (p : Part) (d : List ℕ) (at i : ℕ) : Type 0 where
   pub running : Running (class_of p) d at i
   pub inside : i ≤ length d
 
-pub class_start : {p : Part} {d : List ℕ} {at : ℕ} → at ≤ length d → Classed p d at at
-class_start l = record { running = run_start; inside = l }
+module _ {d : List ℕ} {at : ℕ} (l : at ≤ length d) (p : Part) where
+  class_first : (n : ℕ) → at + n ≤ length d → AllWithin (λ b. class_of p b ≡ true) (drop at d) 0 n → Classed p d at (at + n)
+  class_first zero h w =
+      let none : at + 0 ≡ at = omega arith in
+      rw none (record { running = run_start; inside = l })
+  class_first (suc n) h w =
+      let v = class_first n (omega arith) (λ k e y z. w k e y (omega arith)) in
+      let here : class_of p (get_or d (at + n) 0) ≡ true = rw (← get_or-drop at d n 0) (w n 0 (omega arith) (omega arith)) in
+      let less : at + n < length d = omega arith in
+      let next : at + suc n ≡ at + n + 1 = omega arith in
+      record {
+        running =
+            rw next
+            (run_on v.running (starts_byte (class_ascii p) d (at + n) less ∙ here)
+            (byte_wide (class_ascii p) d (at + n) less here) less);
+        inside = h;
+      }
 
-module _ {p : Part} {d : List ℕ} {at i : ℕ} (v : Classed p d at i) where
-  pub class_over : length d ≤ i → Stands d i (run (class_of p) 0 (drop at d))
-  class_over h = run_whole v.running h v.inside
+  pub class_stop : {n : ℕ} → n < length (drop at d) → class_of p (get_or (drop at d) n 0) ≡ false
+      → AllWithin (λ b. class_of p b ≡ true) (drop at d) 0 n → Stands d (at + n) (run (class_of p) 0 (drop at d))
+  class_stop {n} h e w =
+      let less : at + n < length d = omega (arith, length-drop at d) in
+      let v = class_first n (omega arith) w in
+      run_stands v.running (starts_byte (class_ascii p) d (at + n) less ∙ rw (← get_or-drop at d n 0) e) v.inside
 
-  module _ (h : i < length d) {x : Bool} (q : x ≡ class_of p (get_or d i 0)) where
-    class_starts : {y : Bool} → x ≡ y → starts (class_of p) (drop i d) ≡ y
-    class_starts e = starts_byte (class_ascii p) d i h ∙ sym q ∙ e
-
-    pub class_stop : not x ≡ true → Stands d i (run (class_of p) 0 (drop at d))
-    class_stop n = run_stands v.running (class_starts (not-true x n)) v.inside
-
-    pub class_on : not x ≡ false → Classed p d at (i + 1)
-    class_on y =
-        record {
-          running =
-              run_on v.running (class_starts (not-false x y))
-              (byte_wide (class_ascii p) d i h (sym q ∙ not-false x y)) h;
-          inside = omega arith;
-        }
-
-pub ruleset running = (class_start, class_over, class_stop, class_on)
+  pub class_over : AllWithin (λ b. class_of p b ≡ true) (drop at d) 0 (length (drop at d))
+      → Stands d (length d) (run (class_of p) 0 (drop at d))
+  class_over w =
+      let whole : at + length (drop at d) ≡ length d = omega (arith, length-drop at d) in
+      let v = class_first (length (drop at d)) (omega arith) w in
+      rw whole at (run_whole v.running (omega arith) v.inside)
 
 -- ---- [26] VersionNum
 
 module _ (d : List ℕ) (at : ℕ) {x : Bool} (e : x ≡ begins (bytes "1.") (drop at d)) where
-  pub version_none : not x ≡ true → Answers d at Fault (version_of (drop at d))
+  pub version_none : not x ≡ true → Answers d at None (version_of (drop at d))
   unfolding version_of
   version_none t = then_fault (text_no d at (bytes "1.") e (not-true x t)) _ refl
 
@@ -131,15 +140,15 @@ module _ (d : List ℕ) (at : ℕ) {x : Bool} (e : x ≡ begins (bytes "1.") (dr
     pub version_inside : at + 2 ≤ length d
     version_inside = text_inside d at (bytes "1.") e (not-false x t) (omega arith)
 
-    version_on : {r : Reading} → Answers d (at + 2) r (some_run is_decimal (drop (at + 2) d)) → Answers d at r (version_of (drop at d))
+    version_on : {r : Option ℕ} → Answers d (at + 2) r (some_run is_decimal (drop (at + 2) d)) → Answers d at r (version_of (drop at d))
     unfolding version_of
     version_on a = then_ends (text_yes d at (bytes "1.") e (not-false x t) (omega arith)) _ refl a
 
     module _ {k : ℕ} (s : Stands d k (run is_decimal 0 (drop (at + 2) d))) where
-      pub version_empty : k ≡ at + 2 → Answers d at Fault (version_of (drop at d))
+      pub version_empty : k ≡ at + 2 → Answers d at None (version_of (drop at d))
       version_empty q = version_on (run_none is_decimal d (at + 2) s version_inside q)
 
-      pub version_ends : (k ≡ at + 2 → ⊥) → Answers d at (Ends k) (version_of (drop at d))
+      pub version_ends : (k ≡ at + 2 → ⊥) → Answers d at (Some k) (version_of (drop at d))
       version_ends n = version_on (run_some is_decimal d (at + 2) s version_inside n)
 
 pub ruleset versions = (version_none, version_inside, version_empty, version_ends)
@@ -147,7 +156,7 @@ pub ruleset versions = (version_none, version_inside, version_empty, version_end
 -- ---- [81] EncName
 
 module _ (d : List ℕ) (at : ℕ) where
-  pub encoding_past : length d ≤ at → Answers d at Fault (encoding_of (drop at d))
+  pub encoding_past : length d ≤ at → Answers d at None (encoding_of (drop at d))
   unfolding encoding_of
   encoding_past h = rw (drop_end d at h, starts_nil is_letter) faults
 
@@ -155,12 +164,12 @@ module _ (d : List ℕ) (at : ℕ) where
     letter_starts : {y : Bool} → x ≡ y → starts is_letter (drop at d) ≡ y
     letter_starts e = starts_byte letter_ascii d at h ∙ sym q ∙ e
 
-    pub encoding_none : not x ≡ true → Answers d at Fault (encoding_of (drop at d))
+    pub encoding_none : not x ≡ true → Answers d at None (encoding_of (drop at d))
     unfolding encoding_of
     encoding_none n = rw (letter_starts (not-true x n)) faults
 
     pub encoding_ends : not x ≡ false → {k : ℕ} → Stands d k (run is_encoding 0 (drop at d))
-        → Answers d at (Ends k) (encoding_of (drop at d))
+        → Answers d at (Some k) (encoding_of (drop at d))
     unfolding encoding_of
     encoding_ends y s = rw (letter_starts (not-false x y)) (ends s (run_ahead is_encoding d at s (omega arith)))
 
@@ -216,12 +225,12 @@ pub ruleset utf8ing = (utf8_other, utf8_bytes)
 
 -- ---- an EncName that is not `UTF-8`
 
-module _ {d : List ℕ} {at : ℕ} {r : Reading} (a : Answers d at r (encoding_of (drop at d))) where
-  pub other_fault : r ≡ Fault → Answers d at Fault (other_of (drop at d))
+module _ {d : List ℕ} {at : ℕ} {r : Option ℕ} (a : Answers d at r (encoding_of (drop at d))) where
+  pub other_fault : r ≡ None → Answers d at None (other_of (drop at d))
   unfolding other_of
   other_fault e = then_fault a _ e
 
-  module _ {i : ℕ} (e : r ≡ Ends i) {x : Bool} (q : x ≡ is_utf8 (take (i - at) (drop at d))) where
+  module _ {i : ℕ} (e : r ≡ Some i) {x : Bool} (q : x ≡ is_utf8 (take (i - at) (drop at d))) where
     told : {y : Bool} → x ≡ y → other_of (drop at d) ≡ cond y none (some (drop i d))
     unfolding other_of before
     told g = rw (ends_some a e, long, sym q ∙ g)
@@ -229,10 +238,10 @@ module _ {d : List ℕ} {at : ℕ} {r : Reading} (a : Answers d at r (encoding_o
         long : length (drop at d) - length (drop i d) ≡ i - at
         long = omega (arith, ends_ahead a e, ends_inside a e, length-drop at d, length-drop i d)
 
-    pub other_utf8 : x ≡ true → Answers d at Fault (other_of (drop at d))
+    pub other_utf8 : x ≡ true → Answers d at None (other_of (drop at d))
     other_utf8 g = rw (told g) faults
 
-    pub other_ends : x ≡ false → Answers d at (Ends i) (other_of (drop at d))
+    pub other_ends : x ≡ false → Answers d at (Some i) (other_of (drop at d))
     other_ends g = rw (told g) (ends (record { rest = refl; inside = ends_inside a e }) (ends_ahead a e))
 
 pub ruleset othering = (other_fault, other_utf8, other_ends, ends_ahead, ends_inside)
@@ -240,16 +249,16 @@ pub ruleset othering = (other_fault, other_utf8, other_ends, ends_ahead, ends_in
 -- ---- yes or no
 
 module _ (d : List ℕ) (at : ℕ) {x : Bool} (e : x ≡ begins (bytes "yes") (drop at d)) where
-  pub yes_here : x ≡ true → Answers d at (Ends (at + 3)) (yes_or_no (drop at d))
+  pub yes_here : x ≡ true → Answers d at (Some (at + 3)) (yes_or_no (drop at d))
   unfolding yes_or_no
   yes_here t = or_ends (text_yes d at (bytes "yes") e t (omega arith)) _ refl
 
   module _ (f : x ≡ false) {y : Bool} (g : y ≡ begins (bytes "no") (drop at d)) where
-    pub no_here : y ≡ true → Answers d at (Ends (at + 2)) (yes_or_no (drop at d))
+    pub no_here : y ≡ true → Answers d at (Some (at + 2)) (yes_or_no (drop at d))
     unfolding yes_or_no
     no_here t = or_fault (text_no d at (bytes "yes") e f) refl (text_yes d at (bytes "no") g t (omega arith))
 
-    pub neither : y ≡ false → Answers d at Fault (yes_or_no (drop at d))
+    pub neither : y ≡ false → Answers d at None (yes_or_no (drop at d))
     unfolding yes_or_no
     neither t = or_fault (text_no d at (bytes "yes") e f) refl (text_no d at (bytes "no") g t)
 
@@ -257,7 +266,7 @@ pub ruleset choices = (yes_here, no_here, neither)
 
 -- ---- what stands in the quotes, and the word, by the part
 
-module _ (p : Part) (d : List ℕ) (at : ℕ) {r : Reading} where
+module _ (p : Part) (d : List ℕ) (at : ℕ) {r : Option ℕ} where
   pub body_version : p ≡ Version → Answers d at r (version_of (drop at d)) → Answers d at r (body_of p (drop at d))
   body_version e a = rw e a
 
@@ -274,38 +283,38 @@ pub ruleset bodies = (body_version, body_encoding, body_other, body_standalone)
 
 module _ (p : Part) (d : List ℕ) (at : ℕ) {x : Bool} where
   pub word_version : p ≡ Version → x ≡ begins (bytes "version") (drop at d) → x ≡ true
-      → Answers d at (Ends (at + 7)) (expect (word_of p) (drop at d))
+      → Answers d at (Some (at + 7)) (expect (word_of p) (drop at d))
   word_version q e t = rw q (text_yes d at (bytes "version") e t (omega arith))
 
   pub word_encoding : p ≡ Encoding → x ≡ begins (bytes "encoding") (drop at d) → x ≡ true
-      → Answers d at (Ends (at + 8)) (expect (word_of p) (drop at d))
+      → Answers d at (Some (at + 8)) (expect (word_of p) (drop at d))
   word_encoding q e t = rw q (text_yes d at (bytes "encoding") e t (omega arith))
 
   pub word_named : p ≡ Other → x ≡ begins (bytes "encoding") (drop at d) → x ≡ true
-      → Answers d at (Ends (at + 8)) (expect (word_of p) (drop at d))
+      → Answers d at (Some (at + 8)) (expect (word_of p) (drop at d))
   word_named q e t = rw q (text_yes d at (bytes "encoding") e t (omega arith))
 
   pub word_standalone : p ≡ Standalone → x ≡ begins (bytes "standalone") (drop at d) → x ≡ true
-      → Answers d at (Ends (at + 10)) (expect (word_of p) (drop at d))
+      → Answers d at (Some (at + 10)) (expect (word_of p) (drop at d))
   word_standalone q e t = rw q (text_yes d at (bytes "standalone") e t (omega arith))
 
-  pub word_other : (w : Part) → p ≡ w → x ≡ begins (word_of w) (drop at d) → x ≡ false → Answers d at Fault (expect (word_of p) (drop at d))
+  pub word_other : (w : Part) → p ≡ w → x ≡ begins (word_of w) (drop at d) → x ≡ false → Answers d at None (expect (word_of p) (drop at d))
   word_other w q e t = rw q (text_no d at (word_of w) e t)
 
 pub ruleset wording = (word_version, word_encoding, word_named, word_standalone, word_other)
 
 -- ---- quotes
 
-or_none : {A : Type 0} (o : Option A) → or_else o none ≡ o
+or_none : {A : Type 0} (o : Maybe A) → or_else o none ≡ o
 or_none none = refl
 or_none (some x) = refl
 
-module _ (f : List ℕ → Option (List ℕ)) (d : List ℕ) (at : ℕ) where
-  pub quote_past : length d ≤ at → Answers d at Fault (in_quotes f (drop at d))
+module _ (f : List ℕ → Maybe (List ℕ)) (d : List ℕ) (at : ℕ) where
+  pub quote_past : length d ≤ at → Answers d at None (in_quotes f (drop at d))
   quote_past h = or_fault (then_fault (byte_end d at 0x27 h) _ refl) refl (then_fault (byte_end d at 0x22 h) _ refl)
 
   module _ (h : at < length d) where
-    pub quote_none : not (eqb (get_or d at 0) 0x27) && not (eqb (get_or d at 0) 0x22) ≡ true → Answers d at Fault (in_quotes f (drop at d))
+    pub quote_none : not (eqb (get_or d at 0) 0x27) && not (eqb (get_or d at 0) 0x22) ≡ true → Answers d at None (in_quotes f (drop at d))
     quote_none n =
         let x = eqb-false _ 0x27 (not-true _ (and_left (not (eqb (get_or d at 0) 0x27)) _ n)) in
         let y = eqb-false _ 0x22 (not-true _ (and_right (not (eqb (get_or d at 0) 0x27)) _ n)) in
@@ -332,18 +341,18 @@ module _ (f : List ℕ → Option (List ℕ)) (d : List ℕ) (at : ℕ) where
               let e = eqb-true (get_or d at 0) 0x22 q in rw (other 0x27 p, opens 0x22 e, e)
           go false false p q m = absurd (true≢false m)
 
-      module _ {r : Reading} (a : Answers d (at + 1) r (f (drop (at + 1) d))) where
-        begun : {r' : Reading} → Answers d (at + 1) r' (and_then (f (drop (at + 1) d)) (expect (get_or d at 0 ∷ [])))
+      module _ {r : Option ℕ} (a : Answers d (at + 1) r (f (drop (at + 1) d))) where
+        begun : {r' : Option ℕ} → Answers d (at + 1) r' (and_then (f (drop (at + 1) d)) (expect (get_or d at 0 ∷ [])))
             → Answers d at r' (in_quotes f (drop at d))
         begun b = rw in_quote (then_ends here (λ t. and_then (f t) (expect (get_or d at 0 ∷ []))) refl b)
           where
-            here : Answers d at (Ends (at + 1)) (some (drop (at + 1) d))
+            here : Answers d at (Some (at + 1)) (some (drop (at + 1) d))
             here = ends {e = at + 1} (record { rest = refl; inside = omega arith }) (omega arith)
 
-        pub quote_fault : r ≡ Fault → Answers d at Fault (in_quotes f (drop at d))
+        pub quote_fault : r ≡ None → Answers d at None (in_quotes f (drop at d))
         quote_fault e = begun (then_fault a _ e)
 
-        pub quote_ends : {i : ℕ} {r' : Reading} → r ≡ Ends i → Answers d i r' (expect (get_or d at 0 ∷ []) (drop i d))
+        pub quote_ends : {i : ℕ} {r' : Option ℕ} → r ≡ Some i → Answers d i r' (expect (get_or d at 0 ∷ []) (drop i d))
             → Answers d at r' (in_quotes f (drop at d))
         quote_ends e b = begun (then_ends a _ e b)
 
@@ -351,19 +360,19 @@ pub ruleset quoting = (byte_answers, quote_past, quote_none, quote_fault, quote_
 
 -- ---- a part
 
-module _ (p : Part) {d : List ℕ} {at : ℕ} {r : Reading} (a : Answers d at r (space_of (drop at d))) where
-  pub part_space : r ≡ Fault → Answers d at Fault (part_of p (drop at d))
+module _ (p : Part) {d : List ℕ} {at : ℕ} {r : Option ℕ} (a : Answers d at r (space_of (drop at d))) where
+  pub part_space : r ≡ None → Answers d at None (part_of p (drop at d))
   part_space e = then_fault a _ e
 
-  module _ {i : ℕ} (e : r ≡ Ends i) {r' : Reading} (b : Answers d i r' (expect (word_of p) (drop i d))) where
-    pub part_word : r' ≡ Fault → Answers d at Fault (part_of p (drop at d))
+  module _ {i : ℕ} (e : r ≡ Some i) {r' : Option ℕ} (b : Answers d i r' (expect (word_of p) (drop i d))) where
+    pub part_word : r' ≡ None → Answers d at None (part_of p (drop at d))
     part_word f = then_ends a _ e (then_fault b _ f)
 
-    module _ {j : ℕ} (f : r' ≡ Ends j) {r'' : Reading} (c : Answers d j r'' (eq_of (drop j d))) where
-      pub part_eq : r'' ≡ Fault → Answers d at Fault (part_of p (drop at d))
+    module _ {j : ℕ} (f : r' ≡ Some j) {r'' : Option ℕ} (c : Answers d j r'' (eq_of (drop j d))) where
+      pub part_eq : r'' ≡ None → Answers d at None (part_of p (drop at d))
       part_eq g = then_ends a _ e (then_ends b _ f (then_fault c _ g))
 
-      pub part_quoted : {k : ℕ} {s : Reading} → r'' ≡ Ends k → Answers d k s (in_quotes (body_of p) (drop k d))
+      pub part_quoted : {k : ℕ} {s : Option ℕ} → r'' ≡ Some k → Answers d k s (in_quotes (body_of p) (drop k d))
           → Answers d at s (part_of p (drop at d))
       part_quoted g q = then_ends a _ e (then_ends b _ f (then_ends c _ g q))
 
@@ -371,12 +380,12 @@ pub ruleset parting = (part_space, part_word, part_eq, part_quoted, ends_inside)
 
 -- ---- a part or none
 
-module _ {d : List ℕ} {at : ℕ} {r : Reading} {o : Option (List ℕ)} (a : Answers d at r o) where
-  pub goes_ends : (s : List ℕ) {e : ℕ} → r ≡ Ends e → Goes d at e (or_stay o s)
+module _ {d : List ℕ} {at : ℕ} {r : Option ℕ} {o : Maybe (List ℕ)} (a : Answers d at r o) where
+  pub goes_ends : (s : List ℕ) {e : ℕ} → r ≡ Some e → Goes d at e (or_stay o s)
   goes_ends s q =
       rw (ends_some a q) (record { ahead = ends_ahead a q; stands = record { rest = refl; inside = ends_inside a q } })
 
-  pub goes_stays : r ≡ Fault → at ≤ length d → Goes d at at (or_stay o (drop at d))
+  pub goes_stays : r ≡ None → at ≤ length d → Goes d at at (or_stay o (drop at d))
   goes_stays q l = rw (fault_none a q) (record { ahead = omega arith; stands = record { rest = refl; inside = l } })
 
 pub ruleset staying = (goes_ends, goes_stays)
@@ -384,83 +393,83 @@ pub ruleset staying = (goes_ends, goes_stays)
 -- ---- what stands before the encoding, and behind it
 
 module _ (d : List ℕ) (at : ℕ) {x : Bool} (e : x ≡ begins (bytes "<?xml") (drop at d)) where
-  pub opening_none : not x ≡ true → Answers d at Fault (opening_of (drop at d))
+  pub opening_none : not x ≡ true → Answers d at None (opening_of (drop at d))
   opening_none t = then_fault (text_no d at (bytes "<?xml") e (not-true x t)) _ refl
 
   module _ (t : not x ≡ false) where
     pub opening_inside : at + 5 ≤ length d
     opening_inside = text_inside d at (bytes "<?xml") e (not-false x t) (omega arith)
 
-    pub opening_on : {r : Reading} → Answers d (at + 5) r (part_of Version (drop (at + 5) d)) → Answers d at r (opening_of (drop at d))
+    pub opening_on : {r : Option ℕ} → Answers d (at + 5) r (part_of Version (drop (at + 5) d)) → Answers d at r (opening_of (drop at d))
     opening_on a = then_ends (text_yes d at (bytes "<?xml") e (not-false x t) (omega arith)) _ refl a
 
 pub ruleset opening = (opening_none, opening_inside, opening_on)
 
 module _ {d : List ℕ} {at s : ℕ} (h : Goes d at s (or_stay (part_of Standalone (drop at d)) (drop at d))) {k : ℕ} (q : k ≡ space_end d s)
     {y : Bool} (z : y ≡ begins (bytes "?>") (drop k d)) where
-  closes : {r : Reading} → Answers d k r (expect (bytes "?>") (drop k d)) → Answers d at r (closing_of (drop at d))
+  closes : {r : Option ℕ} → Answers d k r (expect (bytes "?>") (drop k d)) → Answers d at r (closing_of (drop at d))
   closes b =
       on_from (λ u. expect (bytes "?>") (skip u)) h.stands h.ahead
       (on_from (expect (bytes "?>")) (space_stands d s q h.stands.inside) (space_ahead d s q) b)
 
-  pub closing_ends : y ≡ true → Answers d at (Ends (k + 2)) (closing_of (drop at d))
+  pub closing_ends : y ≡ true → Answers d at (Some (k + 2)) (closing_of (drop at d))
   closing_ends c = closes (text_yes d k (bytes "?>") z c (omega arith))
 
-  pub closing_open : y ≡ false → Answers d at Fault (closing_of (drop at d))
+  pub closing_open : y ≡ false → Answers d at None (closing_of (drop at d))
   closing_open c = closes (text_no d k (bytes "?>") z c)
 
 pub ruleset closing = (closing_ends, closing_open)
 
 -- ---- the declaration
 
-then_then : {A B C : Type 0} (o : Option A) (f : A → Option B) (g : B → Option C)
+then_then : {A B C : Type 0} (o : Maybe A) (f : A → Maybe B) (g : B → Maybe C)
     → and_then (and_then o f) g ≡ and_then o (λ t. and_then (f t) g)
 then_then none f g = refl
 then_then (some x) f g = refl
 
 -- what is read behind `<?xml` and a version
-by_opening : (f : List ℕ → Option (List ℕ)) (s : List ℕ) → and_then (opening_of s) (λ u. and_then (f u) closing_of) ≡ declaration_by f s
+by_opening : (f : List ℕ → Maybe (List ℕ)) (s : List ℕ) → and_then (opening_of s) (λ u. and_then (f u) closing_of) ≡ declaration_by f s
 by_opening f s = then_then (expect (bytes "<?xml") s) (part_of Version) (λ u. and_then (f u) closing_of)
 
-module _ {d : List ℕ} {at : ℕ} {r : Reading} (a : Answers d at r (opening_of (drop at d))) where
-  by_none : (f : List ℕ → Option (List ℕ)) → r ≡ Fault → Answers d at Fault (declaration_by f (drop at d))
+module _ {d : List ℕ} {at : ℕ} {r : Option ℕ} (a : Answers d at r (opening_of (drop at d))) where
+  by_none : (f : List ℕ → Maybe (List ℕ)) → r ≡ None → Answers d at None (declaration_by f (drop at d))
   by_none f e = rw (← by_opening f (drop at d)) (then_fault a _ e)
 
-  by_ends : (f : List ℕ → Option (List ℕ)) {v : ℕ} {r' : Reading} → r ≡ Ends v → Answers d v r' (and_then (f (drop v d)) closing_of)
+  by_ends : (f : List ℕ → Maybe (List ℕ)) {v : ℕ} {r' : Option ℕ} → r ≡ Some v → Answers d v r' (and_then (f (drop v d)) closing_of)
       → Answers d at r' (declaration_by f (drop at d))
   by_ends f e b = rw (← by_opening f (drop at d)) (then_ends a (λ u. and_then (f u) closing_of) e b)
 
-  pub not_declared : r ≡ Fault → Fault ≡ reading_at d at (declaration_of (drop at d))
+  pub not_declared : r ≡ None → None ≡ reading_at d at (declaration_of (drop at d))
   unfolding declaration_of
   not_declared e = answers_reading (by_none (λ u. some (or_stay (part_of Encoding u) u)) e)
 
-  pub declared_ends : {v : ℕ} → r ≡ Ends v → {i : ℕ} → Goes d v i (or_stay (part_of Encoding (drop v d)) (drop v d)) → {r' : Reading}
+  pub declared_ends : {v : ℕ} → r ≡ Some v → {i : ℕ} → Goes d v i (or_stay (part_of Encoding (drop v d)) (drop v d)) → {r' : Option ℕ}
       → Answers d i r' (closing_of (drop i d)) → r' ≡ reading_at d at (declaration_of (drop at d))
   unfolding declaration_of
   declared_ends e g b = answers_reading (by_ends (λ u. some (or_stay (part_of Encoding u) u)) e (on_from closing_of g.stands g.ahead b))
 
   -- ---- another encoding
 
-  tells : {r' : Reading} → Answers d at r' (declaration_by (part_of Other) (drop at d)) → {b : Bool}
+  tells : {r' : Option ℕ} → Answers d at r' (declaration_by (part_of Other) (drop at d)) → {b : Bool}
       → given (declaration_by (part_of Other) (drop at d)) ≡ b → b ≡ other_encoding (drop at d)
   unfolding other_encoding
   tells x e = sym e
 
-  pub other_unopened : r ≡ Fault → false ≡ other_encoding (drop at d)
+  pub other_unopened : r ≡ None → false ≡ other_encoding (drop at d)
   other_unopened e = let x = by_none (part_of Other) e in tells x (ap given (fault_none x refl))
 
-  module _ {v : ℕ} (e : r ≡ Ends v) {r' : Reading} (b : Answers d v r' (part_of Other (drop v d))) where
-    pub other_unset : r' ≡ Fault → false ≡ other_encoding (drop at d)
+  module _ {v : ℕ} (e : r ≡ Some v) {r' : Option ℕ} (b : Answers d v r' (part_of Other (drop v d))) where
+    pub other_unset : r' ≡ None → false ≡ other_encoding (drop at d)
     other_unset f = let x = by_ends (part_of Other) e (then_fault b closing_of f) in tells x (ap given (fault_none x refl))
 
-    module _ {i : ℕ} (f : r' ≡ Ends i) {r'' : Reading} (c : Answers d i r'' (closing_of (drop i d))) where
+    module _ {i : ℕ} (f : r' ≡ Some i) {r'' : Option ℕ} (c : Answers d i r'' (closing_of (drop i d))) where
       whole : Answers d at r'' (declaration_by (part_of Other) (drop at d))
       whole = by_ends (part_of Other) e (then_ends b closing_of f c)
 
-      pub other_unclosed : r'' ≡ Fault → false ≡ other_encoding (drop at d)
+      pub other_unclosed : r'' ≡ None → false ≡ other_encoding (drop at d)
       other_unclosed g = tells whole (ap given (fault_none whole g))
 
-      pub other_named : {k : ℕ} → r'' ≡ Ends k → true ≡ other_encoding (drop at d)
+      pub other_named : {k : ℕ} → r'' ≡ Some k → true ≡ other_encoding (drop at d)
       other_named g = tells whole (ap given (ends_some whole g))
 
 pub goes_inside : {d : List ℕ} {at i : ℕ} {t : List ℕ} → Goes d at i t → i ≤ length d

@@ -16,8 +16,7 @@ use Rattle.xml.proofs.Run.{starts_nil}
 use Rattle.utf8.specs.Place.{ends_at}
 use Rattle.utf8.proofs.Place.{drop_step, drop_end}
 use Rattle.chars.specs.Name.{name_of, name_at, reading_at}
-use Rattle.chars.specs.declared.name.Reading.{Reading}
-use Rattle.chars.specs.declared.name.Reading.TheVariants.{Ends, Fault}
+use Rattle.std.specs.Prelude.{Option, Some, None}
 use Rattle.chars.proofs.Runs.{starts_byte}
 use Rattle.chars.proofs.Spaces.{space_ascii}
 use Rattle.readers.specs.Read.{and_then, expect, seek}
@@ -55,39 +54,39 @@ pub ruleset xmling = (xml_other, xml_bytes)
 -- ---- after the target
 
 module _ (d : List ℕ) (at : ℕ) {x : Bool} (e : x ≡ begins (bytes "?>") (drop at d)) where
-  pub end_here : x ≡ true → Answers d at (Ends (at + 2)) (instruction_end (drop at d))
+  pub end_here : x ≡ true → Answers d at (Some (at + 2)) (instruction_end (drop at d))
   unfolding instruction_end
   end_here t = or_ends (text_yes d at (bytes "?>") e t (omega arith)) _ refl
 
   module _ (f : x ≡ false) where
-    goes_on : {r : Reading}
+    goes_on : {r : Option ℕ}
         → Answers d at r (cond (starts is_space (drop at d)) (expect (bytes "?>") (seek (bytes "?>") (drop at d))) none)
         → Answers d at r (instruction_end (drop at d))
     unfolding instruction_end
     goes_on a = or_fault (text_no d at (bytes "?>") e f) refl a
 
-    pub end_past : length d ≤ at → Answers d at Fault (instruction_end (drop at d))
+    pub end_past : length d ≤ at → Answers d at None (instruction_end (drop at d))
     end_past h = goes_on (rw (drop_end d at h, starts_nil is_space) faults)
 
     module _ (h : at < length d) {y : Bool} (s : y ≡ is_space (get_or d at 0)) where
       spaced : {z : Bool} → y ≡ z → starts is_space (drop at d) ≡ z
       spaced q = starts_byte space_ascii d at h ∙ sym s ∙ q
 
-      pub end_other : not y ≡ true → Answers d at Fault (instruction_end (drop at d))
+      pub end_other : not y ≡ true → Answers d at None (instruction_end (drop at d))
       end_other n = goes_on (rw (spaced (not-true y n)) faults)
 
       module _ (n : not y ≡ false) {k : ℕ} (q : k ≡ ends_at d at (seek (bytes "?>") (drop at d))) {z : Bool}
           (g : z ≡ begins (bytes "?>") (drop k d)) where
-        sought : {r : Reading} → Answers d k r (expect (bytes "?>") (drop k d)) → Answers d at r (instruction_end (drop at d))
+        sought : {r : Option ℕ} → Answers d k r (expect (bytes "?>") (drop k d)) → Answers d at r (instruction_end (drop at d))
         sought a =
             goes_on
             (rw (spaced (not-false y n))
             (on_from (expect (bytes "?>")) (seek_stands d at (bytes "?>") q (omega arith)) (sought_ahead d at (bytes "?>") q) a))
 
-        pub end_found : z ≡ true → Answers d at (Ends (k + 2)) (instruction_end (drop at d))
+        pub end_found : z ≡ true → Answers d at (Some (k + 2)) (instruction_end (drop at d))
         end_found t = sought (text_yes d k (bytes "?>") g t (omega arith))
 
-        pub end_never : z ≡ false → Answers d at Fault (instruction_end (drop at d))
+        pub end_never : z ≡ false → Answers d at None (instruction_end (drop at d))
         end_never t = sought (text_no d k (bytes "?>") g t)
 
 pub ruleset ending = (end_here, end_past, end_other, end_found, end_never)
@@ -95,7 +94,7 @@ pub ruleset ending = (end_here, end_past, end_other, end_found, end_never)
 -- ---- the instruction
 
 module _ (d : List ℕ) (at : ℕ) {x : Bool} (e : x ≡ begins (bytes "<?") (drop at d)) where
-  pub not_opened : not x ≡ true → Fault ≡ reading_at d at (instruction_of (drop at d))
+  pub not_opened : not x ≡ true → None ≡ reading_at d at (instruction_of (drop at d))
   unfolding instruction_of
   not_opened t = answers_reading (then_fault (text_no d at (bytes "<?") e (not-true x t)) _ refl)
 
@@ -103,20 +102,20 @@ module _ (d : List ℕ) (at : ℕ) {x : Bool} (e : x ≡ begins (bytes "<?") (dr
     pub opened_inside : at + 2 ≤ length d
     opened_inside = text_inside d at (bytes "<?") e (not-false x t) (omega arith)
 
-    opened : {r : Reading} → Answers d (at + 2) r (and_then (target_of (drop (at + 2) d)) instruction_end)
+    opened : {r : Option ℕ} → Answers d (at + 2) r (and_then (target_of (drop (at + 2) d)) instruction_end)
         → r ≡ reading_at d at (instruction_of (drop at d))
     unfolding instruction_of
     opened a = answers_reading (then_ends (text_yes d at (bytes "<?") e (not-false x t) (omega arith)) _ refl a)
 
-    module _ {r : Reading} (q : r ≡ name_at d (at + 2)) where
+    module _ {r : Option ℕ} (q : r ≡ name_at d (at + 2)) where
       named : Answers d (at + 2) r (name_of (drop (at + 2) d))
       named = name_answers d (at + 2) q
 
-      pub no_target : r ≡ Fault → Fault ≡ reading_at d at (instruction_of (drop at d))
+      pub no_target : r ≡ None → None ≡ reading_at d at (instruction_of (drop at d))
       unfolding target_of
       no_target n = opened (then_fault (then_fault named _ n) instruction_end refl)
 
-      module _ {i : ℕ} (n : r ≡ Ends i) where
+      module _ {i : ℕ} (n : r ≡ Some i) where
         pub target_ahead : at + 2 ≤ i
         target_ahead = ends_ahead named n
 
@@ -131,14 +130,14 @@ module _ (d : List ℕ) (at : ℕ) {x : Bool} (e : x ≡ begins (bytes "<?") (dr
               long : length (drop (at + 2) d) - length (drop i d) ≡ i - (at + 2)
               long = omega (arith, target_ahead, target_inside, length-drop (at + 2) d, length-drop i d)
 
-          pub target_reserved : y ≡ true → Fault ≡ reading_at d at (instruction_of (drop at d))
+          pub target_reserved : y ≡ true → None ≡ reading_at d at (instruction_of (drop at d))
           target_reserved g = opened (rw (target g) faults)
 
-          pub target_free : y ≡ false → {r' : Reading} → Answers d i r' (instruction_end (drop i d))
+          pub target_free : y ≡ false → {r' : Option ℕ} → Answers d i r' (instruction_end (drop i d))
               → r' ≡ reading_at d at (instruction_of (drop at d))
           target_free g a = opened (then_ends found instruction_end refl a)
             where
-              found : Answers d (at + 2) (Ends i) (target_of (drop (at + 2) d))
+              found : Answers d (at + 2) (Some i) (target_of (drop (at + 2) d))
               found = rw (target g) (ends (record { rest = refl; inside = target_inside }) target_ahead)
 
 pub ruleset instructing = (not_opened, opened_inside, no_target, target_ahead, target_inside, target_reserved, target_free)

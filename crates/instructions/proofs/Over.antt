@@ -14,8 +14,7 @@ use Rattle.xml.proofs.Run.{run_stop, run_stops, run_length}
 use Rattle.utf8.specs.Place.{Stands}
 use Rattle.utf8.proofs.Place.{stands_one}
 use Rattle.chars.specs.Space.{space_end}
-use Rattle.chars.specs.declared.name.Reading.{Reading}
-use Rattle.chars.specs.declared.name.Reading.TheVariants.{Ends, Fault}
+use Rattle.std.specs.Prelude.{Option, Some, None}
 use Rattle.readers.specs.Read.{expect, skip, space_of}
 use Rattle.readers.specs.Named.{eq_of, some_run}
 use Rattle.readers.specs.Answer.{Answers, ends, faults}
@@ -38,26 +37,26 @@ module _ (p : ℕ → Bool) (d : List ℕ) (at : ℕ) {k : ℕ} (s : Stands d k 
       let m : k ≤ length d = s.inside in
       omega (arith, run_length p (drop at d), ap length s.rest, length-drop at d, length-drop k d)
 
-  pub run_none : k ≡ at → Answers d at Fault (some_run p (drop at d))
+  pub run_none : k ≡ at → Answers d at None (some_run p (drop at d))
   run_none e =
       let z : run p 0 (drop at d) ≡ drop at d = sym s.rest ∙ ap (λ (i : ℕ). drop i d) e in
       rw (ap (starts p) (sym z) ∙ run_stops p (drop at d)) faults
 
-  pub run_some : (k ≡ at → ⊥) → Answers d at (Ends k) (some_run p (drop at d))
+  pub run_some : (k ≡ at → ⊥) → Answers d at (Some k) (some_run p (drop at d))
   run_some n = go (starts p (drop at d)) refl
     where
-      go : (b : Bool) → starts p (drop at d) ≡ b → Answers d at (Ends k) (some_run p (drop at d))
+      go : (b : Bool) → starts p (drop at d) ≡ b → Answers d at (Some k) (some_run p (drop at d))
       go true h = rw h (ends s run_ahead)
       go false h = absurd (n (stands_one s (record { rest = sym (run_stop p (drop at d) h); inside = l })))
 
 -- ---- S
 
 module _ (d : List ℕ) (at : ℕ) {r : ℕ} (e : r ≡ space_end d at) (l : at ≤ length d) where
-  pub space_none : r ≡ at → Answers d at Fault (space_of (drop at d))
+  pub space_none : r ≡ at → Answers d at None (space_of (drop at d))
   unfolding skip space_of
   space_none q = run_none is_space d at (space_stands d at e l) l q
 
-  pub space_some : (r ≡ at → ⊥) → Answers d at (Ends r) (space_of (drop at d))
+  pub space_some : (r ≡ at → ⊥) → Answers d at (Some r) (space_of (drop at d))
   unfolding skip space_of
   space_some n = run_some is_space d at (space_stands d at e l) l n
 
@@ -65,16 +64,16 @@ pub ruleset spacing = (space_none, space_some)
 
 -- ---- [25] Eq
 
-module _ (d : List ℕ) (at : ℕ) {k : ℕ} (e : k ≡ space_end d at) (l : at ≤ length d) {r : Reading}
+module _ (d : List ℕ) (at : ℕ) {k : ℕ} (e : k ≡ space_end d at) (l : at ≤ length d) {r : Option ℕ}
     (a : Answers d k r (expect (0x3D ∷ []) (drop k d))) where
   found : expect (0x3D ∷ []) (skip (drop at d)) ≡ expect (0x3D ∷ []) (drop k d)
   found = ap (expect (0x3D ∷ [])) (sym (space_stands d at e l).rest)
 
-  pub eq_fault : r ≡ Fault → Answers d at Fault (eq_of (drop at d))
+  pub eq_fault : r ≡ None → Answers d at None (eq_of (drop at d))
   unfolding eq_of
   eq_fault q = rw (found, fault_none a q) faults
 
-  pub eq_ends : {i f : ℕ} → r ≡ Ends i → f ≡ space_end d i → Answers d at (Ends f) (eq_of (drop at d))
+  pub eq_ends : {i f : ℕ} → r ≡ Some i → f ≡ space_end d i → Answers d at (Some f) (eq_of (drop at d))
   unfolding eq_of
   eq_ends {i} {f} q g =
       let m = space_ahead d at e in

@@ -12,7 +12,6 @@ ghost use Rattle.readers.specs.Answer.{Answers};
 ghost use Rattle.instructions.specs.Part.{Goes, class_of, word_of, body_of, part_of, opening_of, closing_of};
 
 use crate::steps::{eq, is_one_of, space};
-use chars::name::Reading;
 use chars::space::after_space;
 use chars::text::stands;
 use scans::byte::after_byte;
@@ -50,43 +49,39 @@ fn after_class(doc: &[u8], at: usize, part: Part) -> usize
     requires { at ≤ length doc.now }
     ensures { Stands doc.now result (run (class_of part) 0 (drop at doc.now)) }
 {
-    let mut i = at;
-    while i < doc.len() {
-        if !goes_on(doc[i], part) {
-            return i;
-        }
-        i += 1;
+    match doc[at..].iter().position(|&b| !goes_on(b, part)) {
+        Some(n) => at + n,
+        None => doc.len(),
     }
-    i
 }
 
 // [26] VersionNum: `1.` and one digit or more.
-fn version(doc: &[u8], at: usize) -> Reading
+fn version(doc: &[u8], at: usize) -> Option<usize>
     requires { at ≤ length doc.now }
     ensures { Answers doc.now at result (version_of (drop at doc.now)) }
 {
     if !stands(doc, at, b"1.") {
-        return Reading::Fault;
+        return None;
     }
     let e = after_class(doc, at + 2, Part::Version);
     if e == at + 2 {
-        return Reading::Fault;
+        return None;
     }
-    Reading::Ends(e)
+    Some(e)
 }
 
 // [81] EncName: a letter, and what goes on with it.
-fn encoding(doc: &[u8], at: usize) -> Reading
+fn encoding(doc: &[u8], at: usize) -> Option<usize>
     requires { at ≤ length doc.now }
     ensures { Answers doc.now at result (encoding_of (drop at doc.now)) }
 {
     if at >= doc.len() {
-        return Reading::Fault;
+        return None;
     }
     if !is_letter(doc[at]) {
-        return Reading::Fault;
+        return None;
     }
-    Reading::Ends(after_class(doc, at, Part::Encoding))
+    Some(after_class(doc, at, Part::Encoding))
 }
 
 // Whether the bytes from a place to another are `UTF-8`, in any case.
@@ -105,36 +100,32 @@ fn is_utf8(doc: &[u8], from: usize, to: usize) -> bool
 }
 
 // [81] EncName, but not `UTF-8`.
-fn other(doc: &[u8], at: usize) -> Reading
+fn other(doc: &[u8], at: usize) -> Option<usize>
     requires { at ≤ length doc.now }
     ensures { Answers doc.now at result (other_of (drop at doc.now)) }
 {
-    match encoding(doc, at) {
-        Reading::Ends(e) => {
-            if is_utf8(doc, at, e) {
-                return Reading::Fault;
-            }
-            Reading::Ends(e)
-        }
-        Reading::Fault => Reading::Fault,
+    let e = encoding(doc, at)?;
+    if is_utf8(doc, at, e) {
+        return None;
     }
+    Some(e)
 }
 
-fn yes_or_no(doc: &[u8], at: usize) -> Reading
+fn yes_or_no(doc: &[u8], at: usize) -> Option<usize>
     requires { at ≤ length doc.now }
     ensures { Answers doc.now at result (yes_or_no (drop at doc.now)) }
 {
     if stands(doc, at, b"yes") {
-        return Reading::Ends(at + 3);
+        return Some(at + 3);
     }
     if stands(doc, at, b"no") {
-        return Reading::Ends(at + 2);
+        return Some(at + 2);
     }
-    Reading::Fault
+    None
 }
 
 // What stands in the quotes of a part.
-fn body(doc: &[u8], at: usize, part: Part) -> Reading
+fn body(doc: &[u8], at: usize, part: Part) -> Option<usize>
     requires { at ≤ length doc.now }
     ensures { Answers doc.now at result (body_of part (drop at doc.now)) }
 {
@@ -147,67 +138,59 @@ fn body(doc: &[u8], at: usize, part: Part) -> Reading
 }
 
 // That in quotes, of either kind.
-fn quoted(doc: &[u8], at: usize, part: Part) -> Reading
+fn quoted(doc: &[u8], at: usize, part: Part) -> Option<usize>
     requires { at ≤ length doc.now }
     ensures { Answers doc.now at result (in_quotes (body_of part) (drop at doc.now)) }
 {
     if at >= doc.len() {
-        return Reading::Fault;
+        return None;
     }
     let q = doc[at];
     if (q != 0x27) & (q != 0x22) {
-        return Reading::Fault;
+        return None;
     }
-    match body(doc, at + 1, part) {
-        Reading::Ends(e) => after_byte(doc, e, q),
-        Reading::Fault => Reading::Fault,
-    }
+    let e = body(doc, at + 1, part)?;
+    after_byte(doc, e, q)
 }
 
 // The word of a part.
-fn word(doc: &[u8], at: usize, part: Part) -> Reading
+fn word(doc: &[u8], at: usize, part: Part) -> Option<usize>
     requires { at ≤ length doc.now }
     ensures { Answers doc.now at result (expect (word_of part) (drop at doc.now)) }
 {
     match part {
         Part::Version => {
             if stands(doc, at, b"version") {
-                return Reading::Ends(at + 7);
+                return Some(at + 7);
             }
         }
         Part::Encoding => {
             if stands(doc, at, b"encoding") {
-                return Reading::Ends(at + 8);
+                return Some(at + 8);
             }
         }
         Part::Other => {
             if stands(doc, at, b"encoding") {
-                return Reading::Ends(at + 8);
+                return Some(at + 8);
             }
         }
         Part::Standalone => {
             if stands(doc, at, b"standalone") {
-                return Reading::Ends(at + 10);
+                return Some(at + 10);
             }
         }
     }
-    Reading::Fault
+    None
 }
 
 // A part: white space, its word, `=`, and what stands in its quotes.
-fn setting(doc: &[u8], at: usize, part: Part) -> Reading
+fn setting(doc: &[u8], at: usize, part: Part) -> Option<usize>
     requires { at ≤ length doc.now }
     ensures { Answers doc.now at result (part_of part (drop at doc.now)) }
 {
-    let Reading::Ends(a) = space(doc, at) else {
-        return Reading::Fault;
-    };
-    let Reading::Ends(b) = word(doc, a, part) else {
-        return Reading::Fault;
-    };
-    let Reading::Ends(c) = eq(doc, b) else {
-        return Reading::Fault;
-    };
+    let a = space(doc, at)?;
+    let b = word(doc, a, part)?;
+    let c = eq(doc, b)?;
     quoted(doc, c, part)
 }
 
@@ -217,41 +200,39 @@ fn optional(doc: &[u8], at: usize, part: Part) -> usize
     ensures { Goes doc.now at result (or_stay (part_of part (drop at doc.now)) (drop at doc.now)) }
 {
     match setting(doc, at, part) {
-        Reading::Ends(e) => e,
-        Reading::Fault => at,
+        Some(e) => e,
+        None => at,
     }
 }
 
 // What stands before the encoding: `<?xml` and a version.
-fn opening(doc: &[u8], at: usize) -> Reading
+fn opening(doc: &[u8], at: usize) -> Option<usize>
     ensures { Answers doc.now at result (opening_of (drop at doc.now)) }
 {
     if !stands(doc, at, b"<?xml") {
-        return Reading::Fault;
+        return None;
     }
     setting(doc, at + 5, Part::Version)
 }
 
 // What stands behind the encoding: `standalone` or not, white space or not, and `?>`.
-fn closing(doc: &[u8], at: usize) -> Reading
+fn closing(doc: &[u8], at: usize) -> Option<usize>
     requires { at ≤ length doc.now }
     ensures { Answers doc.now at result (closing_of (drop at doc.now)) }
 {
     let s = optional(doc, at, Part::Standalone);
     let k = after_space(doc, s);
     if stands(doc, k, b"?>") {
-        return Reading::Ends(k + 2);
+        return Some(k + 2);
     }
-    Reading::Fault
+    None
 }
 
 // The declaration at a place.
-pub fn declaration(doc: &[u8], at: usize) -> Reading
+pub fn declaration(doc: &[u8], at: usize) -> Option<usize>
     ensures { result ≡ reading_at doc.now at (declaration_of (drop at doc.now)) }
 {
-    let Reading::Ends(v) = opening(doc, at) else {
-        return Reading::Fault;
-    };
+    let v = opening(doc, at)?;
     let e = optional(doc, v, Part::Encoding);
     closing(doc, e)
 }
@@ -260,14 +241,14 @@ pub fn declaration(doc: &[u8], at: usize) -> Reading
 pub fn names_other(doc: &[u8], at: usize) -> bool
     ensures { result ≡ other_encoding (drop at doc.now) }
 {
-    let Reading::Ends(v) = opening(doc, at) else {
+    let Some(v) = opening(doc, at) else {
         return false;
     };
-    let Reading::Ends(e) = setting(doc, v, Part::Other) else {
+    let Some(e) = setting(doc, v, Part::Other) else {
         return false;
     };
     match closing(doc, e) {
-        Reading::Ends(_) => true,
-        Reading::Fault => false,
+        Some(_) => true,
+        None => false,
     }
 }

@@ -1,16 +1,15 @@
 // [16] PI: `<?`, a target that is not `xml` in any case, and then `?>`, or white space and all up to the first `?>`.
 // The class table is lent, since names are read by it.
 ghost use Rattle.std.specs.Prelude.{◌≡◌, ◌-◌, ◌≤◌, length, take, drop};
-ghost use Rattle.points.specs.Class.{class_table};
 ghost use Rattle.chars.specs.Name.{reading_at};
 ghost use Rattle.readers.specs.Named.{is_xml, instruction_end, instruction_of};
 ghost use Rattle.readers.specs.Answer.{Answers};
 
 use crate::steps::is_one_of;
-use chars::name::{Reading, name_by};
+use chars::name::name_by;
 use chars::space::is_space;
 use chars::text::stands;
-use points::table::Classes;
+use points::class::Classes;
 use scans::seek::seek;
 
 // Whether the bytes from a place to another are `xml`, in any case.
@@ -27,41 +26,36 @@ fn is_xml(doc: &[u8], from: usize, to: usize) -> bool
 }
 
 // After the target: `?>`, or white space and all up to the first `?>`.
-fn instruction_end(doc: &[u8], at: usize) -> Reading
+fn instruction_end(doc: &[u8], at: usize) -> Option<usize>
     requires { at ≤ length doc.now }
     ensures { Answers doc.now at result (instruction_end (drop at doc.now)) }
 {
     if stands(doc, at, b"?>") {
-        return Reading::Ends(at + 2);
+        return Some(at + 2);
     }
     if at >= doc.len() {
-        return Reading::Fault;
+        return None;
     }
     if !is_space(doc[at]) {
-        return Reading::Fault;
+        return None;
     }
     let k = seek(doc, at, b"?>");
     if stands(doc, k, b"?>") {
-        return Reading::Ends(k + 2);
+        return Some(k + 2);
     }
-    Reading::Fault
+    None
 }
 
 // The instruction at a place.
-pub fn instruction(classes: &Classes, doc: &[u8], at: usize) -> Reading
-    requires { classes.now ≡ class_table }
+pub fn instruction(classes: &Classes, doc: &[u8], at: usize) -> Option<usize>
     ensures { result ≡ reading_at doc.now at (instruction_of (drop at doc.now)) }
 {
     if !stands(doc, at, b"<?") {
-        return Reading::Fault;
+        return None;
     }
-    match name_by(classes, doc, at + 2) {
-        Reading::Ends(e) => {
-            if is_xml(doc, at + 2, e) {
-                return Reading::Fault;
-            }
-            instruction_end(doc, e)
-        }
-        Reading::Fault => Reading::Fault,
+    let e = name_by(classes, doc, at + 2)?;
+    if is_xml(doc, at + 2, e) {
+        return None;
     }
+    instruction_end(doc, e)
 }

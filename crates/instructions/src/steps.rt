@@ -6,7 +6,6 @@ ghost use Rattle.readers.specs.Read.{space_of};
 ghost use Rattle.readers.specs.Named.{eq_of};
 ghost use Rattle.readers.specs.Answer.{Answers};
 
-use chars::name::Reading;
 use chars::space::after_space;
 use scans::byte::after_byte;
 
@@ -18,25 +17,23 @@ pub fn is_one_of(b: u8, x: u8, y: u8) -> bool
 }
 
 // [3] S: one white space or more.
-pub fn space(doc: &[u8], at: usize) -> Reading
+pub fn space(doc: &[u8], at: usize) -> Option<usize>
     requires { at ≤ length doc.now }
     ensures { Answers doc.now at result (space_of (drop at doc.now)) }
 {
     let e = after_space(doc, at);
     if e == at {
-        return Reading::Fault;
+        return None;
     }
-    Reading::Ends(e)
+    Some(e)
 }
 
 // [25] Eq: `=` with white space around it, or none.
-pub fn eq(doc: &[u8], at: usize) -> Reading
+pub fn eq(doc: &[u8], at: usize) -> Option<usize>
     requires { at ≤ length doc.now }
     ensures { Answers doc.now at result (eq_of (drop at doc.now)) }
 {
     let k = after_space(doc, at);
-    match after_byte(doc, k, b'=') {
-        Reading::Ends(i) => Reading::Ends(after_space(doc, i)),
-        Reading::Fault => Reading::Fault,
-    }
+    let i = after_byte(doc, k, b'=')?;
+    Some(after_space(doc, i))
 }

@@ -15,6 +15,8 @@ pub fn read_full<R: Read>(reader: &mut R, buf: &mut [u8]) -> (usize, io::Result<
     ensures end { OnOk result.1 (result.0 < length buf.new → IsAtEnd (R.remaining reader.new)) }
 {
     let mut done = 0;
+
+    // A read gives any number of bytes, so the place is no count.
     while done < buf.len() {
         match reader.read(&mut buf[done..]) {
             Ok(0) => break,

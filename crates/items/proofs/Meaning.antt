@@ -3,7 +3,7 @@
 use mathlib.Core.Path.{◌≡◌, refl, sym, ap, ◌∙◌}
 use mathlib.Core.Bool.{Bool, true, false, cond}
 use mathlib.Core.List.{List, [], ◌∷◌}
-use mathlib.Core.Option.{Option, none, some, none-ne-some}
+use mathlib.Core.Option.{Option as Maybe, none, some, none-ne-some}
 use Prim.Native.Nat.{ℕ, suc, ◌≤◌}
 use native.Mathlib.Omega.{arith}
 use borrow.Author.Tests.{leb-true, leb-false, le-leb}
@@ -16,7 +16,7 @@ use Rattle.xml.proofs.Bools.{and_left, and_right, and_both, true-false}
 use Rattle.utf8.specs.Place.{ends_at}
 use Rattle.utf8.proofs.Place.{stands_one, drop_end}
 use Rattle.chars.specs.Name.{reading_at}
-use Rattle.chars.specs.declared.name.Reading.TheVariants.{Ends, Fault}
+use Rattle.std.specs.Prelude.{Option, Some, None}
 use Rattle.readers.specs.Plain.{text_of, comment_of, section_of}
 use Rattle.readers.specs.Value.{reference_of}
 use Rattle.readers.specs.Named.{Piece, Tag, instruction_of, declaration_of, tag_of, end_tag_of, small_all, small_tag, repeated}
@@ -29,8 +29,6 @@ use Rattle.readers.proofs.Says.{declaration_says, declaration_only, instruction_
 use Rattle.readers.proofs.Says.{section_says, section_only, text_says, text_only}
 use Rattle.references.specs.Say.{saying_at}
 use Rattle.references.specs.Meaning.{ReferenceSays}
-use Rattle.references.specs.declared.reference.Saying.{Saying}
-use Rattle.references.specs.declared.reference.Saying.TheVariants.{Says as Refers, Fault as NoReference}
 use Rattle.references.proofs.Meaning.{reference_says, reference_only}
 use Rattle.tags.specs.Tag.{start_placed, start_by, tag_at, finish_by, end_tag_at}
 use Rattle.tags.specs.declared.Item.{Item}
@@ -120,7 +118,7 @@ module _ (d : List ℕ) (at : ℕ) (c : Chars (drop at d)) where
           )
       sized v q false h = large_start (tag_sound c q) (λ k. true-false (small_is v k) h)
 
-      go : (o : Option Tag) → tag_of (drop at d) ≡ o → KindSays start d at (start_by d at o)
+      go : (o : Maybe Tag) → tag_of (drop at d) ≡ o → KindSays start d at (start_by d at o)
       go none q = λ v x. none-ne-some v (sym q ∙ tag_complete c x)
       go (some v) q = sized v q (small_tag v) refl
 
@@ -138,7 +136,7 @@ module _ (d : List ℕ) (at : ℕ) (c : Chars (drop at d)) where
   unfolding tag_at
   no_tag n = go (tag_of (drop at d)) refl
     where
-      go : (o : Option Tag) → tag_of (drop at d) ≡ o → Malformed ≡ start_by d at o
+      go : (o : Maybe Tag) → tag_of (drop at d) ≡ o → Malformed ≡ start_by d at o
       go none q = refl
       go (some v) q = absurd (n v (tag_sound c q))
 
@@ -167,7 +165,7 @@ module _ (d : List ℕ) (at : ℕ) (c : Chars (drop at d)) where
           )
       sized v q false h = large_finish (end_tag_sound c q) (λ l. true-false (le-leb (length v.name) 255 l) h)
 
-      go : (o : Option Piece) → end_tag_of (drop at d) ≡ o → KindSays finish d at (finish_by d at o)
+      go : (o : Maybe Piece) → end_tag_of (drop at d) ≡ o → KindSays finish d at (finish_by d at o)
       go none q = λ v x. none-ne-some v (sym q ∙ end_tag_complete c x)
       go (some v) q = sized v q (leb (length v.name) 255) refl
 
@@ -184,7 +182,7 @@ module _ (d : List ℕ) (at : ℕ) (c : Chars (drop at d)) where
   unfolding end_tag_at
   no_end_tag n = go (end_tag_of (drop at d)) refl
     where
-      go : (o : Option Piece) → end_tag_of (drop at d) ≡ o → Malformed ≡ finish_by d at o
+      go : (o : Maybe Piece) → end_tag_of (drop at d) ≡ o → Malformed ≡ finish_by d at o
       go none q = refl
       go (some v) q = absurd (n v (end_tag_sound c q))
 
@@ -196,15 +194,15 @@ module _ (d : List ℕ) (at : ℕ) (c : Chars (drop at d)) where
   -- ---- readings
 
   -- an item of the kind f, or a broken production, says what the reading says
-  by_says : (P : Item → Type 0) (f : ℕ → Item) (R : List ℕ → List ℕ → Type 0) (o : Option (List ℕ))
-      → ((e : ℕ) → Says R d at (Ends e) → P (f e)) → (Says R d at Fault → P Malformed) → Says R d at (reading_at d at o)
+  by_says : (P : Item → Type 0) (f : ℕ → Item) (R : List ℕ → List ℕ → Type 0) (o : Maybe (List ℕ))
+      → ((e : ℕ) → Says R d at (Some e) → P (f e)) → (Says R d at None → P Malformed) → Says R d at (reading_at d at o)
       → P (item_by f d at o)
   by_says P f R none y n x = n x
   by_says P f R (some t) y n x = y _ x
 
-  by_saying : (r : Saying) → ReferenceSays d at r → KindSays reference d at (reference_item r)
-  by_saying (Refers n e) x = (refl, x)
-  by_saying NoReference x = x
+  by_saying : (r : Option (ℕ × ℕ)) → ReferenceSays d at r → KindSays reference d at (reference_item r)
+  by_saying (Some (n, e)) x = (refl, x)
+  by_saying None x = x
 
   kind_says : (k : Kind) → at ≤ length d → KindSays k d at (item_of k d at)
   kind_says declaration l =
@@ -228,15 +226,15 @@ module _ (d : List ℕ) (at : ℕ) (c : Chars (drop at d)) where
   kind_says nothing l = refl
 
   broken_only : (k : Kind) → Broken k d at → Malformed ≡ item_of k d at
-  broken_only declaration n = by_fault Declaration d at (declaration_of (drop at d)) (declaration_only d at c Fault n) refl
-  broken_only instruction n = by_fault Instruction d at (instruction_of (drop at d)) (instruction_only d at c Fault n) refl
-  broken_only comment n = by_fault Comment d at (comment_of (drop at d)) (comment_only d at c Fault n) refl
-  broken_only section n = by_fault Section d at (section_of (drop at d)) (section_only d at c Fault n) refl
+  broken_only declaration n = by_fault Declaration d at (declaration_of (drop at d)) (declaration_only d at c None n) refl
+  broken_only instruction n = by_fault Instruction d at (instruction_of (drop at d)) (instruction_only d at c None n) refl
+  broken_only comment n = by_fault Comment d at (comment_of (drop at d)) (comment_only d at c None n) refl
+  broken_only section n = by_fault Section d at (section_of (drop at d)) (section_only d at c None n) refl
   broken_only doctype n = absurd n
   broken_only finish n = no_end_tag n
   broken_only start n = no_tag n
-  broken_only reference n = ap reference_item (reference_only d at NoReference n)
-  broken_only text n = by_fault Text d at (text_of (drop at d)) (text_only d at c Fault n) refl
+  broken_only reference n = ap reference_item (reference_only d at None n)
+  broken_only text n = by_fault Text d at (text_of (drop at d)) (text_only d at c None n) refl
   broken_only nothing n = absurd n
 
   large_only : (k : Kind) → Large d at k → TooLarge ≡ item_of k d at
@@ -248,15 +246,15 @@ module _ (d : List ℕ) (at : ℕ) (c : Chars (drop at d)) where
 
   kind_only : (k : Kind) (i : Item) → KindSays k d at i → i ≡ item_of k d at
   kind_only k (Declaration e) (q, x) =
-      by_ends Declaration d at (declaration_of (drop at d)) (declaration_only d at c (Ends e) x) refl ∙ of_kind q
+      by_ends Declaration d at (declaration_of (drop at d)) (declaration_only d at c (Some e) x) refl ∙ of_kind q
   kind_only k (Instruction e) (q, x) =
-      by_ends Instruction d at (instruction_of (drop at d)) (instruction_only d at c (Ends e) x) refl ∙ of_kind q
-  kind_only k (Comment e) (q, x) = by_ends Comment d at (comment_of (drop at d)) (comment_only d at c (Ends e) x) refl ∙ of_kind q
-  kind_only k (Section e) (q, x) = by_ends Section d at (section_of (drop at d)) (section_only d at c (Ends e) x) refl ∙ of_kind q
+      by_ends Instruction d at (instruction_of (drop at d)) (instruction_only d at c (Some e) x) refl ∙ of_kind q
+  kind_only k (Comment e) (q, x) = by_ends Comment d at (comment_of (drop at d)) (comment_only d at c (Some e) x) refl ∙ of_kind q
+  kind_only k (Section e) (q, x) = by_ends Section d at (section_of (drop at d)) (section_only d at c (Some e) x) refl ∙ of_kind q
   kind_only k (Finish n e) (q, x) = finish_only x ∙ of_kind q
   kind_only k (Start n h e empty twice) (q, x) = start_only x ∙ of_kind q
-  kind_only k (Reference n e) (q, x) = ap reference_item (reference_only d at (Refers n e) x) ∙ of_kind q
-  kind_only k (Text e) (q, x) = by_ends Text d at (text_of (drop at d)) (text_only d at c (Ends e) x) refl ∙ of_kind q
+  kind_only k (Reference n e) (q, x) = ap reference_item (reference_only d at (Some (n, e)) x) ∙ of_kind q
+  kind_only k (Text e) (q, x) = by_ends Text d at (text_of (drop at d)) (text_only d at c (Some e) x) refl ∙ of_kind q
   kind_only k Doctype q = of_kind q
   kind_only k Malformed n = broken_only k n
   kind_only k TooLarge x = large_only k x

@@ -3,7 +3,7 @@
 use mathlib.Core.Path.{◌≡◌, refl, sym, ap, ◌∙◌}
 use mathlib.Core.Bool.{Bool, true, false, not, ◌&&◌, and-false}
 use mathlib.Core.List.{List, [], ◌∷◌}
-use mathlib.Core.Option.{Option, none, some}
+use mathlib.Core.Option.{Option as Maybe, none, some}
 use Prim.Native.Nat.{ℕ, ◌+◌, ◌-◌, ◌^◌, ◌≤◌, ◌<◌}
 use mathlib.Core.Logic.{⊎_elim}
 use native.Mathlib.Nat.{eq-or-lt_of_le}
@@ -19,8 +19,7 @@ use Rattle.xml.specs.Productions.{is_space}
 use Rattle.xml.proofs.Run.{starts_nil}
 use Rattle.utf8.proofs.Place.{drop_step, drop_end}
 use Rattle.chars.specs.Name.{reading_at}
-use Rattle.chars.specs.declared.name.Reading.{Reading}
-use Rattle.chars.specs.declared.name.Reading.TheVariants.{Ends, Fault}
+use Rattle.std.specs.Prelude.{Option, Some, None}
 use Rattle.chars.proofs.Runs.{starts_byte}
 use Rattle.chars.proofs.Spaces.{space_ascii}
 use Rattle.readers.specs.Plain.{text_of, comment_of, section_of}
@@ -29,8 +28,6 @@ use Rattle.readers.specs.Named.{instruction_of, declaration_of}
 use Rattle.readers.proofs.Answers.{text_inside}
 use Rattle.tags.specs.Tag.{tag_at, end_tag_at}
 use Rattle.references.specs.Say.{saying_at}
-use Rattle.references.specs.declared.reference.Saying.{Saying}
-use Rattle.references.specs.declared.reference.Saying.TheVariants.{Says, Fault as NoReference}
 use Rattle.tags.specs.declared.Item.{Item}
 use Rattle.tags.specs.declared.Item.TheVariants.{Declaration, Instruction, Comment, Section, Reference, Text}
 use Rattle.tags.specs.declared.Item.TheVariants.{Doctype, Malformed, Nothing}
@@ -137,22 +134,22 @@ pub ruleset declaring = (declared_inside, declared_late, declared_none, declared
 
 -- ---- a reading as an item
 
-abbrev item_from : (ℕ → Item) → Reading → Item
-item_from f (Ends e) = f e
-item_from f Fault = Malformed
+abbrev item_from : (ℕ → Item) → Option ℕ → Item
+item_from f (Some e) = f e
+item_from f None = Malformed
 
-module _ (f : ℕ → Item) (d : List ℕ) (at : ℕ) (o : Option (List ℕ)) {r : Reading} (e : r ≡ reading_at d at o) where
+module _ (f : ℕ → Item) (d : List ℕ) (at : ℕ) (o : Maybe (List ℕ)) {r : Option ℕ} (e : r ≡ reading_at d at o) where
   from_reading : item_from f r ≡ item_by f d at o
   from_reading = ap (item_from f) e ∙ go o
     where
-      go : (o : Option (List ℕ)) → item_from f (reading_at d at o) ≡ item_by f d at o
+      go : (o : Maybe (List ℕ)) → item_from f (reading_at d at o) ≡ item_by f d at o
       go none = refl
       go (some t) = refl
 
-  pub by_ends : {i : ℕ} → r ≡ Ends i → f i ≡ item_by f d at o
+  pub by_ends : {i : ℕ} → r ≡ Some i → f i ≡ item_by f d at o
   by_ends q = ap (item_from f) (sym q) ∙ from_reading
 
-  pub by_fault : r ≡ Fault → Malformed ≡ item_by f d at o
+  pub by_fault : r ≡ None → Malformed ≡ item_by f d at o
   by_fault q = ap (item_from f) (sym q) ∙ from_reading
 
 -- ---- what stands at the front
@@ -176,27 +173,27 @@ kinded first d at e q = sym (ap (λ (k : Kind). item_of k d at) (ap (kind_of fir
 
 module _ (first : Bool) (d : List ℕ) (at : ℕ) (l : at + 1 < length d) (e : get_or d at 0 ≡ 0x3C) where
   module _ (q : get_or d (at + 1) 0 ≡ 0x3F) {b : Bool} (t : b ≡ first && declares (drop at d)) where
-    module _ (y : b ≡ true) {r : Reading} (g : r ≡ reading_at d at (declaration_of (drop at d))) where
+    module _ (y : b ≡ true) {r : Option ℕ} (g : r ≡ reading_at d at (declaration_of (drop at d))) where
       is_declaration : item_by Declaration d at (declaration_of (drop at d)) ≡ item_at first d at
       is_declaration = kinded first d at refl (kind_declaration first (drop at d) (sym t ∙ y))
 
-      pub queried_declared : {i : ℕ} → r ≡ Ends i → Declaration i ≡ item_at first d at
+      pub queried_declared : {i : ℕ} → r ≡ Some i → Declaration i ≡ item_at first d at
       queried_declared h = by_ends Declaration d at (declaration_of (drop at d)) g h ∙ is_declaration
 
-      pub queried_undeclared : r ≡ Fault → Malformed ≡ item_at first d at
+      pub queried_undeclared : r ≡ None → Malformed ≡ item_at first d at
       queried_undeclared h = by_fault Declaration d at (declaration_of (drop at d)) g h ∙ is_declaration
 
-    module _ (y : b ≡ false) {r : Reading} (g : r ≡ reading_at d at (instruction_of (drop at d))) where
+    module _ (y : b ≡ false) {r : Option ℕ} (g : r ≡ reading_at d at (instruction_of (drop at d))) where
       is_instruction : item_by Instruction d at (instruction_of (drop at d)) ≡ item_at first d at
       is_instruction =
           let f = front_two d at l e q in
           kinded first d at f
           (kind_instruction first (drop (at + 1 + 1) d) (ap (λ (s : List ℕ). first && declares s) (sym f) ∙ sym t ∙ y))
 
-      pub queried_instruction : {i : ℕ} → r ≡ Ends i → Instruction i ≡ item_at first d at
+      pub queried_instruction : {i : ℕ} → r ≡ Some i → Instruction i ≡ item_at first d at
       queried_instruction h = by_ends Instruction d at (instruction_of (drop at d)) g h ∙ is_instruction
 
-      pub queried_fault : r ≡ Fault → Malformed ≡ item_at first d at
+      pub queried_fault : r ≡ None → Malformed ≡ item_at first d at
       queried_fault h = by_fault Instruction d at (instruction_of (drop at d)) g h ∙ is_instruction
 
   -- ---- `marked`
@@ -208,28 +205,28 @@ module _ (first : Bool) (d : List ℕ) (at : ℕ) (l : at + 1 < length d) (e : g
     asked : (w : List ℕ) {c x : Bool} → c ≡ begins w (drop at d) → c ≡ x → begins w (0x3C ∷ 0x21 ∷ drop (at + 1 + 1) d) ≡ x
     asked w g y = ap (begins w) (sym two) ∙ sym g ∙ y
 
-    module _ (y : b ≡ true) {r : Reading} (g : r ≡ reading_at d at (comment_of (drop at d))) where
+    module _ (y : b ≡ true) {r : Option ℕ} (g : r ≡ reading_at d at (comment_of (drop at d))) where
       is_comment : item_by Comment d at (comment_of (drop at d)) ≡ item_at first d at
       is_comment = kinded first d at two (kind_comment first (drop (at + 1 + 1) d) (asked (bytes "<!--") t y))
 
-      pub marked_comment : {i : ℕ} → r ≡ Ends i → Comment i ≡ item_at first d at
+      pub marked_comment : {i : ℕ} → r ≡ Some i → Comment i ≡ item_at first d at
       marked_comment h = by_ends Comment d at (comment_of (drop at d)) g h ∙ is_comment
 
-      pub marked_fault : r ≡ Fault → Malformed ≡ item_at first d at
+      pub marked_fault : r ≡ None → Malformed ≡ item_at first d at
       marked_fault h = by_fault Comment d at (comment_of (drop at d)) g h ∙ is_comment
 
     module _ (y : b ≡ false) {c : Bool} (t' : c ≡ begins (bytes "<![CDATA[") (drop at d)) where
       no_comment : begins (bytes "<!--") (0x3C ∷ 0x21 ∷ drop (at + 1 + 1) d) ≡ false
       no_comment = asked (bytes "<!--") t y
 
-      module _ (z : c ≡ true) {r : Reading} (g : r ≡ reading_at d at (section_of (drop at d))) where
+      module _ (z : c ≡ true) {r : Option ℕ} (g : r ≡ reading_at d at (section_of (drop at d))) where
         is_section : item_by Section d at (section_of (drop at d)) ≡ item_at first d at
         is_section = kinded first d at two (kind_section first (drop (at + 1 + 1) d) no_comment (asked (bytes "<![CDATA[") t' z))
 
-        pub marked_section : {i : ℕ} → r ≡ Ends i → Section i ≡ item_at first d at
+        pub marked_section : {i : ℕ} → r ≡ Some i → Section i ≡ item_at first d at
         marked_section h = by_ends Section d at (section_of (drop at d)) g h ∙ is_section
 
-        pub marked_open : r ≡ Fault → Malformed ≡ item_at first d at
+        pub marked_open : r ≡ None → Malformed ≡ item_at first d at
         marked_open h = by_fault Section d at (section_of (drop at d)) g h ∙ is_section
 
       module _ (z : c ≡ false) {k : Bool} (t'' : k ≡ begins (bytes "<!DOCTYPE") (drop at d)) where
@@ -278,25 +275,26 @@ pub ruleset marked_up = (markup_alone, markup_next, markup_finish, markup_start,
 -- ---- `content` and `item`
 
 module _ (first : Bool) (d : List ℕ) (at : ℕ) (l : at < length d) where
-  module _ (e : get_or d at 0 ≡ 0x26) {r : Saying} (g : r ≡ saying_at d at (reference_of (drop at d))) where
+  module _ (e : get_or d at 0 ≡ 0x26) {r : Option (ℕ × ℕ)} (g : r ≡ saying_at d at (reference_of (drop at d))) where
     is_reference : reference_item (saying_at d at (reference_of (drop at d))) ≡ item_at first d at
     is_reference =
         kinded first d at (front_one d at l ∙ ap (λ (b : ℕ). b ∷ drop (at + 1) d) e) (kind_reference first (drop (at + 1) d))
 
-    pub content_reference : {c i : ℕ} → r ≡ Says c i → Reference c i ≡ item_at first d at
+    pub content_reference : {c i : ℕ} → r ≡ Some (c, i) → Reference c i ≡ item_at first d at
     content_reference h = ap reference_item (sym h ∙ g) ∙ is_reference
 
-    pub content_unknown : r ≡ NoReference → Malformed ≡ item_at first d at
+    pub content_unknown : r ≡ None → Malformed ≡ item_at first d at
     content_unknown h = ap reference_item (sym h ∙ g) ∙ is_reference
 
-  module _ (n : get_or d at 0 ≡ 0x3C → ⊥) (m : get_or d at 0 ≡ 0x26 → ⊥) {r : Reading} (g : r ≡ reading_at d at (text_of (drop at d))) where
+  module _ (n : get_or d at 0 ≡ 0x3C → ⊥) (m : get_or d at 0 ≡ 0x26 → ⊥) {r : Option ℕ}
+      (g : r ≡ reading_at d at (text_of (drop at d))) where
     is_text_lem : item_by Text d at (text_of (drop at d)) ≡ item_at first d at
     is_text_lem = kinded first d at (front_one d at l) (kind_text first (get_or d at 0) (drop (at + 1) d) n m)
 
-    pub content_text : {i : ℕ} → r ≡ Ends i → Text i ≡ item_at first d at
+    pub content_text : {i : ℕ} → r ≡ Some i → Text i ≡ item_at first d at
     content_text h = by_ends Text d at (text_of (drop at d)) g h ∙ is_text_lem
 
-    pub content_fault : r ≡ Fault → Malformed ≡ item_at first d at
+    pub content_fault : r ≡ None → Malformed ≡ item_at first d at
     content_fault h = by_fault Text d at (text_of (drop at d)) g h ∙ is_text_lem
 
 pub item_none : (first : Bool) (d : List ℕ) (at : ℕ) → length d ≤ at → Nothing ≡ item_at first d at

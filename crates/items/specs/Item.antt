@@ -1,7 +1,7 @@
 -- The item at a place. In order: the kind of an item, told by its first bytes; the item read, or its fault in the order of document 01: a
 -- document type, its own production, sizes. Tags in places are in the crate tags, specs/Tag.antt.
-use Rattle.std.specs.Prelude.{Bool, cond, ◌&&◌, List, [], ◌∷◌, ℕ, drop}
-use Rattle.std.proofs.Math.Option.{Option, none, some}
+use Rattle.std.specs.Prelude.{Bool, cond, ◌&&◌, List, [], ◌∷◌, ℕ, drop, Option, Some, None}
+use Rattle.std.proofs.Math.Option.{Option as Maybe, none, some}
 use Rattle.xml.specs.Notation.{bytes}
 use Rattle.xml.specs.Character.{begins, starts}
 use Rattle.xml.specs.Productions.{is_space}
@@ -10,8 +10,6 @@ use Rattle.readers.specs.Plain.{text_of, comment_of, section_of}
 use Rattle.readers.specs.Value.{reference_of}
 use Rattle.readers.specs.Named.{instruction_of, declaration_of}
 use Rattle.references.specs.Say.{saying_at}
-use Rattle.references.specs.declared.reference.Saying.{Saying}
-use Rattle.references.specs.declared.reference.Saying.TheVariants.{Says, Fault as NoReference}
 use Rattle.tags.specs.Tag.{tag_at, end_tag_at}
 use Rattle.tags.specs.declared.Item.{Item}
 use Rattle.tags.specs.declared.Item.TheVariants.{Declaration, Instruction, Comment, Section, Reference, Text}
@@ -53,14 +51,14 @@ kind_of first s =
 -- ---- the item
 
 -- an item of the kind f that leaves t, or a broken production
-abbrev pub item_by : (ℕ → Item) → List ℕ → ℕ → Option (List ℕ) → Item
+abbrev pub item_by : (ℕ → Item) → List ℕ → ℕ → Maybe (List ℕ) → Item
 item_by f d at none = Malformed
 item_by f d at (some t) = f (ends_at d at t)
 
 -- a reference with the character that it says
-abbrev pub reference_item : Saying → Item
-reference_item (Says c e) = Reference c e
-reference_item NoReference = Malformed
+abbrev pub reference_item : Option (ℕ × ℕ) → Item
+reference_item (Some (c, e)) = Reference c e
+reference_item None = Malformed
 
 abbrev pub item_of : Kind → List ℕ → ℕ → Item
 item_of declaration d at = item_by Declaration d at (declaration_of (drop at d))

@@ -1,10 +1,8 @@
 // The item at a place, told by its first bytes as document 01 lists them, and read; or its fault, in document 01's order: a document type,
 // the item's own production, sizes. Repeated attributes come after those, and are only told.
 ghost use Rattle.std.specs.Prelude.{◌≡◌, ◌&&◌, length, get_or, drop, ◌+◌, ◌<◌};
-ghost use Rattle.points.specs.Class.{class_table};
 ghost use Rattle.items.specs.Item.{declares, item_at};
 
-use chars::name::Reading;
 use chars::space::is_space;
 use chars::text::stands;
 use instructions::declaration::declaration;
@@ -12,8 +10,8 @@ use instructions::instruction::instruction;
 use plain::comment::comment;
 use plain::section::section;
 use plain::text::text;
-use points::table::Classes;
-use references::reference::{Saying, reference};
+use points::class::Classes;
+use references::reference::reference;
 use tags::Item;
 use tags::finish::end_tag;
 use tags::tag::tag;
@@ -36,38 +34,36 @@ fn is_declaration(doc: &[u8], at: usize, first: bool) -> bool
 
 // An item that begins with `<?`.
 fn queried(classes: &Classes, doc: &[u8], at: usize, first: bool) -> Item
-    requires { (classes.now ≡ class_table) × (at + 1 < length doc.now) × (get_or doc.now at 0 ≡ 0x3C)
-        × (get_or doc.now (at + 1) 0 ≡ 0x3F) }
+    requires { (at + 1 < length doc.now) × (get_or doc.now at 0 ≡ 0x3C) × (get_or doc.now (at + 1) 0 ≡ 0x3F) }
     ensures { result ≡ item_at first doc.now at }
 {
     if is_declaration(doc, at, first) {
         return match declaration(doc, at) {
-            Reading::Ends(e) => Item::Declaration(e),
-            Reading::Fault => Item::Malformed,
+            Some(e) => Item::Declaration(e),
+            None => Item::Malformed,
         };
     }
     match instruction(classes, doc, at) {
-        Reading::Ends(e) => Item::Instruction(e),
-        Reading::Fault => Item::Malformed,
+        Some(e) => Item::Instruction(e),
+        None => Item::Malformed,
     }
 }
 
 // An item that begins with `<!`.
 fn marked(classes: &Classes, doc: &[u8], at: usize, first: bool) -> Item
-    requires { (classes.now ≡ class_table) × (at + 1 < length doc.now) × (get_or doc.now at 0 ≡ 0x3C)
-        × (get_or doc.now (at + 1) 0 ≡ 0x21) }
+    requires { (at + 1 < length doc.now) × (get_or doc.now at 0 ≡ 0x3C) × (get_or doc.now (at + 1) 0 ≡ 0x21) }
     ensures { result ≡ item_at first doc.now at }
 {
     if stands(doc, at, b"<!--") {
         return match comment(doc, at) {
-            Reading::Ends(e) => Item::Comment(e),
-            Reading::Fault => Item::Malformed,
+            Some(e) => Item::Comment(e),
+            None => Item::Malformed,
         };
     }
     if stands(doc, at, b"<![CDATA[") {
         return match section(doc, at) {
-            Reading::Ends(e) => Item::Section(e),
-            Reading::Fault => Item::Malformed,
+            Some(e) => Item::Section(e),
+            None => Item::Malformed,
         };
     }
     if stands(doc, at, b"<!DOCTYPE") {
@@ -78,7 +74,7 @@ fn marked(classes: &Classes, doc: &[u8], at: usize, first: bool) -> Item
 
 // An item that begins with `<`.
 fn markup(classes: &Classes, doc: &[u8], at: usize, first: bool) -> Item
-    requires { (classes.now ≡ class_table) × (at < length doc.now) × (get_or doc.now at 0 ≡ 0x3C) }
+    requires { (at < length doc.now) × (get_or doc.now at 0 ≡ 0x3C) }
     ensures { result ≡ item_at first doc.now at }
 {
     if doc.len() - at == 1 {
@@ -104,19 +100,18 @@ fn content(doc: &[u8], at: usize, first: bool) -> Item
 {
     if doc[at] == 0x26 {
         return match reference(doc, at) {
-            Saying::Says(c, e) => Item::Reference(c, e),
-            Saying::Fault => Item::Malformed,
+            Some((c, e)) => Item::Reference(c, e),
+            None => Item::Malformed,
         };
     }
     match text(doc, at) {
-        Reading::Ends(e) => Item::Text(e),
-        Reading::Fault => Item::Malformed,
+        Some(e) => Item::Text(e),
+        None => Item::Malformed,
     }
 }
 
 // The item at a place; `first` where no item comes before it.
 pub fn item(classes: &Classes, doc: &[u8], at: usize, first: bool) -> Item
-    requires { classes.now ≡ class_table }
     ensures { result ≡ item_at first doc.now at }
 {
     if at >= doc.len() {

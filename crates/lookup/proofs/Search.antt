@@ -1,36 +1,19 @@
--- The laws of the search for a name. `same`: lengths, and then bytes. `hash`. Tables of names: an entry stands for its name.
+-- The laws of the search for a name. `hash`. Tables of names: an entry stands for its name.
 -- `find`: what is left of the chain is searched.
 use mathlib.Core.Path.{◌≡◌, refl, sym, ap, ◌∙◌}
 use mathlib.Core.Bool.{Bool, true, false}
 use mathlib.Core.List.{List, [], ◌∷◌, map}
 use Prim.Native.Nat.{ℕ, zero, suc, ◌+◌, ◌-◌, ◌*◌, ◌%◌, ◌≤◌, ◌<◌}
 use native.Mathlib.Omega.{arith}
-use lib.ListN.{length, take, drop, get_or, length-map, length-drop}
-use lib.Seq.{length-take-le}
-use Rattle.xml.specs.Character.{begins}
+use lib.ListN.{length, take, drop, get_or, length-map}
 use Rattle.xml.specs.Productions.{same}
 use Rattle.paths.specs.Path.{All, none, more}
 use Rattle.utf8.proofs.Place.{drop_step, drop_end}
 use Rattle.lookup.specs.Names.{Named, place_of, hash_from, hash_of}
 use Rattle.lookup.specs.Index.{padded, Stands, Indexed, Tables, Found}
-use Rattle.xml.proofs.Same.{same_other, begins-same}
 use Rattle.lookup.proofs.Places.{name_at}
 use Rattle.lookup.proofs.Padded.{padded_long, padded_get}
 use Rattle.lookup.proofs.Chains.{stops, chain, Linked, chains_linked}
-
--- ---- `same`
-
-module _ (d : List ℕ) (a n : ℕ) (m : List ℕ) where
-  pub compare_length : a + n ≤ length d → (n ≡ length m → ⊥) → false ≡ same (take n (drop a d)) m
-  compare_length l k = sym (same_other (take n (drop a d)) m (λ e. k (sym long ∙ ap length e)))
-    where
-      long : length (take n (drop a d)) ≡ n
-      long = length-take-le n (drop a d) (let z = length-drop a d in omega arith)
-
-  pub compare_bytes : n ≡ length m → {b : Bool} → b ≡ begins m (drop a d) → b ≡ same (take n (drop a d)) m
-  compare_bytes e t = t ∙ begins-same m (drop a d) ∙ ap (λ (k : ℕ). same (take k (drop a d)) m) (sym e)
-
-pub ruleset comparing = (compare_length, compare_bytes)
 
 -- ---- `hash`
 

@@ -5,22 +5,14 @@ ghost use Rattle.lookup.specs.Names.{hash_of};
 
 use crate::HEADS;
 
-// A byte as a number.
-fn wide(b: u8) -> usize
-    ensures { (result ≡ b) × (result < 256) }
-{
-    b as usize
-}
-
 // The number of a name: below 256.
+#[tactic(auto, using(crate::proofs::Search::hashes))]
 pub fn hash(name: &[u8]) -> usize
     ensures { (result ≡ hash_of name.now) × (result < 256) }
 {
     let mut h: usize = 0;
-    let mut i: usize = 0;
-    while i < name.len() {
-        h = (h * 31 + wide(name[i])) % HEADS;
-        i += 1;
+    for b in name {
+        h = (h * 31 + usize::from(*b)) % HEADS;
     }
     h
 }

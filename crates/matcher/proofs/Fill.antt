@@ -1,5 +1,5 @@
 -- An array of 32 numbers that is filled from the front: the first p are those of a function.
--- `numbers` and `deeper` fill theirs so.
+-- `deeper` fills its one so, and `far_only` of the crate covers.
 use mathlib.Core.Path.{◌≡◌, refl, sym, ap, ◌∙◌}
 use mathlib.Core.List.{List, [], ◌∷◌, ◌++◌}
 use Prim.Native.Nat.{ℕ, zero, suc, ◌+◌, ◌≤◌, ◌<◌}

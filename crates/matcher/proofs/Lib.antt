@@ -12,7 +12,6 @@ pub mod Verdicts
 pub mod Meaning
 pub mod Tests
 pub mod Fill
-pub mod Rows
 pub mod Serving
 pub mod Sums
 pub mod Carrying

@@ -7,10 +7,10 @@ use mathlib.Core.List.{List, [], ◌∷◌, ◌++◌}
 use mathlib.Core.Logic.{◌↔◌}
 use mathlib.Core.Option.{Option, none, some as just}
 use Prim.Native.Nat.{ℕ}
+use Rattle.std.specs.Prelude.{Ok}
 use Rattle.xml.proofs.Bools.{and_left, and_right, and_both, or_left, or_right}
 use Rattle.paths.specs.Path.{AttributeTest, Path}
 use Rattle.paths.specs.Judge.{list_answer, list_paths}
-use Rattle.paths.specs.declared.ListAnswer.TheVariants.{Sound}
 use Rattle.attributes.specs.Attribute.{Attribute}
 use Rattle.attributes.proofs.Has.{has_found, found_has}
 use Rattle.compiled.proofs.OverLines.{sound_sized}
@@ -110,7 +110,7 @@ module _ (ps : List Path) (names : List (List ℕ)) (xs : List Attribute) where
 
 -- ---- by states and fits: `names` lead to the parent, n is the element's own name and xs are its attributes
 
-module _ (d : List ℕ) (sound : list_answer d ≡ Sound) (names : List (List ℕ)) (n : List ℕ) (xs : List Attribute) where
+module _ (d : List ℕ) (sound : list_answer d ≡ Ok tt) (names : List (List ℕ)) (n : List ℕ) (xs : List Attribute) where
   -- the verdict of which no attribute is looked at
   abbrev plain : Verdict
   plain = verdict_by (state_of (list_paths d) names) (fit_for (list_paths d) n)

@@ -1,12 +1,14 @@
--- The ways through `lowest` and `selecting`: from the last path to the first,
+-- The ways through `selecting`: from the last path to the first,
 -- the bits so far are those of the paths from p on.
-use mathlib.Core.Path.{◌≡◌, refl, sym, ap, ◌∙◌}
-use mathlib.Core.Bool.{Bool}
+use mathlib.Core.Path.{◌≡◌, refl, ap, ◌∙◌}
+use mathlib.Core.Bool.{Bool, true, false, not}
 use mathlib.Core.List.{List}
-use Prim.Native.Nat.{ℕ, suc, ◌+◌, ◌-◌, ◌*◌, ◌^◌, ◌≤◌, ◌<◌}
+use Prim.Native.Nat.{ℕ, zero, suc, ◌+◌, ◌-◌, ◌*◌, ◌^◌, ◌≤◌, ◌<◌}
 use native.Mathlib.Nat.{pow-le-pow_right}
 use native.Mathlib.Omega.{arith}
+use borrow.Author.Tests.{ne_eqb}
 use lib.Bits.{bit_and}
+use lib.Dec.{eqb}
 use lib.ListN.{length, get_or}
 use Rattle.compiled.specs.Bits.{bit, bits_of}
 use Rattle.compiled.specs.Built.{listed}
@@ -15,19 +17,16 @@ use Rattle.compiled.proofs.Listed.{listed_many}
 use Rattle.matcher.specs.State.{hits_of, hits_at, nonzero, hit_at, selecting_by}
 use Rattle.matcher.specs.declared.fit.Fit.{Fit}
 use Rattle.matcher.specs.declared.state.MatchState.{MatchState}
-use Rattle.matcher.proofs.Carrying.{nonzero_not, nonzero_zero}
+use mir.Val.{bool_byte}
 
--- ---- `lowest`
+-- whether a number is not 0, as a number
+set_bit : (n : ℕ) → bool_byte (not (eqb n 0)) ≡ bit (nonzero n)
+set_bit zero = refl
+set_bit (suc n) = rw (ne_eqb (suc n) 0 (λ e. omega arith))
 
-pub lowest_unset : (n : ℕ) → n ≡ 0 → 0 ≡ bit (nonzero n)
-lowest_unset n e = ap bit (sym (nonzero_zero n e))
-
-pub lowest_set : (n : ℕ) → (n ≡ 0 → ⊥) → 1 ≡ bit (nonzero n)
-lowest_set n h = ap bit (sym (nonzero_not n h))
-
-pub ruleset lowest_bit = (lowest_unset, lowest_set)
-
--- ---- `selecting`
+pub set_few : (b : Bool) {k : ℕ} → k ≡ bool_byte b → k ≤ 1
+set_few true e = omega arith
+set_few false e = omega arith
 
 module _ (state passes stays goes lasts : List ℕ) where
   -- whether path p selects
@@ -60,7 +59,8 @@ module _ {state passes stays goes lasts : List ℕ} {p bits : ℕ} (v : Selectin
 
     pub select_more : {t : ℕ} → t ≡ hits_of (get_or state (p - 1) 0) (get_or passes (p - 1) 0) (get_or stays (p - 1) 0)
         (get_or goes (p - 1) 0)
-        → {k : ℕ} → k ≡ bit (nonzero (bit_and t (get_or lasts (p - 1) 0))) → Selecting state passes stays goes lasts (p - 1) (bits * 2 + k)
+        → {k : ℕ} → k ≡ bool_byte (not (eqb (bit_and t (get_or lasts (p - 1) 0)) 0))
+        → Selecting state passes stays goes lasts (p - 1) (bits * 2 + k)
     unfolding hit_at hits_at
     select_more {t} e {k} g =
         let f = selects_at state passes stays goes lasts in
@@ -70,7 +70,8 @@ module _ {state passes stays goes lasts : List ℕ} {p bits : ℕ} (v : Selectin
         let next : bits_of (listed f (p - 1) (32 - (p - 1))) ≡ bit (f (p - 1)) + 2 * bits_of (listed f p (32 - p)) =
         ap (λ (n : ℕ). bits_of (listed f (p - 1) n)) z
         ∙ ap (λ (q : ℕ). bit (f (p - 1)) + 2 * bits_of (listed f q (32 - p))) y in
-        let u : k ≡ bit (f (p - 1)) = g ∙ ap (λ (n : ℕ). bit (nonzero (bit_and n (get_or lasts (p - 1) 0)))) e in
+        let u : k ≡ bit (f (p - 1)) =
+        g ∙ set_bit (bit_and t (get_or lasts (p - 1) 0)) ∙ ap (λ (n : ℕ). bit (nonzero (bit_and n (get_or lasts (p - 1) 0)))) e in
         let w = v.bits_are in
         record { inside = omega arith; bits_are = omega arith }
 

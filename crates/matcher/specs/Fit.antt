@@ -1,9 +1,8 @@
 -- What an element's name passes, with what the list says of each step;
 -- and the tables of a sound list, in which a name is looked up.
-use Rattle.std.specs.Prelude.{◌≡◌, List, ℕ, ◌+◌, ◌*◌, take, drop}
+use Rattle.std.specs.Prelude.{◌≡◌, List, ℕ, ◌+◌, ◌*◌, take, drop, Ok}
 use Rattle.paths.specs.Path.{Path}
 use Rattle.paths.specs.Judge.{list_answer, list_paths}
-use Rattle.paths.specs.declared.ListAnswer.TheVariants.{Sound}
 use Rattle.compiled.specs.Bits.{fit_of, stays_of, goes_of, far_of, lasts_of, marks_of}
 use Rattle.compiled.specs.Compiled.{tables_of}
 use Rattle.matcher.specs.declared.fit.Fit.{Fit}
@@ -26,5 +25,5 @@ fit_at t k =
 
 -- the tables are those of the paths of a sound list
 pub record Serves (list t : List ℕ) : Type 0 where
-  pub sound : list_answer list ≡ Sound
+  pub sound : list_answer list ≡ Ok tt
   pub tables : t ≡ tables_of (list_paths list)

@@ -29,11 +29,8 @@ fn numbers(t: &[u16], from: usize) -> [u16; MatchState::PATHS]
     ensures { result ≡ take 32 (drop from t.now) }
 {
     let mut bits = [0u16; MatchState::PATHS];
-    let mut p: usize = 0;
-    while p < MatchState::PATHS {
-        bits[p] = t[from + p];
-        p += 1;
-    }
+    let to = from + MatchState::PATHS;
+    bits.copy_from_slice(&t[from..to]);
     bits
 }
 
@@ -96,6 +93,7 @@ impl Fit {
         let marks = self.marks;
         let mut left = passing;
         let mut p: usize = 0;
+        // Up to the last bit that is set: a `for` over the 32 marks is unrolled into the loop of `pass`, by which a cut takes 6% longer.
         while left != 0 {
             let set = left % 2;
             let mark = marks[p];

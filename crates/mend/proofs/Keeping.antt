@@ -8,6 +8,7 @@ use native.Mathlib.Omega.{arith}
 use borrow.Author.Tests.{lt-ltb, ltb-true}
 use lib.Dec.{leb, ltb}
 use lib.ListN.{length, set, replicate}
+use Rattle.std.specs.Prelude.{Result, Err}
 use Rattle.xml.proofs.Bools.{and_left}
 use Rattle.tags.specs.Kept.{name_from}
 use Rattle.tags.specs.declared.Item.{Item}
@@ -28,8 +29,9 @@ use Rattle.mend.specs.Kept.{Kept, halved, stays, kept_by, kept_from, kept_of}
 use Rattle.mend.specs.Levels.{halved_by}
 use Rattle.mend.specs.Mended.{mended_by}
 use Rattle.mend.specs.Answer.{by_root, by_room, answer_by, after}
-use Rattle.mend.specs.declared.Answer.{Answer}
-use Rattle.mend.specs.declared.Answer.TheVariants.{NoRoot}
+use Rattle.mend.specs.declared.Mended.{Mended}
+use Rattle.mend.specs.declared.MendError.{MendError}
+use Rattle.mend.specs.declared.MendError.TheVariants.{NoRoot}
 use Rattle.mend.proofs.Laying.{kept_here}
 
 -- ---- an item and a level
@@ -247,10 +249,10 @@ module _ {d starts lens : List ℕ} {o : Open} {at : ℕ} {first : Bool} (v : Ke
                 → by_root x at (by_room room (mended_by d k) k.bytes (length k.opened.names))
                 ≡ by_root x (second_of (scanned d)) (by_room room (mended_by d k) k.bytes (length k.opened.names))
             go true u = refl
-            go false u = ap NoRoot (sym (fault_is (sym (ap (λ (j : Kept). j.opened.rooted) z) ∙ u)))
+            go false u = ap (λ (n : ℕ). Err (NoRoot n)) (sym (fault_is (sym (ap (λ (j : Kept). j.opened.rooted) z) ∙ u)))
 
         -- what is answered here; the buffer is as it was when the loop began
-        pub kept_answer : (r : Answer) {w u u₀ : List ℕ} → u ≡ u₀
+        pub kept_answer : (r : Result Mended MendError) {w u u₀ : List ℕ} → u ≡ u₀
             → (r ≡ answer_by d (kept_here d starts lens o at) at (length u)) × (w ≡ after r (mended_by d (kept_here d starts lens o at)) u)
             → (r ≡ answer_by d (kept_of d) (second_of (scanned d)) (length u₀)) × (w ≡ after r (mended_by d (kept_of d)) u₀)
         kept_answer r {u₀ = u₀} same z = (

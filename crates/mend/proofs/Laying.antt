@@ -8,6 +8,7 @@ use native.Mathlib.Omega.{arith}
 use borrow.Author.Tests.{lt-ltb, le-ltb}
 use lib.ListN.{length, take, drop, length-append}
 use lib.Seq.{length-take-le}
+use Rattle.std.specs.Prelude.{Ok, Err}
 use Rattle.document.specs.Levels.{names_of, opened_of}
 use Rattle.document.specs.declared.Open.{Open}
 use Rattle.document.proofs.Placing.{names_long}
@@ -16,7 +17,7 @@ use Rattle.writer.proofs.Laying.{wrote_more, laid_whole}
 use Rattle.mend.specs.Kept.{Kept}
 use Rattle.mend.specs.Mended.{end_tags, mended_by}
 use Rattle.mend.specs.Answer.{answer_by}
-use Rattle.mend.specs.declared.Answer.TheVariants.{Mended, NoRoot, Short}
+use Rattle.mend.specs.declared.MendError.TheVariants.{NoRoot, Short}
 
 -- a test that is turned round
 pub not_false : (b : Bool) → not b ≡ false → b ≡ true
@@ -36,17 +37,18 @@ module _ (d starts lens : List ℕ) (x : Open) (at : ℕ) where
   abbrev pub kept_here : Kept
   kept_here = record { bytes = at; opened = opened_of d starts lens x }
 
-  pub laid_none : (room : ℕ) → x.rooted ≡ false → NoRoot at ≡ answer_by d kept_here at room
+  pub laid_none : (room : ℕ) → x.rooted ≡ false → Err (NoRoot at) ≡ answer_by d kept_here at room
   laid_none room q = sym (rw q)
 
   module _ (h : at ≤ length d) {s s' : List ℕ} {n : ℕ} (w : Wrote s at tags n s') where
     size : length (mended_by d kept_here) ≡ n
     size = omega (arith, length-append (take at d) tags, length-take-le at d h, w.long)
 
-    pub laid_short : (room : ℕ) → x.rooted ≡ true → room < n → Short n ≡ answer_by d kept_here at room
+    pub laid_short : (room : ℕ) → x.rooted ≡ true → room < n → Err (Short n) ≡ answer_by d kept_here at room
     laid_short room q l = sym (rw (q, size, lt-ltb room n l))
 
-    pub laid_mended : (room : ℕ) → x.rooted ≡ true → n ≤ room → Mended n at x.level.0 ≡ answer_by d kept_here at room
+    pub laid_mended : (room : ℕ) → x.rooted ≡ true → n ≤ room
+        → Ok (record { length = n; kept = at; added = x.level.0 }) ≡ answer_by d kept_here at room
     laid_mended room q l = sym (rw (q, size, le-ltb room n l, names_long d starts lens x.level.0))
 
     pub laid_bytes : {o o₁ o₂ : List ℕ} {e r : ℕ} → n ≤ length o → Wrote o 0 (take (at - 0) (drop 0 d)) e o₁ → Wrote o₁ e tags r o₂

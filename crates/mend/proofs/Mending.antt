@@ -7,21 +7,24 @@ use native.Mathlib.Omega.{arith}
 use borrow.Author.Tests.{lt-ltb, le-ltb}
 use lib.ListN.{length, take, drop}
 use lib.Seq.{length-take-le}
+use Rattle.std.specs.Prelude.{Result, Err}
 use Rattle.readers.specs.Named.{other_encoding}
 use Rattle.document.specs.Judge.{start_of, scanned, second_of as fault_of}
 use Rattle.mend.specs.Kept.{readable, kept_of}
 use Rattle.mend.specs.Mended.{mended_by, mended_of}
 use Rattle.mend.specs.Answer.{answer_by, fault_at, answer_of, after, bytes_after}
-use Rattle.mend.specs.declared.Answer.{Answer}
-use Rattle.mend.specs.declared.Answer.TheVariants.{TooLong, OtherEncoding}
+use Rattle.mend.specs.declared.Mended.{Mended}
+use Rattle.mend.specs.declared.MendError.{MendError}
+use Rattle.mend.specs.declared.MendError.TheVariants.{TooLong, OtherEncoding}
 use Rattle.mend.proofs.Laying.{front_lent}
 
 -- both promises of a call
-pub record Mends (d o : List ℕ) (r : Answer) (o' : List ℕ) : Type 0 where
+pub record Mends (d o : List ℕ) (r : Result Mended MendError) (o' : List ℕ) : Type 0 where
   pub is : r ≡ answer_of d (length o)
   pub bytes : o' ≡ bytes_after d o
 
-pub both : (d o : List ℕ) {r : Answer} {o' : List ℕ} → Mends d o r o' → (r ≡ answer_of d (length o)) × (o' ≡ bytes_after d o)
+pub both : (d o : List ℕ) {r : Result Mended MendError} {o' : List ℕ} → Mends d o r o'
+    → (r ≡ answer_of d (length o)) × (o' ≡ bytes_after d o)
 both d o m = (m.is, m.bytes)
 
 -- the first n bytes, as the code lends them
@@ -29,11 +32,11 @@ abbrev lent : List ℕ → ℕ → List ℕ
 lent d n = take (n - 0) (drop 0 d)
 
 module _ (d o : List ℕ) where
-  answered : {r : Answer} {o' : List ℕ} → r ≡ answer_of d (length o) → o' ≡ after r (mended_of d) o → Mends d o r o'
+  answered : {r : Result Mended MendError} {o' : List ℕ} → r ≡ answer_of d (length o) → o' ≡ after r (mended_of d) o → Mends d o r o'
   unfolding bytes_after
-  answered e q = record { is = e; bytes = q ∙ ap (λ (a : Answer). after a (mended_of d) o) e }
+  answered e q = record { is = e; bytes = q ∙ ap (λ (a : Result Mended MendError). after a (mended_of d) o) e }
 
-  pub mend_long : 16777216 < length d → Mends d o TooLong o
+  pub mend_long : 16777216 < length d → Mends d o (Err TooLong) o
   unfolding answer_of
   mend_long l = answered (sym (rw (lt-ltb 16777216 (length d) l))) refl
 
@@ -41,11 +44,11 @@ module _ (d o : List ℕ) where
     named : {x : Bool} → b ≡ x → other_encoding (drop (start_of d) d) ≡ x
     named h = rw (← e) (sym q ∙ h)
 
-    pub mend_other : b ≡ true → Mends d o (OtherEncoding k) o
+    pub mend_other : b ≡ true → Mends d o (Err (OtherEncoding k)) o
     unfolding answer_of
-    mend_other h = answered (ap OtherEncoding e ∙ sym (rw (le-ltb 16777216 (length d) l, named h))) refl
+    mend_other h = answered (ap (λ (n : ℕ). Err (OtherEncoding n)) e ∙ sym (rw (le-ltb 16777216 (length d) l, named h))) refl
 
-    pub mend_rest : b ≡ false → (n : ℕ) → take n d ≡ readable d → {r : Answer} {o' : List ℕ}
+    pub mend_rest : b ≡ false → (n : ℕ) → take n d ≡ readable d → {r : Result Mended MendError} {o' : List ℕ}
         → r ≡ answer_by (lent d n) (kept_of (lent d n)) (fault_of (scanned (lent d n))) (length o)
         → o' ≡ after r (mended_by (lent d n) (kept_of (lent d n))) o → Mends d o r o'
     unfolding answer_of fault_at mended_of

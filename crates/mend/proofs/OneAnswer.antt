@@ -3,19 +3,21 @@
 use mathlib.Core.Path.{◌≡◌, sym, ap, ◌∙◌}
 use mathlib.Core.List.{List}
 use Prim.Native.Nat.{ℕ}
+use Rattle.std.specs.Prelude.{Result}
 use Rattle.contracts.specs.One.{OneOutcome}
 use Rattle.mend.specs.Answer.{after}
-use Rattle.mend.specs.declared.Answer.{Answer}
+use Rattle.mend.specs.declared.Mended.{Mended}
+use Rattle.mend.specs.declared.MendError.{MendError}
 use Rattle.mend.proofs.laid.laid.Reads as laid
 use Rattle.mend.proofs.kept.mended.Reads as mended
 use Rattle.mend.proofs.mend.Reads as mend
 
 -- one answer, and the buffer by it
-by_answer : (w o : List ℕ) {a r r' : Answer} {x x' : List ℕ} → (r ≡ a) × (x ≡ after r w o) → (r' ≡ a) × (x' ≡ after r' w o)
+by_answer : (w o : List ℕ) {a r r' : Result Mended MendError} {x x' : List ℕ} → (r ≡ a) × (x ≡ after r w o) → (r' ≡ a) × (x' ≡ after r' w o)
     → (r ≡ r') × (x ≡ x')
 by_answer w o p q =
     let e = p.0 ∙ sym q.0 in
-    (e, p.1 ∙ ap (λ (r : Answer). after r w o) e ∙ sym q.1)
+    (e, p.1 ∙ ap (λ (r : Result Mended MendError). after r w o) e ∙ sym q.1)
 
 -- `laid::laid`
 pub laid_one : OneOutcome laid.Asked laid.Learnt (λ κs e. e.1.1.1.1.1.0.now)

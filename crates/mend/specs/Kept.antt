@@ -6,10 +6,9 @@
 --     <g><n>Aar     <g><n>     the text touches the end, and n and g are open
 --     <g>Aar<n      <g>Aar     the text is whole, and `<n` is at fault
 --     <g/> x        <g/>       ` x` is at fault outside the root, and nothing is open
-use Rattle.std.specs.Prelude.{Bool, true, false, cond, not, ◌&&◌, List, ℕ, zero, suc, leb, length, take}
+use Rattle.std.specs.Prelude.{Bool, true, false, cond, not, ◌&&◌, List, ℕ, zero, suc, leb, length, take, Result, Ok, Err}
 use Rattle.chars.specs.Check.{check_of}
-use Rattle.chars.specs.declared.whole.Checked.{Checked}
-use Rattle.chars.specs.declared.whole.Checked.TheVariants.{All, BadAt}
+use Rattle.chars.specs.declared.whole.CharError.{CharError}
 use Rattle.tags.specs.declared.Item.{Item}
 use Rattle.tags.specs.declared.Item.TheVariants.{Declaration, Instruction, Comment, Section, Reference, Text, Start, Finish}
 use Rattle.tags.specs.declared.Item.TheVariants.{Doctype, Malformed, TooLarge, Nothing}
@@ -21,9 +20,9 @@ use Rattle.document.specs.declared.Placement.TheVariants.{Fine, Fault, Over}
 
 -- ---- characters
 
-abbrev pub cut_at : Checked → List ℕ → List ℕ
-cut_at All d = d
-cut_at (BadAt o) d = take o d
+abbrev pub cut_at : Result Unit CharError → List ℕ → List ℕ
+cut_at (Ok tt) d = d
+cut_at (Err e) d = take e.valid_up_to d
 
 -- "the document is first cut at the bad sequence": what is judged then is characters throughout
 unfoldable pub readable : List ℕ → List ℕ

@@ -7,13 +7,13 @@ ghost use Rattle.mend.specs.Levels.{halved_by};
 ghost use Rattle.mend.specs.Mended.{mended_by};
 ghost use Rattle.mend.specs.Answer.{answer_by, after};
 
-use crate::Answer;
 use crate::laid::laid;
+use crate::{MendError, Mended};
 use document::judge::start_of;
 use document::place::{end_of, keep, place};
 use document::{Open, Placement};
 use items::told::item;
-use points::table::classes;
+use points::class::Classes;
 use tags::Item;
 
 // Perhaps half a name: a text that touches the end of n bytes, with an element open.
@@ -38,18 +38,20 @@ fn stays(placement: Placement, half: bool) -> bool
 }
 
 // A document of characters.
-pub fn mended(doc: &[u8], out: &mut [u8]) -> Answer
+pub fn mended(doc: &[u8], out: &mut [u8]) -> Result<Mended, MendError>
     requires { length doc.now ≤ 16777216 }
     ensures value { result ≡ answer_by doc.now (kept_of doc.now) (second_of (scanned doc.now))
         (length out.old) }
     ensures out_after { out.new ≡ after result (mended_by doc.now (kept_of doc.now)) out.old }
 {
-    let table = classes();
+    let table = Classes::new();
     let mut starts = [0usize; Open::LEVELS];
     let mut lens = [0usize; Open::LEVELS];
     let mut opened = Open::none();
     let mut at = start_of(doc);
     let mut first = true;
+
+    // Each turn goes on where the item ended, so the place is no count.
     loop {
         let next = item(&table, doc, at, first);
         let placement = place(doc, &starts, &lens, opened, at, next);

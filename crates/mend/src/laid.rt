@@ -9,7 +9,7 @@ ghost use Rattle.writer.specs.Wrote.{Wrote};
 ghost use Rattle.mend.specs.Mended.{end_tags, mended_by};
 ghost use Rattle.mend.specs.Answer.{answer_by, after};
 
-use crate::Answer;
+use crate::{MendError, Mended};
 use document::Open;
 use writer::{copy, end_tag};
 
@@ -26,10 +26,8 @@ fn end_tags(
     ensures { Wrote out.old at
         (end_tags (names_of doc.now starts.now lens.now opened.level.0)) result out.new }
 {
-    let mut level = opened.level.0;
     let mut end = at;
-    while level > 0 {
-        level -= 1;
+    for level in (0..opened.level.0).rev() {
         let a = starts[level];
         let n = lens[level];
         end = end_tag(out, end, &doc[a..a + n]);
@@ -46,7 +44,7 @@ pub fn laid(
     opened: Open,
     at: usize,
     out: &mut [u8],
-) -> Answer
+) -> Result<Mended, MendError>
     requires { Names doc.now starts.now lens.now opened × (length doc.now ≤ 16777216) × (at ≤ length doc.now) }
     ensures value { result ≡ answer_by doc.now
         (record { bytes = at; opened = opened_of doc.now starts.now lens.now opened }) at
@@ -57,18 +55,18 @@ pub fn laid(
         out.old }
 {
     if !opened.rooted {
-        return Answer::NoRoot(at);
+        return Err(MendError::NoRoot(at));
     }
     let mut scratch = [0u8; 1];
     let length = end_tags(doc, starts, lens, opened, &mut scratch, at);
     if out.len() < length {
-        return Answer::Short(length);
+        return Err(MendError::Short(length));
     }
     let end = copy(out, 0, &doc[0..at]);
     end_tags(doc, starts, lens, opened, out, end);
-    Answer::Mended {
+    Ok(Mended {
         length,
         kept: at,
         added: opened.level.0,
-    }
+    })
 }

@@ -14,8 +14,7 @@ ghost use Rattle.std.specs.Prelude.{◌≡◌, ◌≤◌, length, take};
 ghost use Rattle.mend.specs.Kept.{readable};
 ghost use Rattle.mend.specs.Answer.{answer_of, bytes_after};
 
-use crate::kept::mended;
-use chars::whole::{Checked, check};
+use chars::whole::check;
 use document::Open;
 use document::judge::start_of;
 use instructions::declaration::names_other;
@@ -23,16 +22,18 @@ use instructions::declaration::names_other;
 mod laid; // the mended document, laid into a buffer
 mod kept; // item by item up to the first fault
 
-// What is answered: the document is mended, with the length written, the bytes kept and the end tags added; the document is too long; its
-// declaration, at a place, names another encoding than UTF-8; no root tag is kept, and the first fault is at a place; the buffer is too
-// short for the mended document, which has this length.
-#[derive(Drop)]
-pub enum Answer {
-    Mended {
-        length: usize,
-        kept: usize,
-        added: usize,
-    },
+// A document that is mended: the length written, the bytes kept and the end tags added.
+#[derive(Clone, Copy, Debug, PartialEq, Eq)]
+pub struct Mended {
+    pub length: usize,
+    pub kept: usize,
+    pub added: usize,
+}
+
+// Why a document is not mended: it is too long; its declaration, at a place, names another encoding than UTF-8; no root tag is kept, and
+// the first fault is at a place; the buffer is too short for the mended document, which has this length.
+#[derive(Clone, Copy, Debug, PartialEq, Eq)]
+pub enum MendError {
     TooLong,
     OtherEncoding(usize),
     NoRoot(usize),
@@ -44,23 +45,23 @@ fn readable_end(doc: &[u8]) -> usize
     ensures { (result ≤ length doc.now) × (take result doc.now ≡ readable doc.now) }
 {
     match check(doc) {
-        Checked::All => doc.len(),
-        Checked::BadAt(o) => o,
+        Ok(()) => doc.len(),
+        Err(e) => e.valid_up_to,
     }
 }
 
 // Any document and any buffer. Only under 0 is a byte of the buffer changed, and then none after the mended document.
-pub fn mend(doc: &[u8], out: &mut [u8]) -> Answer
+pub fn mend(doc: &[u8], out: &mut [u8]) -> Result<Mended, MendError>
     ensures value { result ≡ answer_of doc.now (length out.old) }
     ensures out_after { out.new ≡ bytes_after doc.now out.old }
 {
     if doc.len() > Open::BYTES {
-        return Answer::TooLong;
+        return Err(MendError::TooLong);
     }
     let start = start_of(doc);
     if names_other(doc, start) {
-        return Answer::OtherEncoding(start);
+        return Err(MendError::OtherEncoding(start));
     }
     let end = readable_end(doc);
-    mended(&doc[0..end], out)
+    kept::mended(&doc[0..end], out)
 }

@@ -7,6 +7,7 @@ use mathlib.Core.List.{List, [], ◌∷◌, ◌++◌, append_assoc, append-nil, 
 use Prim.Native.Nat.{ℕ, zero, suc, ◌≤◌}
 use lib.Dec.{eqb}
 use lib.ListN.{length, take, drop, take-append-drop}
+use Rattle.std.specs.Prelude.{Ok}
 use Rattle.xml.specs.Notation.{lit, Reads, Star, more, ◌∗}
 use Rattle.xml.specs.Encoding.{EncodingBy, DeclBy, NamesOther}
 use Rattle.xml.specs.Utf8.{utf8, is_scalar}
@@ -20,8 +21,8 @@ use Rattle.xml.proofs.Language.{reads_language, language_reads}
 use Rattle.xml.proofs.Utf8.{utf8_low}
 use Rattle.chars.specs.Check.{check_of}
 use Rattle.chars.specs.Meaning.{CheckSays}
-use Rattle.chars.specs.declared.whole.Checked.{Checked}
-use Rattle.chars.specs.declared.whole.Checked.TheVariants.{All, BadAt}
+use Rattle.std.specs.Prelude.{Result, Ok, Err}
+use Rattle.chars.specs.declared.whole.CharError.{CharError}
 use Rattle.chars.proofs.Meaning.{check_says}
 use Rattle.readers.specs.Meaning.{Chars}
 use Rattle.readers.specs.Named.{other_encoding}
@@ -31,7 +32,6 @@ use Rattle.document.specs.Place.{Opened, placement, after_item, end_of}
 use Rattle.document.specs.Judge.{front, start_of, nothing, judge_of}
 use Rattle.document.specs.declared.Placement.{Placement}
 use Rattle.document.specs.declared.Placement.TheVariants.{Fine, Fault, Over}
-use Rattle.document.specs.declared.judge.Judged.TheVariants.{Sound}
 use Rattle.mended.proofs.Reaching.{Reaches, here, next}
 use Rattle.demands.proofs.First.{start_inside, start_chars, named_none}
 use Rattle.demands.proofs.Accepted.{derived_sound}
@@ -73,9 +73,11 @@ pub readable_chars : (d : List ℕ) → Chars (readable d)
 unfolding readable
 readable_chars d = go (check_of d) (check_says d)
   where
-    go : (c : Checked) → CheckSays d c → Chars (cut_at c d)
-    go All x = x
-    go (BadAt o) (l, x, n) = cut_chars d (drop o d) x (take o d) (sym (take-append-drop o d))
+    go : (c : Result Unit CharError) → CheckSays d c → Chars (cut_at c d)
+    go (Ok tt) x = x
+    go (Err e) (l, x, n) =
+        let o = e.valid_up_to in
+        cut_chars d (drop o d) x (take o d) (sym (take-append-drop o d))
 
 -- ---- the three front bytes: no document begins with them after they are skipped
 
@@ -93,13 +95,13 @@ document_unmarked : {s : List ℕ} {f : Forest} → Document Small s f → begin
 document_unmarked (doc.declared i r) = rw i.reads.1 refl
 document_unmarked (doc.bare r) = rooted_unmarked r
 
-derived_alone : (s : List ℕ) → Derived s → length s ≤ 16777216 → judge_of s ≡ Sound
+derived_alone : (s : List ℕ) → Derived s → length s ≤ 16777216 → judge_of s ≡ Ok tt
 unfolding start_of
 derived_alone s (f, x) l =
     let z : start_of s ≡ 0 = rw (document_unmarked x) refl in
     derived_sound s {f = f} l (document_chars x) (rw z x)
 
-derived_marked : (s : List ℕ) → Derived s → length (front ++ s) ≤ 16777216 → judge_of (front ++ s) ≡ Sound
+derived_marked : (s : List ℕ) → Derived s → length (front ++ s) ≤ 16777216 → judge_of (front ++ s) ≡ Ok tt
 unfolding start_of is_char is_scalar utf8
 derived_marked s (f, x) l = derived_sound (front ++ s) l (more (0xFEFF, refl, refl, refl) (document_chars x)) x
 
@@ -118,11 +120,11 @@ module _ {d : List ℕ} {at o : ℕ} {x : List ℕ} (h : Held d at o x Derived) 
   held_whole = ap (λ (l : List ℕ). l ++ x) held_take ∙ append_assoc (take at d) h.bytes x
 
 held_sound : (d : List ℕ) {o : ℕ} {x : List ℕ} → Held d (start_of d) o x Derived → length (take o d ++ x) ≤ 16777216
-    → judge_of (take o d ++ x) ≡ Sound
+    → judge_of (take o d ++ x) ≡ Ok tt
 unfolding start_of
 held_sound d {o} {x} h l = go (begins front d) refl h
   where
-    go : (b : Bool) → begins front d ≡ b → Held d (cond b 3 0) o x Derived → judge_of (take o d ++ x) ≡ Sound
+    go : (b : Bool) → begins front d ≡ b → Held d (cond b 3 0) o x Derived → judge_of (take o d ++ x) ≡ Ok tt
     go true q h =
         let z : take o d ++ x ≡ front ++ (h.bytes ++ x)
         = held_whole h ∙ ap (λ (w : List ℕ). take 3 w ++ (h.bytes ++ x)) (begins_split front d q) in
@@ -159,9 +161,9 @@ readable_front : (d : List ℕ) → (u : List ℕ) × (d ≡ readable d ++ u)
 unfolding readable
 readable_front d = go (check_of d)
   where
-    go : (c : Checked) → (u : List ℕ) × (d ≡ cut_at c d ++ u)
-    go All = ([], sym (append-nil d))
-    go (BadAt o) = (drop o d, sym (take-append-drop o d))
+    go : (c : Result Unit CharError) → (u : List ℕ) × (d ≡ cut_at c d ++ u)
+    go (Ok tt) = ([], sym (append-nil d))
+    go (Err e) = (drop e.valid_up_to d, sym (take-append-drop e.valid_up_to d))
 
 pub readable_names : (d : List ℕ) → other_encoding (drop (start_of d) d) ≡ false → NamesOther (drop (start_of (readable d)) (readable d))
     → ⊥
@@ -172,7 +174,7 @@ readable_names d q x =
 -- ---- the theorem
 
 pub mended_sound : (d : List ℕ) → other_encoding (drop (start_of d) d) ≡ false → root_kept d ≡ true → length (mended_of d) ≤ 16777216
-    → judge_of (mended_of d) ≡ Sound
+    → judge_of (mended_of d) ≡ Ok tt
 unfolding root_kept mended_of kept_of
 mended_sound d n q l =
     let r = readable d in

@@ -10,25 +10,24 @@ use borrow.Author.Tests.{lt-ltb, le-ltb, ltb-true, ltb-false}
 use lib.Dec.{ltb}
 use lib.ListN.{length, take, drop, length-append}
 use lib.Seq.{take_at, length-take-le}
+use Rattle.std.specs.Prelude.{Ok, Result, Err}
 use Rattle.readers.specs.Meaning.{Chars}
 use Rattle.readers.specs.Named.{other_encoding}
 use Rattle.readers.proofs.Encoding.{other_iff}
 use Rattle.paths.specs.Judge.{list_answer}
-use Rattle.paths.specs.declared.ListAnswer.TheVariants as lists
 use Rattle.document.specs.Judge.{start_of, scanned, judge_of, second_of}
 use Rattle.document.specs.declared.Why.{Why}
-use Rattle.document.specs.declared.judge.Judged.TheVariants.{Sound}
 use Rattle.trees.specs.Written.{cut_of, count_of, tests_of}
 use Rattle.cutter.specs.Answer as cutter
-use Rattle.cutter.specs.declared.Answer.TheVariants.{Written}
 use Rattle.demands.specs.Reached.{FirstFault}
 use Rattle.demands.proofs.First.{named_none, none_named, sound_scanned}
 use Rattle.demands.proofs.Faults.{fault_scanned}
 use Rattle.mend.specs.Kept.{Kept, readable, kept_of}
 use Rattle.mend.specs.Mended.{end_tags, mended_by, bytes_kept, missing, root_kept, tags_added, mended_of}
-use Rattle.mend.specs.Answer.{number_of, kept_number, added_number, fault_at, by_root, answer_of, after, bytes_after}
-use Rattle.mend.specs.declared.Answer.{Answer}
-use Rattle.mend.specs.declared.Answer.TheVariants.{Mended, TooLong, OtherEncoding, NoRoot, Short}
+use Rattle.mend.specs.Answer.{number_of, second_of as second, kept_number, added_number, fault_at, by_root, answer_of, after, bytes_after}
+use Rattle.mend.specs.declared.Mended.{Mended}
+use Rattle.mend.specs.declared.MendError.{MendError}
+use Rattle.mend.specs.declared.MendError.TheVariants.{TooLong, OtherEncoding, NoRoot, Short}
 use Rattle.mended.specs.Meaning.{Ends, fault, over, half}
 use Rattle.mended.specs.Answers.{Taken, Says, too_long, in_other_encoding, no_root, too_short, mended}
 use Rattle.mended.proofs.Accepted.{readable_chars, mended_sound}
@@ -48,13 +47,15 @@ pub record Wrote (d : List ℕ) (room n k a : ℕ) : Type 0 where
   pub fits : n ≤ room
 
 -- by the tests that `answer_of` makes
-abbrev by_tests : Bool → Bool → Bool → Bool → List ℕ → Answer
+abbrev by_tests : Bool → Bool → Bool → Bool → List ℕ → Result Mended MendError
 by_tests long other rooted short d =
-    cond long TooLong
-    (cond other (OtherEncoding (start_of d))
-    (by_root rooted (fault_at d) (cond short (Short (length (mended_of d))) (Mended (length (mended_of d)) (bytes_kept d) (tags_added d)))))
+    cond long (Err TooLong)
+    (cond other (Err (OtherEncoding (start_of d)))
+    (by_root rooted (fault_at d)
+    (cond short (Err (Short (length (mended_of d))))
+    (Ok (record { length = length (mended_of d); kept = bytes_kept d; added = tags_added d })))))
 
-record Tested (d : List ℕ) (room : ℕ) (a : Answer) : Type 0 where
+record Tested (d : List ℕ) (room : ℕ) (a : Result Mended MendError) : Type 0 where
   long : Bool
   other : Bool
   rooted : Bool
@@ -80,37 +81,37 @@ tested d room =
       answer_is = refl;
     }
 
-pub mended_wrote : (d : List ℕ) (room n k a : ℕ) → answer_of d room ≡ Mended n k a → Wrote d room n k a
+pub mended_wrote : (d : List ℕ) (room n k a : ℕ) → answer_of d room ≡ Ok (record { length = n; kept = k; added = a }) → Wrote d room n k a
 mended_wrote d room n k a e =
     let t = tested d room in
     go t.long t.other t.rooted t.short t.long_is t.other_is t.rooted_is t.short_is (t.answer_is ∙ e)
   where
     go : (l o r s : Bool) → ltb 16777216 (length d) ≡ l → other_encoding (drop (start_of d) d) ≡ o → root_kept d ≡ r
-        → ltb room (length (mended_of d)) ≡ s → by_tests l o r s d ≡ Mended n k a → Wrote d room n k a
+        → ltb room (length (mended_of d)) ≡ s → by_tests l o r s d ≡ Ok (record { length = n; kept = k; added = a }) → Wrote d room n k a
     go true o r s p u q v e = absurd (false≢true cc)
     go false true r s p u q v e = absurd (false≢true cc)
     go false false false s p u q v e = absurd (false≢true cc)
     go false false true true p u q v e = absurd (false≢true cc)
     go false false true false p u q v e =
         let l = ltb-false room (length (mended_of d)) v in
-        let z : n ≡ length (mended_of d) = cc in
+        let z : n ≡ length (mended_of d) = sym (ap second e) in
         record {
           size = ltb-false 16777216 (length d) p;
           utf8 = u;
           rooted = q;
           length_is = z;
-          kept_is = cc;
-          added_is = cc;
+          kept_is = sym (ap kept_number e);
+          added_is = sym (ap added_number e);
           fits = omega arith;
         }
 
 -- 9 is given only where there is too little room
-pub short_is : (d : List ℕ) (room n : ℕ) → answer_of d room ≡ Short n → room < length (mended_of d)
+pub short_is : (d : List ℕ) (room n : ℕ) → answer_of d room ≡ Err (Short n) → room < length (mended_of d)
 short_is d room n e =
     let t = tested d room in
     go t.long t.other t.rooted t.short t.short_is (t.answer_is ∙ e)
   where
-    go : (l o r s : Bool) → ltb room (length (mended_of d)) ≡ s → by_tests l o r s d ≡ Short n → room < length (mended_of d)
+    go : (l o r s : Bool) → ltb room (length (mended_of d)) ≡ s → by_tests l o r s d ≡ Err (Short n) → room < length (mended_of d)
     go true o r s v e = absurd (false≢true cc)
     go false true r s v e = absurd (false≢true cc)
     go false false false s v e = absurd (false≢true cc)
@@ -126,12 +127,9 @@ mended_length d =
     ∙ ap (λ (k : ℕ). k + length (end_tags (missing d))) (ap length e ∙ length-take-le (bytes_kept d) d l)
 
 -- "otherwise the last two are 0"
-pub others_zero : (a : Answer) → (number_of a ≡ 0 → ⊥) → (kept_number a ≡ 0) × (added_number a ≡ 0)
-others_zero (Mended n k b) h = absurd (h refl)
-others_zero TooLong h = (refl, refl)
-others_zero (OtherEncoding o) h = (refl, refl)
-others_zero (NoRoot f) h = (refl, refl)
-others_zero (Short n) h = (refl, refl)
+pub others_zero : (a : Result Mended MendError) → (number_of a ≡ 0 → ⊥) → (kept_number a ≡ 0) × (added_number a ≡ 0)
+others_zero (Ok m) h = absurd (h refl)
+others_zero (Err e) h = (refl, refl)
 
 -- ---- the buffer
 
@@ -140,15 +138,12 @@ pub untouched : (d o : List ℕ) → (number_of (answer_of d (length o)) ≡ 0 �
 unfolding bytes_after
 untouched d o = go (answer_of d (length o))
   where
-    go : (a : Answer) → (number_of a ≡ 0 → ⊥) → after a (mended_of d) o ≡ o
-    go (Mended n k a) h = absurd (h refl)
-    go TooLong h = refl
-    go (OtherEncoding n) h = refl
-    go (NoRoot f) h = refl
-    go (Short n) h = refl
+    go : (a : Result Mended MendError) → (number_of a ≡ 0 → ⊥) → after a (mended_of d) o ≡ o
+    go (Ok m) h = absurd (h refl)
+    go (Err e) h = refl
 
 -- the mended document stands at the front of the buffer, and the bytes after it stay
-pub written_first : (d o : List ℕ) (n k a : ℕ) → answer_of d (length o) ≡ Mended n k a
+pub written_first : (d o : List ℕ) (n k a : ℕ) → answer_of d (length o) ≡ Ok (record { length = n; kept = k; added = a })
     → (bytes_after d o ≡ mended_of d ++ drop n o) × (take n (bytes_after d o) ≡ mended_of d)
 unfolding bytes_after
 written_first d o n k a e =
@@ -156,7 +151,8 @@ written_first d o n k a e =
 
 -- ---- "A sound document comes back unchanged with 0 added"
 
-pub sound_back : (d : List ℕ) (room : ℕ) → judge_of d ≡ Sound → length d ≤ room → answer_of d room ≡ Mended (length d) (length d) 0
+pub sound_back : (d : List ℕ) (room : ℕ) → judge_of d ≡ Ok tt → length d ≤ room
+    → answer_of d room ≡ Ok (record { length = length d; kept = length d; added = 0 })
 sound_back d room e l =
     let t = tested d room in
     let u = sound_unchanged d e in
@@ -167,30 +163,32 @@ sound_back d room e l =
     let w : t.short ≡ false = sym t.short_is ∙ rw u.same (le-ltb room (length d) l) in
     sym t.answer_is ∙ rw (z, y, r, w, u.same, u.kept, u.added) refl
 
-pub sound_comes_back : (d o : List ℕ) → judge_of d ≡ Sound → length d ≤ length o
-    → (answer_of d (length o) ≡ Mended (length d) (length d) 0) × (bytes_after d o ≡ d ++ drop (length d) o)
+pub sound_comes_back : (d o : List ℕ) → judge_of d ≡ Ok tt → length d ≤ length o
+    → (answer_of d (length o) ≡ Ok (record { length = length d; kept = length d; added = 0 })) × (bytes_after d o ≡ d ++ drop (length d) o)
 sound_comes_back d o e l =
     let a = sound_back d (length o) e l in
     (a, (written_first d o (length d) (length d) 0 a).0 ∙ ap (λ (w : List ℕ). w ++ drop (length d) o) (sound_unchanged d e).same)
 
 -- ---- "the result is always accepted by the filter if it is within the document size"
 
-module _ (d o : List ℕ) (n k a : ℕ) (e : answer_of d (length o) ≡ Mended n k a) (size : n ≤ 16777216) where
+module _ (d o : List ℕ) (n k a : ℕ) (e : answer_of d (length o)
+    ≡ Ok (record { length = n; kept = k; added = a })) (size : n ≤ 16777216) where
   abbrev result : List ℕ
   result = take n (bytes_after d o)
 
   result_is : result ≡ mended_of d
   result_is = (written_first d o n k a e).1
 
-  pub result_sound : judge_of result ≡ Sound
+  pub result_sound : judge_of result ≡ Ok tt
   result_sound =
       let w = mended_wrote d (length o) n k a e in
       let l : length (mended_of d) ≤ 16777216 = rw (← w.length_is) size in
       rw result_is (mended_sound d w.utf8 w.rooted l)
 
   -- so the filter cuts it by every sound list
-  pub result_cut : (list : List ℕ) (room : ℕ) → list_answer list ≡ lists.Sound → length (cut_of list result) ≤ room
-      → cutter.answer_of list result room ≡ Written (length (cut_of list result)) (count_of list result) (tests_of list result)
+  pub result_cut : (list : List ℕ) (room : ℕ) → list_answer list ≡ Ok tt → length (cut_of list result) ≤ room
+      → cutter.answer_of list result room
+      ≡ Ok (record { length = length (cut_of list result); selected = count_of list result; tests = tests_of list result })
   unfolding cutter.answer_of
   result_cut list room p l = rw (p, result_sound, le-ltb room (length (cut_of list result)) l) refl
 
@@ -200,7 +198,7 @@ module _ (d o : List ℕ) (n k a : ℕ) (e : answer_of d (length o) ≡ Mended n
   result_length = ap length result_is ∙ sym (mended_wrote d (length o) n k a e).length_is
 
   pub mended_again : (o' : List ℕ) → n ≤ length o'
-      → (answer_of result (length o') ≡ Mended n n 0) × (bytes_after result o' ≡ result ++ drop n o')
+      → (answer_of result (length o') ≡ Ok (record { length = n; kept = n; added = 0 })) × (bytes_after result o' ≡ result ++ drop n o')
   mended_again o' l =
       let z : length result ≤ length o' = rw (← result_length) at l in
       rw result_length at (sound_comes_back result o' result_sound z)
@@ -249,7 +247,7 @@ answer_says d room =
     go false false true false p u q v = mended k (taken p u) q (ltb-false room (length (mended_of d)) v)
 
 -- and no other answer says so
-pub says_answer : (d : List ℕ) (room : ℕ) (a : Answer) → Says d room a → a ≡ answer_of d room
+pub says_answer : (d : List ℕ) (room : ℕ) (a : Result Mended MendError) → Says d room a → a ≡ answer_of d room
 unfolding fault_at root_kept mended_of bytes_kept missing tags_added
 says_answer d room a x = go x ∙ t.answer_is
   where
@@ -267,20 +265,20 @@ says_answer d room a x = go x ∙ t.answer_is
     root : {k : Kept} {b : Bool} → k ≡ kept_of (readable d) → k.opened.rooted ≡ b → t.rooted ≡ b
     root e q = sym t.rooted_is ∙ ap (λ (j : Kept). j.opened.rooted) (sym e) ∙ q
 
-    go : {a : Answer} → Says d room a → a ≡ by_tests t.long t.other t.rooted t.short d
+    go : {a : Result Mended MendError} → Says d room a → a ≡ by_tests t.long t.other t.rooted t.short d
     go (too_long l) = let z : t.long ≡ true = sym t.long_is ∙ lt-ltb 16777216 (length d) l in rw z refl
     go (in_other_encoding l n) =
         let z : t.other ≡ true = sym t.other_is ∙ (other_iff (drop (start_of d) d)).1 n in
         rw (small l, z) refl
     go (no_root k why y q h) =
         let (l, u, e) = taken y in
-        rw (l, u, root e q) (ap NoRoot (sym (ap second_of (fault_scanned (readable d) (readable_chars d) h))))
+        rw (l, u, root e q) (ap (λ (n : ℕ). Err (NoRoot n)) (sym (ap second_of (fault_scanned (readable d) (readable_chars d) h))))
     go (too_short k y q m) =
         let (l, u, e) = taken y in
         let w : t.short ≡ true = sym t.short_is ∙ lt-ltb room (length (mended_of d)) (rw e at m) in
-        rw (l, u, root e q, w) (ap (λ (j : Kept). Short (length (mended_by (readable d) j))) e)
+        rw (l, u, root e q, w) (ap (λ (j : Kept). Err (Short (length (mended_by (readable d) j)))) e)
     go (mended k y q m) =
         let (l, u, e) = taken y in
         let w : t.short ≡ false = sym t.short_is ∙ le-ltb room (length (mended_of d)) (rw e at m) in
         rw (l, u, root e q, w)
-        (ap (λ (j : Kept). Mended (length (mended_by (readable d) j)) j.bytes (length j.opened.names)) e)
+        (ap (λ (j : Kept). Ok (record { length = length (mended_by (readable d) j); kept = j.bytes; added = length j.opened.names })) e)

@@ -6,6 +6,7 @@ use mathlib.Core.List.{List, [], ◌∷◌}
 use Prim.Native.Nat.{ℕ, suc, min, ◌+◌, ◌*◌, ◌≤◌, ◌<◌}
 use native.Mathlib.Omega.{arith}
 use lib.ListN.{length, drop, length-append, length-take}
+use Rattle.std.specs.Prelude.{Err}
 use Rattle.xml.specs.Notation.{bytes}
 use Rattle.xml.specs.Forest.{Name, end_tag}
 use Rattle.xml.specs.Document.{AllShort}
@@ -25,7 +26,7 @@ use Rattle.demands.proofs.Sound.{start_fine}
 use Rattle.mend.specs.Kept.{readable, kept_of}
 use Rattle.mend.specs.Mended.{end_tags, missing, tags_added, mended_of}
 use Rattle.mend.specs.Answer.{answer_of}
-use Rattle.mend.specs.declared.Answer.TheVariants.{Short}
+use Rattle.mend.specs.declared.MendError.TheVariants.{Short}
 use Rattle.mended.proofs.Reaching.{Reaches, here, next, next_chars}
 use Rattle.mended.proofs.Accepted.{kept_reached, readable_chars}
 use Rattle.mended.proofs.Told.{kept_first}
@@ -104,5 +105,5 @@ mended_at_most d =
     omega arith
 
 -- so with that much room 9 is never answered
-pub never_short : (d : List ℕ) (room n : ℕ) → length d + 16512 ≤ room → answer_of d room ≡ Short n → ⊥
+pub never_short : (d : List ℕ) (room n : ℕ) → length d + 16512 ≤ room → answer_of d room ≡ Err (Short n) → ⊥
 never_short d room n h e = let l = short_is d room n e in let z = mended_at_most d in omega arith

@@ -12,8 +12,8 @@ use lib.ListN.{length, take, drop, length-take}
 use lib.Seq.{take-take}
 use Rattle.xml.proofs.Bools.{and_left, and_right}
 use Rattle.chars.specs.Check.{check_of}
-use Rattle.chars.specs.declared.whole.Checked.{Checked}
-use Rattle.chars.specs.declared.whole.Checked.TheVariants.{All, BadAt}
+use Rattle.std.specs.Prelude.{Result, Ok, Err}
+use Rattle.chars.specs.declared.whole.CharError.{CharError}
 use Rattle.readers.specs.Meaning.{Chars}
 use Rattle.tags.specs.declared.Item.{Item}
 use Rattle.tags.specs.declared.Item.TheVariants.{Declaration, Instruction, Comment, Section, Reference, Text, Start, Finish}
@@ -215,10 +215,11 @@ pub kept_first : (d : List ℕ) → (bytes_kept d ≤ length d) × (take (bytes_
 unfolding bytes_kept readable
 kept_first d = go (check_of d)
   where
-    go : (c : Checked) → ((kept_of (cut_at c d)).bytes ≤ length d)
+    go : (c : Result Unit CharError) → ((kept_of (cut_at c d)).bytes ≤ length d)
         × (take (kept_of (cut_at c d)).bytes (cut_at c d) ≡ take (kept_of (cut_at c d)).bytes d)
-    go All = (kept_inside d, refl)
-    go (BadAt o) =
+    go (Ok tt) = (kept_inside d, refl)
+    go (Err e) =
+        let o = e.valid_up_to in
         let l = kept_inside (take o d) in
         let m : length (take o d) ≡ min o (length d) = length-take o d in
         (omega arith, take-take (kept_of (take o d)).bytes o d (omega arith))

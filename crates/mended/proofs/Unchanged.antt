@@ -10,9 +10,10 @@ use borrow.Author.Tests.{leb-true}
 use lib.Dec.{leb}
 use lib.ListN.{length, take, drop, length-drop, drop_of_length-le}
 use lib.Seq.{take-length}
+use Rattle.std.specs.Prelude.{Ok}
 use Rattle.xml.proofs.Bools.{and_left, and_right}
-use Rattle.chars.specs.declared.whole.Checked.{Checked}
-use Rattle.chars.specs.declared.whole.Checked.TheVariants.{All}
+use Rattle.std.specs.Prelude.{Result, Ok}
+use Rattle.chars.specs.declared.whole.CharError.{CharError}
 use Rattle.chars.proofs.Meaning.{check_only}
 use Rattle.readers.specs.Meaning.{Chars}
 use Rattle.tags.specs.declared.Item.{Item}
@@ -24,7 +25,6 @@ use Rattle.document.specs.Place.{Opened, some, inside, placement, after_item, en
 use Rattle.document.specs.Judge.{start_of, nothing, scanned, judge_of}
 use Rattle.document.specs.declared.Placement.TheVariants.{Fine, Fault, Over}
 use Rattle.document.specs.declared.Why.TheVariants.{Malformed as NotFormed}
-use Rattle.document.specs.declared.judge.Judged.TheVariants.{Sound}
 use Rattle.document.proofs.Judging.{fine_ahead}
 use Rattle.trees.proofs.Passes.{Passes, scan_passes, over_fine, over_nothing, over_closed}
 use Rattle.trees.proofs.Over.{nothing_left}
@@ -105,9 +105,9 @@ passes_whole (suc k) d at first s l (inr (p, h)) =
 
 pub readable_all : (d : List ℕ) → Chars d → readable d ≡ d
 unfolding readable
-readable_all d c = ap (λ (x : Checked). cut_at x d) (sym (check_only d All c))
+readable_all d c = ap (λ (x : Result Unit CharError). cut_at x d) (sym (check_only d (Ok tt) c))
 
-pub sound_whole : (d : List ℕ) → judge_of d ≡ Sound → Whole d (kept_of (readable d))
+pub sound_whole : (d : List ℕ) → judge_of d ≡ Ok tt → Whole d (kept_of (readable d))
 unfolding kept_of scanned
 sound_whole d e =
     let (l, u, c, x) = sound_scanned d e in
@@ -121,7 +121,7 @@ pub record Unchanged (d : List ℕ) : Type 0 where
   pub added : tags_added d ≡ 0
   pub rooted : root_kept d ≡ true
 
-pub sound_unchanged : (d : List ℕ) → judge_of d ≡ Sound → Unchanged d
+pub sound_unchanged : (d : List ℕ) → judge_of d ≡ Ok tt → Unchanged d
 unfolding mended_of bytes_kept missing tags_added root_kept
 sound_unchanged d e =
     let w = sound_whole d e in

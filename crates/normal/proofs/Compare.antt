@@ -3,7 +3,7 @@ use mathlib.Core.Path.{◌≡◌, refl, sym, ap, ◌∙◌}
 use mathlib.Core.Bool.{Bool, true, false, cond, ◌&&◌, ◌||◌, false≢true}
 use mathlib.Core.List.{List, [], ◌∷◌, ◌++◌}
 use mathlib.Core.Logic.{◌⊎◌, inl, inr}
-use mathlib.Core.Option.{Option, none, some, none-ne-some, some-injective}
+use mathlib.Core.Option.{Option as Maybe, none, some, none-ne-some, some-injective}
 use Prim.Native.Nat.{ℕ, suc, ◌+◌, ◌-◌, ◌≤◌}
 use native.Mathlib.Omega.{arith}
 use borrow.Author.Tests.{eqb-true, eq-eqb, ne_eqb}
@@ -19,9 +19,8 @@ use Rattle.xml.proofs.Utf8.{scalar_ascii, utf8_long}
 use Rattle.xml.proofs.Character.{begins_append, begins_split, character_is, character_some}
 use Rattle.readers.specs.Read.{expect}
 use Rattle.utf8.specs.Sequence.{point_at, sequence_at}
-use Rattle.utf8.specs.declared.Sequence.{Sequence}
-use Rattle.utf8.specs.declared.Sequence.TheVariants.{Point, Bad}
-use Rattle.chars.specs.declared.name.Reading.TheVariants.{Ends, Fault as NoEnd}
+use Rattle.std.proofs.lemmas.Option.{some_pair_parts}
+use Rattle.std.specs.Prelude.{Option, Some, None}
 use Rattle.readers.specs.Answer.{Answers}
 use Rattle.readers.proofs.Answers.{text_yes, text_no}
 use Rattle.readers.proofs.Combine.{lit_sound, lit_complete}
@@ -40,37 +39,37 @@ begins_not c s k n = go (begins (utf8 c) s) refl
     go true e = absurd (n (character_is s c _ k (begins_split (utf8 c) s e)))
     go false e = refl
 
-point_is : (t : List ℕ) (k : ℕ) {r : Sequence} {x e : ℕ} → r ≡ sequence_at t k → r ≡ Point x e
+point_is : (t : List ℕ) (k : ℕ) {r : Option (ℕ × ℕ)} {x e : ℕ} → r ≡ sequence_at t k → r ≡ Some (x, e)
     → (character (drop k t) ≡ some x) × (e ≡ k + length (utf8 x))
 unfolding sequence_at
 point_is t k {r} {x} {e} q z = go (character (drop k t)) (sym z ∙ q)
   where
-    go : (o : Option ℕ) → Point x e ≡ point_at k o → (o ≡ some x) × (e ≡ k + length (utf8 x))
+    go : (o : Maybe ℕ) → Some (x, e) ≡ point_at k o → (o ≡ some x) × (e ≡ k + length (utf8 x))
     go none h = absurd (false≢true cc)
-    go (some y) h = let i : y ≡ x = cc in (ap some i, cc (ap (λ (y : ℕ). k + length (utf8 y)) i))
+    go (some y) h = let (i, j) = some_pair_parts _ _ _ _ h in (ap some (sym i), j ∙ rw i)
 
-bad_is : (t : List ℕ) (k : ℕ) {r : Sequence} → r ≡ sequence_at t k → r ≡ Bad → character (drop k t) ≡ none
+bad_is : (t : List ℕ) (k : ℕ) {r : Option (ℕ × ℕ)} → r ≡ sequence_at t k → r ≡ None → character (drop k t) ≡ none
 unfolding sequence_at
 bad_is t k {r} q z = go (character (drop k t)) (sym z ∙ q)
   where
-    go : (o : Option ℕ) → Bad ≡ point_at k o → o ≡ none
+    go : (o : Maybe ℕ) → None ≡ point_at k o → o ≡ none
     go none h = refl
     go (some y) h = absurd (false≢true cc)
 
-module _ (t : List ℕ) (k c : ℕ) {r : Sequence} (q : r ≡ sequence_at t k) where
-  pub put_same : {x e : ℕ} → r ≡ Point x e → x ≡ c → Answers t k (Ends e) (expect (utf8 c) (drop k t))
+module _ (t : List ℕ) (k c : ℕ) {r : Option (ℕ × ℕ)} (q : r ≡ sequence_at t k) where
+  pub put_same : {x e : ℕ} → r ≡ Some (x, e) → x ≡ c → Answers t k (Some e) (expect (utf8 c) (drop k t))
   put_same {x} {e} z i =
       let (a, b) = point_is t k q z in
       let h : true ≡ begins (utf8 c) (drop k t)
       = sym (ap (begins (utf8 c)) (character_some (drop k t) c (a ∙ ap some i)).1 ∙ begins_append (utf8 c) _) in
       rw (b, i) (text_yes t k (utf8 c) h refl (utf8_long c))
 
-  pub put_other : is_scalar c ≡ true → {x e : ℕ} → r ≡ Point x e → (x ≡ c → ⊥) → Answers t k NoEnd (expect (utf8 c) (drop k t))
+  pub put_other : is_scalar c ≡ true → {x e : ℕ} → r ≡ Some (x, e) → (x ≡ c → ⊥) → Answers t k None (expect (utf8 c) (drop k t))
   put_other s {x} z n =
       let (a, b) = point_is t k q z in
       text_no t k (utf8 c) (sym (begins_not c (drop k t) s (λ h. n (some-injective x c (sym a ∙ h))))) refl
 
-  pub put_bad : is_scalar c ≡ true → r ≡ Bad → Answers t k NoEnd (expect (utf8 c) (drop k t))
+  pub put_bad : is_scalar c ≡ true → r ≡ None → Answers t k None (expect (utf8 c) (drop k t))
   put_bad s z =
       text_no t k (utf8 c) (sym (begins_not c (drop k t) s (λ h. none-ne-some c (sym (bad_is t k q z) ∙ h)))) refl
 

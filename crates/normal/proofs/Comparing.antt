@@ -13,8 +13,7 @@ use Rattle.xml.specs.Utf8.{utf8, is_scalar}
 use Rattle.xml.specs.Productions.{same}
 use Rattle.xml.specs.Sign.{Sign as Origin, literal, referred, Where, Comes}
 use Rattle.utf8.proofs.Place.{drop_step, drop_end}
-use Rattle.chars.specs.declared.name.Reading.{Reading}
-use Rattle.chars.specs.declared.name.Reading.TheVariants.{Ends, Fault as NoEnd}
+use Rattle.std.specs.Prelude.{Option, Some, None}
 use Rattle.readers.specs.Read.{expect}
 use Rattle.readers.specs.Sign.{signs_in}
 use Rattle.readers.specs.Answer.{Answers}
@@ -105,9 +104,9 @@ module _ {w : Where} {d t : List ℕ} {at i k : ℕ} {after : Bool} (v : Compari
   step f = signs_step w (drop i d) f.comes
 
   -- the character x of the value and what is left after it, against the text from k on
-  module _ (x e : ℕ) (next : Bool) (is : left_of w after (drop i d) ≡ utf8 x ++ left_of w next (drop e d)) {a : Reading}
+  module _ (x e : ℕ) (next : Bool) (is : left_of w after (drop i d) ≡ utf8 x ++ left_of w next (drop e d)) {a : Option ℕ}
       (y : Answers t k a (expect (utf8 x) (drop k t))) where
-    goes_on : {m : ℕ} → a ≡ Ends m → Comparing w d t at e m next
+    goes_on : {m : ℕ} → a ≡ Some m → Comparing w d t at e m next
     goes_on {m} h =
         record {
           fits = ends_inside y h;
@@ -117,7 +116,7 @@ module _ {w : Where} {d t : List ℕ} {at i k : ℕ} {after : Bool} (v : Compari
               ∙ v.agrees;
         }
 
-    differs : a ≡ NoEnd → false ≡ same (normal_at (drop at d)) t
+    differs : a ≡ None → false ≡ same (normal_at (drop at d)) t
     differs h =
         sym (same_off (utf8 x) (left_of w next (drop e d)) (drop k t) (fault_none y h))
         ∙ sym (ap (λ (b : List ℕ). same b (drop k t)) is)
@@ -134,28 +133,28 @@ module _ {w : Where} {d t : List ℕ} {at i k : ℕ} {after : Bool} (v : Compari
               ∙ v.agrees;
         }
 
-    module _ (u : j ≡ false) {x : ℕ} (o : x ≡ plain_of c) {a : Reading} (y : Answers t k a (expect (utf8 x) (drop k t))) where
+    module _ (u : j ≡ false) {x : ℕ} (o : x ≡ plain_of c) {a : Option ℕ} (y : Answers t k a (expect (utf8 x) (drop k t))) where
       left : left_of w after (drop i d) ≡ utf8 x ++ left_of w (eqb c 0xD) (drop e d)
       left =
           ap (λ (m : List Origin). encoded (lines_from after m)) (step (found_literal w d i s z))
           ∙ literal_line after c (signs_in w 0 (drop e d)) (sym p ∙ u)
           ∙ ap (λ (b : ℕ). utf8 b ++ left_of w (eqb c 0xD) (drop e d)) (sym o)
 
-      pub compare_literal : {m : ℕ} → a ≡ Ends m → Comparing w d t at e m (eqb c 0xD)
+      pub compare_literal : {m : ℕ} → a ≡ Some m → Comparing w d t at e m (eqb c 0xD)
       compare_literal h = goes_on x e (eqb c 0xD) left y h
 
-      pub compare_other : a ≡ NoEnd → false ≡ same (normal_at (drop at d)) t
+      pub compare_other : a ≡ None → false ≡ same (normal_at (drop at d)) t
       compare_other h = differs x e (eqb c 0xD) left y h
 
-  module _ {c e : ℕ} (z : r ≡ Referred c e) {a : Reading} (y : Answers t k a (expect (utf8 c) (drop k t))) where
+  module _ {c e : ℕ} (z : r ≡ Referred c e) {a : Option ℕ} (y : Answers t k a (expect (utf8 c) (drop k t))) where
     said : left_of w after (drop i d) ≡ utf8 c ++ left_of w false (drop e d)
     unfolding lines_from encoded char_of
     said = ap (λ (m : List Origin). encoded (lines_from after m)) (step (found_referred w d i s z))
 
-    pub compare_referred : {m : ℕ} → a ≡ Ends m → Comparing w d t at e m false
+    pub compare_referred : {m : ℕ} → a ≡ Some m → Comparing w d t at e m false
     compare_referred h = goes_on c e false said y h
 
-    pub compare_unlike : a ≡ NoEnd → false ≡ same (normal_at (drop at d)) t
+    pub compare_unlike : a ≡ None → false ≡ same (normal_at (drop at d)) t
     compare_unlike h = differs c e false said y h
 
 pub ruleset comparing = (

@@ -10,24 +10,19 @@ ghost use Rattle.references.specs.Sign.{where_of};
 ghost use Rattle.attributes.specs.Held.{quotes_of, normal_at};
 ghost use Rattle.normal.specs.Plain.{plain_of};
 
-use chars::name::Reading;
 use references::next::{Sign, Where, next};
-use utf8::{Sequence, sequence_at};
+use utf8::sequence_at;
 
 // Where the character c at a place of a text ends.
-fn put(text: &[u8], at: usize, c: u32) -> Reading
+fn put(text: &[u8], at: usize, c: u32) -> Option<usize>
     requires { is_scalar c ≡ true }
     ensures { Answers text.now at result (expect (utf8 c) (drop at text.now)) }
 {
-    match sequence_at(text, at) {
-        Sequence::Point(x, e) => {
-            if x == c {
-                return Reading::Ends(e);
-            }
-            Reading::Fault
-        }
-        Sequence::Bad => Reading::Fault,
+    let (x, e) = sequence_at(text, at)?;
+    if x == c {
+        return Some(e);
     }
+    None
 }
 
 // Whether a literal c is the LF of a CR LF; `after` tells whether a literal CR stands before it.
@@ -74,6 +69,7 @@ pub fn value_is(doc: &[u8], at: usize, text: &[u8]) -> bool
     let mut i = at + 1;
     let mut k: usize = 0;
     let mut after = false;
+    // Each turn goes on where the reader of a character ended, so the place is no count.
     loop {
         match next(doc, i, place) {
             Sign::Literal(c, e) => {
@@ -83,25 +79,25 @@ pub fn value_is(doc: &[u8], at: usize, text: &[u8]) -> bool
                     continue;
                 }
                 match put(text, k, plain(c)) {
-                    Reading::Ends(m) => {
+                    Some(m) => {
                         k = m;
                         after = c == 0xD;
                         i = e;
                         continue;
                     }
-                    Reading::Fault => {
+                    None => {
                         return false;
                     }
                 }
             }
             Sign::Referred(c, e) => match put(text, k, c) {
-                Reading::Ends(m) => {
+                Some(m) => {
                     k = m;
                     after = false;
                     i = e;
                     continue;
                 }
-                Reading::Fault => {
+                None => {
                     return false;
                 }
             },

@@ -8,13 +8,14 @@ use native.Mathlib.Omega.{arith}
 use borrow.Author.Rules.{rules}
 use mir.Syntax.{w64}
 use mir.Val.{Fits}
-use lib.ListN.{length, get_or, drop, length-append, length-drop}
+use lib.ListN.{length, get_or, take, drop, length-append, length-drop}
 use lib.Seq.{length-take-le}
+use Rattle.std.proofs.lemmas.List.{get_or-take}
 use Rattle.xml.specs.Forest.{start_tag, end_tag}
 use Rattle.trees.specs.Grown.{part}
 use Rattle.writer.specs.Wrote.{Wrote}
-use Rattle.writer.proofs.Laying.{wrote_none, wrote_more, wrote_long}
-use Rattle.notes.specs.Notes.{kind_of, from_of, size_of, as_kind, note_text, text_of, Within}
+use Rattle.writer.proofs.Laying.{wrote_more, wrote_long}
+use Rattle.notes.specs.Notes.{kind_of, from_of, size_of, as_kind, note_text, text_of}
 
 pub part_size : (d : List ℕ) (a n : ℕ) → a + n ≤ length d → length (part d a (a + n)) ≡ n
 part_size d a n h =
@@ -112,32 +113,15 @@ pub record Replaying (d g o : List ℕ) (noted k len : ℕ) (o' : List ℕ) : Ty
   pub same : length o' ≡ length o
   pub wrote : Wrote o 0 (text_of d g k) len o'
 
-pub replay_start : {d g o : List ℕ} {noted : ℕ} → Replaying d g o noted 0 0 o
-replay_start = record { before = omega arith; far = omega arith; same = refl; wrote = wrote_none }
-
-module _ {d g o o₁ : List ℕ} {noted k len : ℕ} (v : Replaying d g o noted k len o₁) (few : noted ≤ length g) where
-  pub replay_index : k < noted → k < length g
-  replay_index l = omega arith
-
-  pub replay_near : length g ≤ 16777216 → len < 144115188075855872
-  replay_near h = omega (arith, v.far, v.before)
-
-  pub replay_inside : Within d g noted → k < noted → from_of (get_or g k 0) + size_of (get_or g k 0) ≤ length d
-  replay_inside w l = w.inside k l
-
-  pub replay_step : {o₂ : List ℕ} {r : ℕ} → k < noted → Wrote o₁ len (note_text d (get_or g k 0)) r o₂ × (r ≤ len + 16777219)
-      → Replaying d g o noted (k + 1) r o₂
-  replay_step l u =
-      record {
-        before = omega arith;
-        far = omega (arith, v.far, u.1);
-        same = wrote_long u.0 ∙ v.same;
-        wrote = rw (add-one k) (wrote_more v.wrote u.0);
-      }
-
-  pub replay_whole : noted ≤ k → Wrote o 0 (text_of d g noted) len o₁
-  replay_whole l =
-      let q : k ≡ noted = omega (arith, v.before) in
-      rw q at v.wrote
-
-pub ruleset replaying = (replay_start, replay_index, replay_near, replay_inside, replay_step, replay_whole)
+-- one note more
+pub replay_step : {d g o o₁ o₂ : List ℕ} {noted k len r : ℕ} → Replaying d g o noted k len o₁ → noted ≤ length g → k < length (take noted g)
+    → Wrote o₁ len (note_text d (get_or (take noted g) k 0)) r o₂ × (r ≤ len + 16777219) → Replaying d g o noted (k + 1) r o₂
+replay_step {d} {g} {o} {o₁} {o₂} {noted} {k} {len} {r} v few h u =
+    let l : k < noted = omega (arith, h, length-take-le noted g few) in
+    let w : Wrote o₁ len (note_text d (get_or g k 0)) r o₂ = rw (get_or-take noted g k 0 l) at u.0 in
+    record {
+      before = omega arith;
+      far = omega (arith, v.far, u.1);
+      same = wrote_long w ∙ v.same;
+      wrote = rw (add-one k) (wrote_more v.wrote w);
+    }

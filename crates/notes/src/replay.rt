@@ -35,10 +35,8 @@ pub fn replay(doc: &[u8], log: &[u64], noted: usize, out: &mut [u8]) -> usize
     ensures { Wrote out.old 0 (text_of doc.now log.now noted) result out.new }
 {
     let mut len: usize = 0;
-    let mut k: usize = 0;
-    while k < noted {
-        len = lay(doc, out, len, log[k]);
-        k += 1;
+    for &word in &log[..noted] {
+        len = lay(doc, out, len, word);
     }
     len
 }

@@ -28,14 +28,10 @@ pub fn open_chain(
 {
     let mut len = len;
     let mut noted = noted;
-    let mut k = lo;
-    while k < hi {
-        let a = starts[k];
-        let n = lens[k];
-        let r = bare(doc, out, log, len, noted, a, n);
+    for k in lo..hi {
+        let r = bare(doc, out, log, len, noted, starts[k], lens[k]);
         len = r.len;
         noted = r.noted;
-        k += 1;
     }
     Ink { len, noted }
 }

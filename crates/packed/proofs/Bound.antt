@@ -6,12 +6,12 @@ use mathlib.Core.Option.{Option, none as nothing, some}
 use Prim.Native.Nat.{ℕ, ◌+◌, ◌*◌, ◌≤◌}
 use native.Mathlib.Omega.{arith}
 use lib.ListN.{length, length-append}
+use Rattle.std.specs.Prelude.{Ok}
 use Rattle.paths.specs.Path.{Test, any, named, Step, AttributeTest, Path, print_all, print_kind, print_test, print_step, print_attribute}
 use Rattle.paths.specs.Path.{print_mark, print_line, print_list, All, none, more, test_size, IfAny, SmallAttribute, Good}
 use Rattle.paths.specs.Answer.{Says, sound}
 use Rattle.paths.specs.Judge.{list_answer, list_paths}
 use Rattle.paths.specs.declared.Kind.{Kind}
-use Rattle.paths.specs.declared.ListAnswer.TheVariants.{Sound}
 use Rattle.paths.proofs.Steps.{kind_slash}
 use Rattle.paths.proofs.Meaning.{says, paths_print}
 use Rattle.packed.specs.Packed.{pack_test, pack_step, pack_attribute, pack_record, pack_line, pack_list, pack_of}
@@ -68,14 +68,14 @@ lines_bound (p ∷ ps) (more g gs) =
     let b = lines_bound ps gs in
     omega (arith, length-append (pack_line p) (print_all pack_line ps), length-append (print_line p) (print_all print_line ps))
 
-pub sound_short : (s : List ℕ) → list_answer s ≡ Sound → length s ≤ 8192
+pub sound_short : (s : List ℕ) → list_answer s ≡ Ok tt → length s ≤ 8192
 sound_short s e = go (rw e at (says s))
   where
-    go : Says s Sound → length s ≤ 8192
+    go : Says s (Ok tt) → length s ≤ 8192
     go (sound l ps b n) = l
 
 -- no sound list has a longer packed form
-pub pack_bound : (s : List ℕ) → list_answer s ≡ Sound → length (pack_of s) ≤ 8833
+pub pack_bound : (s : List ℕ) → list_answer s ≡ Ok tt → length (pack_of s) ≤ 8833
 unfolding pack_of pack_list
 pack_bound s e =
     let (p, g, n) = paths_print s e in

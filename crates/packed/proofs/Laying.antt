@@ -3,25 +3,22 @@
 use mathlib.Core.Path.{◌≡◌, refl, sym, ap, ◌∙◌}
 use mathlib.Core.Bool.{Bool, true, ◌&&◌}
 use mathlib.Core.List.{List, [], ◌∷◌, ◌++◌, append_assoc, append-nil}
-use mathlib.Core.Option.{Option, none, some, none-ne-some, some-injective}
+use mathlib.Core.Option.{Option as Maybe, none, some, none-ne-some, some-injective}
 use Prim.Native.Nat.{ℕ, ◌+◌, ◌-◌, ◌*◌, ◌/◌, ◌%◌, ◌≤◌, ◌<◌}
 use native.Mathlib.Omega.{arith}
 use borrow.Author.Tests.{leb-true, ne_eqb}
 use lib.Dec.{leb}
 use lib.ListN.{length, take, drop, length-append, length-drop, drop_of_length-le}
 use lib.Seq.{length-take-le}
+use Rattle.std.specs.Prelude.{Option, None, Some, Ok}
 use Rattle.xml.proofs.Bools.{and_left, and_right}
 use Rattle.paths.specs.Path.{Test, any, named, Step, AttributeTest, Path, test_size, print_all, print_kind, print_test, print_step}
 use Rattle.paths.specs.Path.{print_mark, print_line}
 use Rattle.paths.specs.Reader.{Run, steps, Ending, ending_of, print_end, end_at, path_of}
 use Rattle.paths.specs.Judge.{small_names, small_test, within, lines, list_answer, list_paths}
 use Rattle.paths.specs.Place.{step_placed, step_end_at, end_placed, line_end_at}
-use Rattle.paths.specs.declared.Kind.{Kind}
-use Rattle.paths.specs.declared.ListAnswer.TheVariants.{Sound}
-use Rattle.paths.specs.declared.StepEnd.{StepEnd}
-use Rattle.paths.specs.declared.StepEnd.TheVariants.{Step as StepTo, Fault as NoStep}
+use Rattle.paths.specs.declared.Step.{Step as PlacedStep}
 use Rattle.paths.specs.declared.LineEnd.{LineEnd}
-use Rattle.paths.specs.declared.LineEnd.TheVariants.{Ends as LineEnds, Fault as NoEnd}
 use Rattle.paths.proofs.Steps.{steps_none}
 use Rattle.paths.proofs.Lines.{within_test, line_long, sound_nil, lines_none}
 use Rattle.paths.proofs.Here.{StepHere, step_none, step_here, TestHere, EndHere, end_none, end_here}
@@ -105,13 +102,13 @@ all_more print [] x = append-nil (print x)
 all_more print (y ∷ xs) x = ap (λ (v : List ℕ). print y ++ v) (all_more print xs x) ∙ sym (append_assoc (print y) _ _)
 
 -- a step by the places of its name
-step_packed : {d : List ℕ} {at : ℕ} {k : Kind} {name len next : ℕ} (h : StepHere d at k name len next)
-    → pack_step h.step ≡ pack_kind k ∷ len ∷ take len (drop name d)
+step_packed : {d : List ℕ} {at : ℕ} {y : PlacedStep} (h : StepHere d at y)
+    → pack_step h.step ≡ pack_kind y.kind ∷ y.len ∷ take y.len (drop y.name d)
 unfolding pack_step
-step_packed {d} {k = k} {name} {len} h = go h.step.test refl h.size
+step_packed {d} {y = y} h = go h.step.test refl h.size
   where
-    go : (t : Test) → h.step.test ≡ t → len ≡ test_size t
-        → pack_kind h.step.kind ∷ pack_test t ≡ pack_kind k ∷ len ∷ take len (drop name d)
+    go : (t : Test) → h.step.test ≡ t → y.len ≡ test_size t
+        → pack_kind h.step.kind ∷ pack_test t ≡ pack_kind y.kind ∷ y.len ∷ take y.len (drop y.name d)
     go any e s = rw (s, h.kind)
     go (named n) e s = rw (h.bytes n e, h.kind, s)
 
@@ -119,59 +116,59 @@ test_size_lem : (t : Test) → test_size t ≤ length (print_test t)
 test_size_lem any = omega arith
 test_size_lem (named n) = omega arith
 
-module _ (d : List ℕ) (at : ℕ) {r : StepEnd} (q : r ≡ step_end_at d at) {k : Kind} {name len next : ℕ}
-    (f : r ≡ StepTo k name len next) where
-  here : StepHere d at k name len next
+module _ (d : List ℕ) (at : ℕ) {r : Option PlacedStep} (q : r ≡ step_end_at d at) {y : PlacedStep} (f : r ≡ Some y) where
+  here : StepHere d at y
   here = step_here d at q f
 
   -- its name stands inside, behind at least one byte
-  step_parts : (name + len ≤ next) × (at + 1 + len ≤ next)
+  step_parts : (y.name + y.len ≤ y.end) × (at + 1 + y.len ≤ y.end)
   unfolding step_end_at print_step
   step_parts =
       let x = here.step in
-      let z : StepTo k name len next ≡ step_placed at (some x) = sym f ∙ q ∙ ap (step_placed at) here.found in
-      let a : name ≡ at + length (print_kind x.kind) = cc in
-      let b : len ≡ test_size x.test = cc in
-      let c : next ≡ at + length (print_kind x.kind ++ print_test x.test) = cc in
+      let z : Some y ≡ step_placed at (some x) = sym f ∙ q ∙ ap (step_placed at) here.found in
+      let a : y.name ≡ at + length (print_kind x.kind) = cc in
+      let b : y.len ≡ test_size x.test = cc in
+      let c : y.end ≡ at + length (print_kind x.kind ++ print_test x.test) = cc in
       let t = test_size_lem x.test in
       let u = kind_some x.kind in
       let l = length-append (print_kind x.kind) (print_test x.test) in
       (omega arith, omega arith)
 
-  pub step_inside : name + len ≤ length d
+  pub step_inside : y.name + y.len ≤ length d
   step_inside = let a = step_parts.0 in let b = here.inside in omega arith
 
-  pub step_wide : at + 1 + len ≤ next
+  pub step_wide : at + 1 + y.len ≤ y.end
   step_wide = step_parts.1
 
-module _ {d o o₁ : List ℕ} {from to count at place : ℕ} (v : Stepped d from o to count at place o₁) {r : StepEnd}
+module _ {d o o₁ : List ℕ} {from to count at place : ℕ} (v : Stepped d from o to count at place o₁) {r : Option PlacedStep}
     (q : r ≡ step_end_at d at) where
-  module _ {k : Kind} {name len next : ℕ} (f : r ≡ StepTo k name len next) where
-    small_here : leb len 255 && small_names (steps (drop next d)).all ≡ true
+  module _ {y : PlacedStep} (f : r ≡ Some y) where
+    small_here : leb y.len 255 && small_names (steps (drop y.end d)).all ≡ true
     small_here =
         let h = step_here d at q f in
         rw h.size (sym (ap (λ (r : Run Step). small_names r.all) h.runs) ∙ v.small)
 
-    pub step_small : len ≤ 255
-    step_small = leb-true len 255 (and_left _ _ small_here)
+    pub step_small : y.len ≤ 255
+    step_small = leb-true y.len 255 (and_left _ _ small_here)
 
-    pub stepped_less : length d - next < length d - at
+    pub stepped_less : length d - y.end < length d - at
     stepped_less = let h = step_here d at q f in let a = h.on in let b = h.inside in omega arith
 
-    pub stepped_on : {o₂ o₃ o₄ : List ℕ} {a b e g n : ℕ} → n ≡ pack_kind k → Wrote o₁ place (n ∷ []) a o₂ → Wrote o₂ a (len ∷ []) b o₃
-        → e ≡ name + len → Wrote o₃ b (take (e - name) (drop name d)) g o₄ → Stepped d from o to (count + 1) next g o₄
-    stepped_on {o₄ = o₄} {e = e} {g} p x y z w =
+    pub stepped_on : {o₂ o₃ o₄ : List ℕ} {a b e g n : ℕ} → n ≡ pack_kind y.kind → Wrote o₁ place (n ∷ []) a o₂
+        → Wrote o₂ a (y.len ∷ []) b o₃ → e ≡ y.name + y.len → Wrote o₃ b (take (e - y.name) (drop y.name d)) g o₄
+        → Stepped d from o to (count + 1) y.end g o₄
+    stepped_on {o₄ = o₄} {e = e} {g} p x u z w =
         let h = step_here d at q f in
         let s = h.step in
-        let i : e - name ≡ len = omega arith in
-        let l : Wrote o₁ place (pack_kind k ∷ len ∷ take len (drop name d)) g o₄ =
-        wrote_more (rw p at x) (wrote_more y (rw i at w)) in
+        let i : e - y.name ≡ y.len = omega arith in
+        let l : Wrote o₁ place (pack_kind y.kind ∷ y.len ∷ take y.len (drop y.name d)) g o₄ =
+        wrote_more (rw p at x) (wrote_more u (rw i at w)) in
         let j : Wrote o₁ place (pack_step s) g o₄ = rw (step_packed h) l in
         let a = v.near in
         let b = v.begun in
         let c = h.on in
         let m = step_wide d at q f in
-        let u = take_short len (drop name d) in
+        let k = take_short y.len (drop y.name d) in
         let t = l.long in
         record {
           done = v.done ++ s ∷ [];
@@ -180,13 +177,13 @@ module _ {d o o₁ : List ℕ} {from to count at place : ℕ} (v : Stepped d fro
           counted = rw (length-append v.done (s ∷ [])) (ap (λ (n : ℕ). n + 1) v.counted);
           laid = rw (all_more pack_step v.done s) (wrote_more v.laid j);
           same = wrote_long j ∙ v.same;
-          small = and_right (leb len 255) _ small_here;
+          small = and_right (leb y.len 255) _ small_here;
           begun = omega arith;
           inside = h.inside;
           near = omega arith;
         }
 
-  pub stepped_done : r ≡ NoStep → LaidSteps d from o to (record { count = count; end = at; to = place }) o₁
+  pub stepped_done : r ≡ None → LaidSteps d from o to (record { count = count; end = at; to = place }) o₁
   stepped_done f =
       let h = steps_none (drop at d) (step_none d at q f) in
       let z : (steps (drop from d)).all ≡ v.done =
@@ -205,7 +202,7 @@ pub ruleset stepping = (stepped_start, step_inside, step_small, stepped_less, st
 
 -- ---- a line
 
-attribute_placed_lem : (d : List ℕ) (x : Option AttributeTest) (name len value size : ℕ) → (x ≡ none → len ≡ 0)
+attribute_placed_lem : (d : List ℕ) (x : Maybe AttributeTest) (name len value size : ℕ) → (x ≡ none → len ≡ 0)
     → ((y : AttributeTest) → x ≡ some y → TestHere d y name len value size) → len ≤ 255 → size ≤ 255
     → (name + len ≤ length d) × (value + size ≤ length d)
     → (pack_placed d name len value size ≡ pack_attribute x) × (test_length len size ≡ length (pack_attribute x))
@@ -223,39 +220,38 @@ attribute_placed_lem d (some y) name len value size a b l m i =
     long at n k = length-take-le n (drop at d) (omega (arith, length-drop at d))
 
 -- what is known at a line's end
-pub record LineParts (d : List ℕ) (at end name len value size : ℕ) (m : Bool) (next : ℕ) : Type 0 where
+pub record LineParts (d : List ℕ) (at end : ℕ) (y : LineEnd) : Type 0 where
   pub line : LineHere d at
-  pub mark : m ≡ line.path.marked
-  pub ends : next ≡ at + length (print_line line.path)
-  pub placed : pack_placed d name len value size ≡ pack_attribute line.path.test
-  pub long : test_length len size ≡ length (pack_attribute line.path.test)
-  pub name_small : len ≤ 255
-  pub value_small : size ≤ 255
-  pub name_inside : name + len ≤ length d
-  pub value_inside : value + size ≤ length d
+  pub mark : y.marked ≡ line.path.marked
+  pub ends : y.next ≡ at + length (print_line line.path)
+  pub placed : pack_placed d y.name y.len y.value y.size ≡ pack_attribute line.path.test
+  pub long : test_length y.len y.size ≡ length (pack_attribute line.path.test)
+  pub name_small : y.len ≤ 255
+  pub value_small : y.size ≤ 255
+  pub name_inside : y.name + y.len ≤ length d
+  pub value_inside : y.value + y.size ≤ length d
 
-end_inside : {d : List ℕ} {at name len value size : ℕ} {m : Bool} {next : ℕ} (h : EndHere d at name len value size m next)
-    → (name + len ≤ length d) × (value + size ≤ length d)
-end_inside {d} {at} {name} {len} {value} {size} {m} {next} h = go h.ending.test h.ending.marked h.placed
+end_inside : {d : List ℕ} {at : ℕ} {y : LineEnd} (h : EndHere d at y)
+    → (y.name + y.len ≤ length d) × (y.value + y.size ≤ length d)
+end_inside {d} {at} {y} h = go h.ending.test h.ending.marked h.placed
   where
-    go : (x : Option AttributeTest) (y : Bool) → LineEnds name len value size m next
-        ≡ end_placed at (some (record { test = x; marked = y }))
-        → (name + len ≤ length d) × (value + size ≤ length d)
-    go none y z =
-        let a : name ≡ 0 = cc in
-        let b : len ≡ 0 = cc in
-        let c : value ≡ 0 = cc in
-        let e : size ≡ 0 = cc in
+    go : (x : Maybe AttributeTest) (m : Bool) → Some y ≡ end_placed at (some (record { test = x; marked = m }))
+        → (y.name + y.len ≤ length d) × (y.value + y.size ≤ length d)
+    go none m z =
+        let a : y.name ≡ 0 = cc in
+        let b : y.len ≡ 0 = cc in
+        let c : y.value ≡ 0 = cc in
+        let e : y.size ≡ 0 = cc in
         (omega arith, omega arith)
-    go (some x) y z =
-        let a : name ≡ at + 2 = cc in
-        let b : len ≡ length x.name = cc in
-        let c : value ≡ at + 2 + length x.name + 2 = cc in
-        let e : size ≡ length x.value = cc in
-        let f : next ≡ at + length (print_end (record { test = some x; marked = y })) = cc in
+    go (some x) m z =
+        let a : y.name ≡ at + 2 = cc in
+        let b : y.len ≡ length x.name = cc in
+        let c : y.value ≡ at + 2 + length x.name + 2 = cc in
+        let e : y.size ≡ length x.value = cc in
+        let f : y.next ≡ at + length (print_end (record { test = some x; marked = m })) = cc in
         let i = h.inside in
-        let l : length (print_end (record { test = some x; marked = y }))
-        ≡ 2 + length x.name + 2 + length x.value + 2 + length (print_mark y) + 1 = simp length-append (omega arith) in
+        let l : length (print_end (record { test = some x; marked = m }))
+        ≡ 2 + length x.name + 2 + length x.value + 2 + length (print_mark m) + 1 = simp length-append (omega arith) in
         (omega arith, omega arith)
 
 module _ {d : List ℕ} {at : ℕ} (s : SoundLine d at) where
@@ -282,25 +278,24 @@ module _ {d : List ℕ} {at : ℕ} (s : SoundLine d at) where
     end_found : end_at (drop r.end d) ≡ some (ending_of line.path)
     end_found = ap end_at (sym v.left) ∙ line.has_end
 
-    module _ {k : LineEnd} (q : k ≡ line_end_at d r.end) where
-      pub line_no_fault : k ≡ NoEnd → {A : Type 0} → A
+    module _ {k : Option LineEnd} (q : k ≡ line_end_at d r.end) where
+      pub line_no_fault : k ≡ None → {A : Type 0} → A
       line_no_fault f = absurd (none-ne-some _ (sym (end_none d r.end q f) ∙ end_found))
 
-      pub line_parts : {name len value size : ℕ} {m : Bool} {next : ℕ} → k ≡ LineEnds name len value size m next
-          → LineParts d at r.end name len value size m next
-      line_parts {name} {len} {value} {size} {m} {next} f =
+      pub line_parts : {y : LineEnd} → k ≡ Some y → LineParts d at r.end y
+      line_parts {y} f =
           let h = end_here d r.end q f in
           let e : h.ending ≡ ending_of line.path = some-injective _ _ (sym h.found ∙ end_found) in
           let x : h.ending.test ≡ line.path.test = ap (λ (y : Ending). y.test) e in
-          let w : leb len 255 && leb size 255 ≡ true =
+          let w : leb y.len 255 && leb y.size 255 ≡ true =
           h.small
           ∙ ap small_test x
           ∙ and_right (small_names line.path.steps) (small_test line.path.test)
           (and_right (leb (length line.path.steps) 16) (small_names line.path.steps && small_test line.path.test) fits) in
-          let a = leb-true len 255 (and_left (leb len 255) (leb size 255) w) in
-          let b = leb-true size 255 (and_right (leb len 255) (leb size 255) w) in
+          let a = leb-true y.len 255 (and_left (leb y.len 255) (leb y.size 255) w) in
+          let b = leb-true y.size 255 (and_right (leb y.len 255) (leb y.size 255) w) in
           let i = end_inside h in
-          let p = attribute_placed_lem d h.ending.test name len value size h.untested h.tested a b i in
+          let p = attribute_placed_lem d h.ending.test y.name y.len y.value y.size h.untested h.tested a b i in
           let n : print_line (path_of (steps (drop at d)).all h.ending) ≡ print_line line.path =
           rw (line.has_steps, e) in
           record {
@@ -308,7 +303,7 @@ module _ {d : List ℕ} {at : ℕ} (s : SoundLine d at) where
             mark = h.mark ∙ ap (λ (y : Ending). y.marked) e;
             ends = h.ends ∙ sym (line_ends d at r.end h.ending v.on v.inside v.left) ∙ ap (λ (t : List ℕ). at + length t) n;
             placed = p.0 ∙ ap pack_attribute x;
-            long = p.1 ∙ ap (λ (y : Option AttributeTest). length (pack_attribute y)) x;
+            long = p.1 ∙ ap (λ (y : Maybe AttributeTest). length (pack_attribute y)) x;
             name_small = a;
             value_small = b;
             name_inside = i.0;
@@ -316,20 +311,20 @@ module _ {d : List ℕ} {at : ℕ} (s : SoundLine d at) where
           }
 
 -- the measured length, and what is laid
-pub line_laid : {d o o₁ o₂ o₃ s s' : List ℕ} {at to name len value size next t a e : ℕ} {m : Bool} {r l : Steps}
-    → LineParts d at r.end name len value size m next → LaidSteps d at s 0 r s' → (t ≡ test_length len size) × (t ≤ 512)
-    → Wrote o to (pack_head (2 + r.to + t) m r.count) a o₁ → LaidSteps d at o₁ a l o₂
-    → Wrote o₂ l.to (pack_placed d name len value size) e o₃ → LaidLine d at o to (record { end = next; to = e }) o₃
+pub line_laid : {d o o₁ o₂ o₃ s s' : List ℕ} {at to t a e : ℕ} {y : LineEnd} {r l : Steps} → LineParts d at r.end y
+    → LaidSteps d at s 0 r s' → (t ≡ test_length y.len y.size) × (t ≤ 512)
+    → Wrote o to (pack_head (2 + r.to + t) y.marked r.count) a o₁ → LaidSteps d at o₁ a l o₂
+    → Wrote o₂ l.to (pack_placed d y.name y.len y.value y.size) e o₃ → LaidLine d at o to (record { end = y.next; to = e }) o₃
 unfolding pack_line pack_record
-line_laid {d} {at = at} {next = next} {t} {r = r} p v z h w u =
+line_laid {d} {at = at} {t = t} {y = y} {r = r} p v z h w u =
     let q = p.line.path in
     let x : (steps (drop at d)).all ≡ q.steps = p.line.has_steps in
-    let y = z.0 ∙ p.long in
+    let k = z.0 ∙ p.long in
     let i = v.laid.long ∙ ap (λ (xs : List Step). 0 + length (print_all pack_step xs)) x in
     let n : 2 + r.to + t ≡ length (pack_record q) =
     omega (arith, length-append (print_all pack_step q.steps) (pack_attribute q.test)) in
     let c : r.count ≡ length q.steps = v.counted ∙ ap length x in
-    let f : next ≡ at + length (print_line q) = p.ends in
+    let f : y.next ≡ at + length (print_line q) = p.ends in
     record {
       path = q;
       good = p.line.good;
@@ -352,7 +347,7 @@ pub record Listed (d o : List ℕ) (at to : ℕ) (o' : List ℕ) : Type 0 where
   pub short : length d ≤ 8192
   pub low : to ≤ 1 + 21 * at
 
-pub list_start : {d o : List ℕ} → list_answer d ≡ Sound → Listed d o 0 1 o
+pub list_start : {d o : List ℕ} → list_answer d ≡ Ok tt → Listed d o 0 1 o
 list_start {d} e =
     let r = sound_lines d e in
     record {

@@ -10,6 +10,7 @@ use borrow.Author.Tests.{eqb-true, eq-eqb, ne_eqb}
 use lib.Dec.{eqb}
 use lib.ListN.{length, take, drop, get_or, length-append, drop_of_length-le}
 use lib.Seq.{drop-drop, take-append_seam, drop-append_seam, get_or-append_seam}
+use Rattle.std.specs.Prelude.{Result, Ok, Err, is_ok}
 use Rattle.xml.specs.Notation.{bytes}
 use Rattle.xml.specs.Character.{begins}
 use Rattle.xml.proofs.Bools.{and_left, and_right}
@@ -19,14 +20,13 @@ use Rattle.paths.specs.Path.{print_mark, print_line, print_list, Proper, ProperT
 use Rattle.paths.specs.Judge.{list_answer, list_paths}
 use Rattle.paths.specs.declared.Kind.{Kind}
 use Rattle.paths.specs.declared.Kind.TheVariants.{Child, Descendant, SelfStep, DescendantOrSelf}
-use Rattle.paths.specs.declared.ListAnswer.{ListAnswer}
-use Rattle.paths.specs.declared.ListAnswer.TheVariants.{Sound, TooLong, Malformed, TooLarge}
+use Rattle.paths.specs.declared.ListError.{ListError}
 use Rattle.paths.proofs.Names.{name_long}
 use Rattle.paths.proofs.Meaning.{paths_print}
 use Rattle.packed.specs.Packed.{pack_kind, pack_test, pack_step, pack_attribute, pack_mark, pack_record, pack_line, pack_list, pack_of}
 use Rattle.packed.specs.Packed.{PackedForm, NoPackedForm}
 use Rattle.packed.specs.Spelled.{Piece, kind_of, spell_step, spell_steps, spell_attribute, spell_end, spell_line, spell_lines}
-use Rattle.packed.specs.Spelled.{spelled, is_sound, same, packs, text_of}
+use Rattle.packed.specs.Spelled.{spelled, same, packs, text_of}
 use Rattle.packed.proofs.Spelling.{lines_none, lines_more}
 
 -- ---- what was packed
@@ -176,7 +176,7 @@ spelled_pack ps g l = lines_spelt 32 ps g l
 
 -- ---- a text that packs to an input
 
-same_true : (a b : List ℕ) → same a b ≡ true → a ≡ b
+pub same_true : (a b : List ℕ) → same a b ≡ true → a ≡ b
 unfolding same
 same_true a b h =
     let l : length a ≡ length b = eqb-true (length a) (length b) (and_left (eqb (length a) (length b)) (begins a b) h) in
@@ -185,22 +185,20 @@ same_true a b h =
     let z : drop (length a) b ≡ [] = drop_of_length-le b k in
     sym (e ∙ ap (λ (y : List ℕ). a ++ y) z ∙ append-nil a)
 
-same_refl : (a : List ℕ) → same a a ≡ true
+pub same_refl : (a : List ℕ) → same a a ≡ true
 unfolding same
 same_refl a = rw (eq-eqb (length a) (length a) refl) (ap (begins a) (sym (append-nil a)) ∙ begins_append a [])
 
-sound_true : (a : ListAnswer) → is_sound a ≡ true → a ≡ Sound
-sound_true Sound h = refl
-sound_true TooLong h = absurd (false≢true h)
-sound_true (Malformed n) h = absurd (false≢true h)
-sound_true (TooLarge n) h = absurd (false≢true h)
+sound_true : (a : Result (Unit {0}) ListError) → is_ok a ≡ true → a ≡ Ok tt
+sound_true (Ok tt) h = refl
+sound_true (Err e) h = absurd (false≢true h)
 
 pub packs_form : (d s : List ℕ) → packs d s ≡ true → PackedForm d s
 unfolding packs
 packs_form d s h =
     record {
-      sound = sound_true (list_answer s) (and_left (is_sound (list_answer s)) (same (pack_of s) d) h);
-      packs = sym (same_true (pack_of s) d (and_right (is_sound (list_answer s)) (same (pack_of s) d) h));
+      sound = sound_true (list_answer s) (and_left (is_ok (list_answer s)) (same (pack_of s) d) h);
+      packs = sym (same_true (pack_of s) d (and_right (is_ok (list_answer s)) (same (pack_of s) d) h));
     }
 
 pub form_packs : {d s : List ℕ} → PackedForm d s → packs d s ≡ true
@@ -251,12 +249,12 @@ module _ (d : List ℕ) where
 
 -- ---- "Text to packed to text gives the same bytes, and so does packed to text to packed"
 
-pub text_packed_text : (s : List ℕ) → list_answer s ≡ Sound → text_of (pack_of s) ≡ some s
+pub text_packed_text : (s : List ℕ) → list_answer s ≡ Ok tt → text_of (pack_of s) ≡ some s
 text_packed_text s e = form_text (record { sound = e; packs = refl })
 
-pub packed_text_packed : (d s : List ℕ) → text_of d ≡ some s → (list_answer s ≡ Sound) × (pack_of s ≡ d)
+pub packed_text_packed : (d s : List ℕ) → text_of d ≡ some s → (list_answer s ≡ Ok tt) × (pack_of s ≡ d)
 packed_text_packed d s e = let f = text_form d s e in (f.sound, sym f.packs)
 
 -- two sound lists with one packed form are the same
-pub pack_once : (s s' : List ℕ) → list_answer s ≡ Sound → list_answer s' ≡ Sound → pack_of s ≡ pack_of s' → s ≡ s'
+pub pack_once : (s s' : List ℕ) → list_answer s ≡ Ok tt → list_answer s' ≡ Ok tt → pack_of s ≡ pack_of s' → s ≡ s'
 pack_once s s' e e' q = form_once (record { sound = e; packs = refl }) (record { sound = e'; packs = q })

@@ -123,46 +123,47 @@ pub ruleset stepping = (step_spelled)
 
 -- ---- so many steps
 
--- of `count` steps from the place `from` on, all but `left` are laid
-pub record Stepping (d : List ℕ) (from count : ℕ) (o : List ℕ) (to left at place : ℕ) (o' : List ℕ) : Type 0 where
+-- of `count` steps from the place `from` on, so many are laid
+pub record Stepping (d : List ℕ) (from count : ℕ) (o : List ℕ) (to many at place : ℕ) (o' : List ℕ) : Type 0 where
   pub text : List ℕ
   pub size : ℕ
   pub laid : Wrote o to text place o'
   pub same : length o' ≡ length o
   pub ends : at ≡ from + size
-  pub texts : text ++ (spell_steps left (drop at d)).text ≡ (spell_steps count (drop from d)).text
-  pub sizes : size + (spell_steps left (drop at d)).size ≡ (spell_steps count (drop from d)).size
-  pub few : left ≤ count
+  pub texts : text ++ (spell_steps (count - many) (drop at d)).text ≡ (spell_steps count (drop from d)).text
+  pub sizes : size + (spell_steps (count - many) (drop at d)).size ≡ (spell_steps count (drop from d)).size
+  pub few : many ≤ count
   pub most : count ≤ 255
-  pub near : at ≤ from + 276 * (count - left)
-  pub low : place ≤ to + 276 * (count - left)
+  pub near : at ≤ from + 276 * many
+  pub low : place ≤ to + 276 * many
 
-pub steps_start : {d o : List ℕ} {from count to : ℕ} → count ≤ 255 → Stepping d from count o to count from to o
-steps_start l =
+pub steps_start : {d o : List ℕ} {from count to : ℕ} → count ≤ 255 → Stepping d from count o to 0 from to o
+steps_start {count = count} l =
+    let z : count - 0 ≡ count = omega arith in
     record {
       text = [];
       size = 0;
       laid = wrote_none;
       same = refl;
       ends = omega arith;
-      texts = refl;
-      sizes = omega arith;
+      texts = rw z;
+      sizes = rw z (omega arith);
       few = omega arith;
       most = l;
       near = omega arith;
       low = omega arith;
     }
 
-module _ {d o o₁ : List ℕ} {from count to left at place : ℕ} (v : Stepping d from count o to left at place o₁) where
-  pub steps_on : {o₂ : List ℕ} {r : Part} → 0 < left → Spells 276 at o₁ place (spell_step (drop at d)) r o₂
-      → Stepping d from count o to (left - 1) r.end r.to o₂
+module _ {d o o₁ : List ℕ} {from count to many at place : ℕ} (v : Stepping d from count o to many at place o₁) where
+  pub steps_on : {o₂ : List ℕ} {r : Part} → many < count → Spells 276 at o₁ place (spell_step (drop at d)) r o₂
+      → Stepping d from count o to (many + 1) r.end r.to o₂
   unfolding spell_steps
-  steps_on {o₂} {r} l w = go left refl
+  steps_on {o₂} {r} l w = go (count - many) refl
     where
-      go : (n : ℕ) → left ≡ n → Stepping d from count o to (left - 1) r.end r.to o₂
+      go : (n : ℕ) → count - many ≡ n → Stepping d from count o to (many + 1) r.end r.to o₂
       go zero e = absurd (omega arith)
       go (suc k) e =
-          let z : left - 1 ≡ k = omega arith in
+          let z : count - (many + 1) ≡ k = omega arith in
           let x = spell_step (drop at d) in
           let m : drop x.size (drop at d) ≡ drop r.end d = drop_behind d at x.size (sym w.ends) in
           let p = v.ends in
@@ -178,25 +179,25 @@ module _ {d o o₁ : List ℕ} {from count to left at place : ℕ} (v : Stepping
           let b = w.near in
           let g = v.low in
           let h = w.low in
-          rw z
-          (record {
+          record {
             text = v.text ++ x.text;
             size = v.size + x.size;
             laid = wrote_more v.laid w.laid;
             same = wrote_long w.laid ∙ v.same;
             ends = omega arith;
-            texts = append_assoc v.text x.text _ ∙ t';
-            sizes = omega arith;
+            texts = rw z (append_assoc v.text x.text _ ∙ t');
+            sizes = rw z (omega arith);
             few = omega arith;
             most = v.most;
             near = omega arith;
             low = omega arith;
-          })
+          }
 
-  pub steps_done : left ≤ 0 → Spells 70380 from o to (spell_steps count (drop from d)) (record { end = at; to = place }) o₁
+  pub steps_done : count ≤ many → Spells 70380 from o to (spell_steps count (drop from d)) (record { end = at; to = place }) o₁
   unfolding spell_steps
   steps_done l =
-      let e : left ≡ 0 = omega arith in
+      let e : count - many ≡ 0 = omega arith in
+      let f = v.few in
       let p = v.ends in
       let m = v.most in
       let a = v.near in
@@ -289,17 +290,17 @@ pub ruleset lining = (line_spelled)
 
 -- ---- all lines
 
--- of 32 lines at most, all but `left` are laid
-pub record Spelling (d o : List ℕ) (left at to : ℕ) (o' : List ℕ) : Type 0 where
+-- of 32 lines at most, so many are laid
+pub record Spelling (d o : List ℕ) (many at to : ℕ) (o' : List ℕ) : Type 0 where
   pub text : List ℕ
   pub laid : Wrote o 0 text to o'
   pub same : length o' ≡ length o
-  pub texts : text ++ spell_lines left (drop at d) ≡ spelled d
-  pub few : left ≤ 32
-  pub near : at ≤ 1 + 71000 * (32 - left)
-  pub low : to ≤ 71000 * (32 - left)
+  pub texts : text ++ spell_lines (32 - many) (drop at d) ≡ spelled d
+  pub few : many ≤ 32
+  pub near : at ≤ 1 + 71000 * many
+  pub low : to ≤ 71000 * many
 
-pub spell_start : {d o : List ℕ} → Spelling d o 32 1 0 o
+pub spell_start : {d o : List ℕ} → Spelling d o 0 1 0 o
 unfolding spelled
 spell_start =
     record { text = []; laid = wrote_none; same = refl; texts = refl; few = omega arith; near = omega arith; low = omega arith }
@@ -315,18 +316,18 @@ unfolding spell_lines
 lines_more k [] l = absurd (let z : 0 < 0 = l in omega arith)
 lines_more k (b ∷ s) l = refl
 
-module _ {d o o₁ : List ℕ} {left at to : ℕ} (v : Spelling d o left at to o₁) where
-  pub spell_on : {o₂ : List ℕ} {r : Part} → 0 < left → at < length d → Spells 71000 at o₁ to (spell_line (drop at d)) r o₂
-      → Spelling d o (left - 1) r.end r.to o₂
-  spell_on {o₂} {r} l i w = go left refl
+module _ {d o o₁ : List ℕ} {many at to : ℕ} (v : Spelling d o many at to o₁) where
+  pub spell_on : {o₂ : List ℕ} {r : Part} → many < 32 → at < length d → Spells 71000 at o₁ to (spell_line (drop at d)) r o₂
+      → Spelling d o (many + 1) r.end r.to o₂
+  spell_on {o₂} {r} l i w = go (32 - many) refl
     where
-      go : (n : ℕ) → left ≡ n → Spelling d o (left - 1) r.end r.to o₂
+      go : (n : ℕ) → 32 - many ≡ n → Spelling d o (many + 1) r.end r.to o₂
       go zero e = absurd (omega arith)
       go (suc k) e =
-          let z : left - 1 ≡ k = omega arith in
+          let z : 32 - (many + 1) ≡ k = omega arith in
           let x = spell_line (drop at d) in
           let m : drop x.size (drop at d) ≡ drop r.end d = drop_behind d at x.size (sym w.ends) in
-          let s : spell_lines left (drop at d) ≡ x.text ++ spell_lines k (drop r.end d) =
+          let s : spell_lines (32 - many) (drop at d) ≡ x.text ++ spell_lines k (drop r.end d) =
           ap (λ (j : ℕ). spell_lines j (drop at d)) e
           ∙ lines_more k (drop at d) (omega (arith, length-drop at d))
           ∙ ap (λ (y : List ℕ). x.text ++ spell_lines k y) m in
@@ -335,25 +336,24 @@ module _ {d o o₁ : List ℕ} {left at to : ℕ} (v : Spelling d o left at to o
           let b = w.near in
           let g = v.low in
           let h = w.low in
-          rw z
-          (record {
+          record {
             text = v.text ++ x.text;
             laid = wrote_more v.laid w.laid;
             same = wrote_long w.laid ∙ v.same;
-            texts = append_assoc v.text x.text _ ∙ ap (λ (y : List ℕ). v.text ++ y) (sym s) ∙ v.texts;
+            texts = rw z (append_assoc v.text x.text _ ∙ ap (λ (y : List ℕ). v.text ++ y) (sym s) ∙ v.texts);
             few = omega arith;
             near = omega arith;
             low = omega arith;
-          })
+          }
 
-  whole : spell_lines left (drop at d) ≡ [] → Wrote o 0 (spelled d) to o₁
+  whole : spell_lines (32 - many) (drop at d) ≡ [] → Wrote o 0 (spelled d) to o₁
   whole e = rw (sym (append-nil v.text) ∙ ap (λ (y : List ℕ). v.text ++ y) (sym e) ∙ v.texts) at v.laid
 
-  pub spell_all : left ≤ 0 → Wrote o 0 (spelled d) to o₁
+  pub spell_all : 32 ≤ many → Wrote o 0 (spelled d) to o₁
   unfolding spell_lines
-  spell_all l = let e : left ≡ 0 = omega arith in whole (rw e)
+  spell_all l = let e : 32 - many ≡ 0 = omega arith in whole (rw e)
 
   pub spell_end_lem : length d ≤ at → Wrote o 0 (spelled d) to o₁
-  spell_end_lem l = whole (ap (spell_lines left) (drop_of_length-le d l) ∙ lines_none left)
+  spell_end_lem l = whole (ap (spell_lines (32 - many)) (drop_of_length-le d l) ∙ lines_none (32 - many))
 
 pub ruleset spelling = (spell_start, spell_on, spell_all, spell_end_lem)

@@ -1,37 +1,31 @@
 -- What is answered, and what stands in the buffer afterwards: of the writer, from text to the packed form, and of the reader, back to text.
 -- In order: room; the writer; the reader; the three numbers for each answer.
-use Rattle.std.specs.Prelude.{cond, List, ◌++◌, ℕ, ltb, length, drop}
+use Rattle.std.specs.Prelude.{cond, List, ◌++◌, ℕ, ltb, length, drop, Result, Ok, Err}
 use Rattle.std.proofs.Math.Option.{Option, none, some}
 use Rattle.paths.specs.Judge.{list_answer}
-use Rattle.paths.specs.declared.ListAnswer.{ListAnswer}
-use Rattle.paths.specs.declared.ListAnswer.TheVariants as list
+use Rattle.paths.specs.Answer.{list_number, list_second}
+use Rattle.paths.specs.declared.ListError.{ListError}
 use Rattle.packed.specs.Packed.{pack_of}
 use Rattle.packed.specs.Spelled.{text_of}
-use Rattle.packed.specs.declared.Answer.{Answer}
-use Rattle.packed.specs.declared.Answer.TheVariants.{Written, TooLong, Malformed, TooLarge, NotPacked, Short}
+use Rattle.packed.specs.declared.PackError.{PackError}
+use Rattle.packed.specs.declared.PackError.TheVariants.{List as OfList, NotPacked, Short}
 
 -- w in a buffer of `room` bytes: "after these 9 with the length needed"
-abbrev pub by_room : ℕ → List ℕ → Answer
-by_room room w = cond (ltb room (length w)) (Short (length w)) (Written (length w))
+abbrev pub by_room : ℕ → List ℕ → Result ℕ PackError
+by_room room w = cond (ltb room (length w)) (Err (Short (length w))) (Ok (length w))
 
 -- the bytes after the result stay as they were, and on a refusal the whole buffer does
-abbrev pub after : Answer → List ℕ → List ℕ → List ℕ
-after (Written n) w o = w ++ drop n o
-after TooLong w o = o
-after (Malformed n) w o = o
-after (TooLarge n) w o = o
-after NotPacked w o = o
-after (Short n) w o = o
+abbrev pub after : Result ℕ PackError → List ℕ → List ℕ → List ℕ
+after (Ok n) w o = w ++ drop n o
+after (Err e) w o = o
 
 -- ---- the writer: "text keeps 1 to 3"
 
-abbrev pub by_list : ListAnswer → Answer → Answer
-by_list list.Sound a = a
-by_list list.TooLong a = TooLong
-by_list (list.Malformed n) a = Malformed n
-by_list (list.TooLarge n) a = TooLarge n
+abbrev pub by_list : Result (Unit {0}) ListError → Result ℕ PackError → Result ℕ PackError
+by_list (Ok u) a = a
+by_list (Err e) a = Err (OfList e)
 
-unfoldable pub pack_answer : List ℕ → ℕ → Answer
+unfoldable pub pack_answer : List ℕ → ℕ → Result ℕ PackError
 pack_answer s room = by_list (list_answer s) (by_room room (pack_of s))
 
 unfoldable pub pack_bytes : List ℕ → List ℕ → List ℕ
@@ -39,11 +33,11 @@ pack_bytes s o = after (pack_answer s (length o)) (pack_of s) o
 
 -- ---- the reader: "gives 13 .. exactly when its input is the packed form of no sound text list"
 
-abbrev pub by_text : Option (List ℕ) → ℕ → Answer
-by_text none room = NotPacked
+abbrev pub by_text : Option (List ℕ) → ℕ → Result ℕ PackError
+by_text none room = Err NotPacked
 by_text (some s) room = by_room room s
 
-unfoldable pub unpack_answer : List ℕ → ℕ → Answer
+unfoldable pub unpack_answer : List ℕ → ℕ → Result ℕ PackError
 unpack_answer d room = by_text (text_of d) room
 
 -- the buffer o, with the text where there is one and room for it
@@ -56,19 +50,22 @@ unpack_bytes d o = laid_text (text_of d) o
 
 -- ---- "Numbers handed back": "13, with second number 0"; "The third number is always 0"
 
-abbrev pub number_of : Answer → ℕ
-number_of (Written n) = 0
-number_of TooLong = 1
-number_of (Malformed n) = 2
-number_of (TooLarge n) = 3
-number_of NotPacked = 13
-number_of (Short n) = 9
+abbrev pub error_number : PackError → ℕ
+error_number (OfList e) = list_number e
+error_number NotPacked = 13
+error_number (Short n) = 9
 
--- the length written; 0; the line; the line; 0; the length needed
-abbrev pub second_of : Answer → ℕ
-second_of (Written n) = n
-second_of TooLong = 0
-second_of (Malformed n) = n
-second_of (TooLarge n) = n
-second_of NotPacked = 0
-second_of (Short n) = n
+-- the list's own; 0; the length needed
+abbrev pub error_second : PackError → ℕ
+error_second (OfList e) = list_second e
+error_second NotPacked = 0
+error_second (Short n) = n
+
+abbrev pub number_of : Result ℕ PackError → ℕ
+number_of (Ok n) = 0
+number_of (Err e) = error_number e
+
+-- the length written
+abbrev pub second_of : Result ℕ PackError → ℕ
+second_of (Ok n) = n
+second_of (Err e) = error_second e

@@ -1,12 +1,11 @@
 -- The packed form of a list by printing: from the same data as its text, as the sentence of document 02, Q-7, has it. In order: a step; an
 -- attribute test; a line; a list; and the packed form of a text, which a sound one alone has.
-use Rattle.std.specs.Prelude.{◌≡◌, Bool, true, false, List, [], ◌∷◌, ◌++◌, ℕ, ◌/◌, ◌%◌, length}
+use Rattle.std.specs.Prelude.{◌≡◌, Bool, true, false, List, [], ◌∷◌, ◌++◌, ℕ, ◌/◌, ◌%◌, length, Ok}
 use Rattle.std.proofs.Math.Option.{Option, none, some}
 use Rattle.paths.specs.Path.{Test, any, named, Step, AttributeTest, Path, print_all}
 use Rattle.paths.specs.Judge.{list_answer, list_paths}
 use Rattle.paths.specs.declared.Kind.{Kind}
 use Rattle.paths.specs.declared.Kind.TheVariants.{Child, Descendant, SelfStep, DescendantOrSelf}
-use Rattle.paths.specs.declared.ListAnswer.TheVariants.{Sound}
 
 -- "for each step its kind (0 child, 1 descendant, 2 self, 3 descendant-or-self)"
 abbrev pub pack_kind : Kind → ℕ
@@ -55,7 +54,7 @@ pack_of s = pack_list (list_paths s)
 
 -- "the packed form of .. [a] sound text list": d is the packed form of the text s
 pub record PackedForm (d s : List ℕ) : Type 0 where
-  pub sound : list_answer s ≡ Sound
+  pub sound : list_answer s ≡ Ok tt
   pub packs : d ≡ pack_of s
 
 -- "its input is the packed form of no sound text list"

@@ -2,7 +2,7 @@
 -- what is missing reads as 0, and no byte is judged. If that text is a sound list and its packed form is the input, to the last byte, it is
 -- the one; otherwise there is none. proofs/Meaning.antt shows that this is `PackedForm`, both ways. In order: bytes; a step; a test; a
 -- line; all.
-use Rattle.std.specs.Prelude.{Bool, true, false, cond, ◌&&◌, List, [], ◌∷◌, ◌++◌, ℕ, zero, suc, ◌+◌, eqb, length, take, drop, get_or}
+use Rattle.std.specs.Prelude.{Bool, cond, ◌&&◌, List, [], ◌∷◌, ◌++◌, ℕ, zero, suc, ◌+◌, eqb, length, take, drop, get_or, is_ok}
 use Rattle.std.proofs.Math.Option.{Option, none, some}
 use Rattle.xml.specs.Notation.{bytes}
 use Rattle.xml.specs.Character.{begins}
@@ -10,8 +10,6 @@ use Rattle.paths.specs.Path.{print_kind, print_mark}
 use Rattle.paths.specs.Judge.{list_answer}
 use Rattle.paths.specs.declared.Kind.{Kind}
 use Rattle.paths.specs.declared.Kind.TheVariants.{Child, Descendant, SelfStep, DescendantOrSelf}
-use Rattle.paths.specs.declared.ListAnswer.{ListAnswer}
-use Rattle.paths.specs.declared.ListAnswer.TheVariants.{Sound, TooLong, Malformed, TooLarge}
 use Rattle.packed.specs.Packed.{pack_of}
 
 -- a part of the input as text, and how many bytes it takes there
@@ -78,19 +76,13 @@ spelled d = spell_lines 32 (drop 1 d)
 
 -- ---- which input is a packed form, and of which text
 
-abbrev pub is_sound : ListAnswer → Bool
-is_sound Sound = true
-is_sound TooLong = false
-is_sound (Malformed n) = false
-is_sound (TooLarge n) = false
-
 -- the same bytes
 unfoldable pub same : List ℕ → List ℕ → Bool
 same a b = eqb (length a) (length b) && begins a b
 
 -- s is a sound list, and d its packed form
 unfoldable pub packs : List ℕ → List ℕ → Bool
-packs d s = is_sound (list_answer s) && same (pack_of s) d
+packs d s = is_ok (list_answer s) && same (pack_of s) d
 
 unfoldable pub text_of : List ℕ → Option (List ℕ)
 text_of d = cond (packs d (spelled d)) (some (spelled d)) none

@@ -1,15 +1,14 @@
 // A sound list laid in the packed form: its kinds, its steps, a line's test, a line, all lines. A line's length stands before it, so its
 // steps are laid twice: first into a buffer of one byte, which measures them.
-ghost use Rattle.std.specs.Prelude.{◌≡◌, true, ◌+◌, ◌≤◌, ◌<◌, length, drop};
+ghost use Rattle.std.specs.Prelude.{◌≡◌, true, ◌+◌, ◌≤◌, ◌<◌, length, drop, Ok};
 ghost use Rattle.paths.specs.Path.{print_all};
 ghost use Rattle.paths.specs.Reader.{steps};
 ghost use Rattle.paths.specs.Judge.{small_names, list_answer, list_paths};
-ghost use Rattle.paths.specs.declared.ListAnswer.TheVariants.{Sound};
 ghost use Rattle.writer.specs.Wrote.{Wrote};
-ghost use Rattle.packed.specs.Packed.{pack_kind, pack_mark, pack_line, pack_of};
+ghost use Rattle.packed.specs.Packed.{pack_kind, pack_line, pack_of};
 ghost use Rattle.packed.specs.Laid.{LaidSteps, pack_head, test_length, pack_placed, SoundLine, LaidLine};
 
-use paths::{Kind, LineEnd, StepEnd, end_at, step_at};
+use paths::{Kind, end_at, step_at};
 use writer::{copy, put};
 
 // How many steps were laid, and the places after them, in the text and in the buffer.
@@ -39,16 +38,6 @@ fn kind_number(kind: Kind) -> u8
     }
 }
 
-// The byte of a mark.
-fn mark_number(marked: bool) -> u8
-    ensures { result ≡ pack_mark marked }
-{
-    if marked {
-        return 1;
-    }
-    0
-}
-
 // Lays the steps that stand in a list from a place on, as many as there are. No name of them is over its size.
 fn lay_steps(list: &[u8], at: usize, out: &mut [u8], to: usize) -> Steps
     requires { (small_names (steps (drop at list.now)).all ≡ true) × (at ≤ length list.now) × (length list.now ≤ 8192)
@@ -58,22 +47,20 @@ fn lay_steps(list: &[u8], at: usize, out: &mut [u8], to: usize) -> Steps
     let mut count: usize = 0;
     let mut end = at;
     let mut place = to;
+
+    // Each turn goes on where the reader ended, so the place is no count.
     loop {
         match step_at(list, end) {
-            StepEnd::Step {
-                kind,
-                name,
-                len,
-                end: next,
-            } => {
-                let a = put(out, place, kind_number(kind));
-                let b = put(out, a, len as u8);
-                let e = name + len;
+            Some(step) => {
+                let a = put(out, place, kind_number(step.kind));
+                let b = put(out, a, step.len as u8);
+                let name = step.name;
+                let e = name + step.len;
                 place = copy(out, b, &list[name..e]);
                 count += 1;
-                end = next;
+                end = step.end;
             }
-            StepEnd::Fault => {
+            None => {
                 return Steps {
                     count,
                     end,
@@ -126,7 +113,7 @@ fn lay_head(length: usize, marked: bool, count: usize, out: &mut [u8], to: usize
 {
     let a = put(out, to, (length / 256) as u8);
     let b = put(out, a, (length % 256) as u8);
-    let c = put(out, b, mark_number(marked));
+    let c = put(out, b, u8::from(marked));
     put(out, c, count as u8)
 }
 
@@ -139,31 +126,31 @@ fn lay_line(list: &[u8], at: usize, out: &mut [u8], to: usize) -> Line
     let measured = lay_steps(list, at, &mut scratch, 0);
     let end = measured.end;
     match end_at(list, end) {
-        LineEnd::Ends {
-            name,
-            len,
-            value,
-            size,
-            marked,
-            next,
-        } => {
-            let n = 2 + measured.to + test_length(len, size);
-            let a = lay_head(n, marked, measured.count, out, to);
+        Some(tail) => {
+            let n = 2 + measured.to + test_length(tail.len, tail.size);
+            let a = lay_head(n, tail.marked, measured.count, out, to);
             let laid = lay_steps(list, at, out, a);
-            let e = lay_test(list, name, len, value, size, out, laid.to);
-            Line { end: next, to: e }
+            let e = lay_test(
+                list, tail.name, tail.len, tail.value, tail.size, out, laid.to,
+            );
+            Line {
+                end: tail.next,
+                to: e,
+            }
         }
-        LineEnd::Fault => Line { end: at, to },
+        None => Line { end: at, to },
     }
 }
 
 // Lays the lines of a sound list behind the version byte.
 fn lay_lines(text: &[u8], out: &mut [u8]) -> usize
-    requires { list_answer text.now ≡ Sound }
+    requires { list_answer text.now ≡ Ok tt }
     ensures { Wrote out.old 1 (print_all pack_line (list_paths text.now)) result out.new }
 {
     let mut at: usize = 0;
     let mut to: usize = 1;
+
+    // Each turn goes on where the line before ended, so the place is no count.
     while at < text.len() {
         let line = lay_line(text, at, out, to);
         at = line.end;
@@ -174,7 +161,7 @@ fn lay_lines(text: &[u8], out: &mut [u8]) -> usize
 
 // Lays the packed form of a sound list, and gives its length.
 pub fn list(text: &[u8], out: &mut [u8]) -> usize
-    requires { list_answer text.now ≡ Sound }
+    requires { list_answer text.now ≡ Ok tt }
     ensures { Wrote out.old 0 (pack_of text.now) result out.new }
 {
     put(out, 0, 1);

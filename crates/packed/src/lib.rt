@@ -9,95 +9,86 @@
 #![tactic(auto)]
 
 ghost use Rattle.std.specs.Prelude.{◌≡◌, length};
-ghost use Rattle.packed.specs.Spelled.{same, packs};
+ghost use Rattle.packed.specs.Spelled.{packs};
 ghost use Rattle.packed.specs.Answer.{pack_answer, pack_bytes, unpack_answer, unpack_bytes};
+ghost use Rattle.packed.specs.declared.PackError.TheVariants.{List as OfList};
 
-use chars::text::stands;
-use paths::ListAnswer;
+use paths::{ListError, PathList};
 use writer::copy;
 
 mod lay; // text laid in the packed form
 mod spell; // a packed form spelled as text
 
-// What is answered: the result is written and has this length; the text is too long; a line of it is malformed, or too large; the input is
-// the packed form of no sound list; the buffer is too short for the result, which has this length.
-#[derive(Drop)]
-pub enum Answer {
-    Written(usize),
-    TooLong,
-    Malformed(usize),
-    TooLarge(usize),
+// Why nothing is written: the text is refused as a list; the input is the packed form of no sound list; the buffer is too short for the
+// result, which has this length.
+#[derive(Clone, Copy, Debug, PartialEq, Eq)]
+pub enum PackError {
+    List(ListError),
     NotPacked,
     Short(usize),
 }
 
-// No sound list has a longer packed form: one byte more for each step than its text, four for each line, and the version.
-impl Answer {
+impl From<ListError> for PackError {
+    ghost from_gives = { λ e r. r ≡ OfList e };
+
+    fn from(e: ListError) -> PackError {
+        PackError::List(e)
+    }
+}
+
+// The size of a packed list. No sound list has a longer packed form: one byte more for each step than its text, four for each line, and the
+// version.
+pub struct PackedList;
+
+impl PackedList {
     pub const BYTES: usize = 8833;
 }
 
-// Writes the packed form of a list into a buffer. Only where it is written is a byte of the buffer changed, and then none after it.
-pub fn pack(text: &[u8], out: &mut [u8]) -> Answer
+// Writes the packed form of a list into a buffer, and gives its length. Only where it is written is a byte of the buffer changed, and then
+// none after it.
+#[tactic(auto, unfolding(crate::specs::Answer::pack_answer, crate::specs::Answer::pack_bytes))]
+pub fn pack(text: &[u8], out: &mut [u8]) -> Result<usize, PackError>
     ensures value { result ≡ pack_answer text.now (length out.old) }
     ensures out_after { out.new ≡ pack_bytes text.now out.old }
 {
-    match paths::answer(text) {
-        ListAnswer::Sound => {
-            let mut scratch = [0u8; 1];
-            let n = lay::list(text, &mut scratch);
-            if out.len() < n {
-                return Answer::Short(n);
-            }
-            lay::list(text, out);
-            Answer::Written(n)
-        }
-        ListAnswer::TooLong => Answer::TooLong,
-        ListAnswer::Malformed(line) => Answer::Malformed(line),
-        ListAnswer::TooLarge(line) => Answer::TooLarge(line),
+    paths::answer(text)?;
+    let mut scratch = [0u8; 1];
+    let n = lay::list(text, &mut scratch);
+    if out.len() < n {
+        return Err(PackError::Short(n));
     }
-}
-
-// Whether two texts are the same bytes: one stands at the front of the other, which is no longer.
-fn equal(a: &[u8], b: &[u8]) -> bool
-    ensures { result ≡ same a.now b.now }
-{
-    if a.len() < b.len() {
-        return false;
-    }
-    stands(b, 0, a)
+    lay::list(text, out);
+    Ok(n)
 }
 
 // Whether an input is the packed form of a text, which has to be a sound list.
 fn is_packed(packed: &[u8], text: &[u8]) -> bool
     ensures { result ≡ packs packed.now text.now }
 {
-    let mut again = [0u8; Answer::BYTES];
+    let mut again = [0u8; PackedList::BYTES];
     match pack(text, &mut again) {
-        Answer::Written(n) => equal(&again[0..n], packed),
-        Answer::TooLong => false,
-        Answer::Malformed(_) => false,
-        Answer::TooLarge(_) => false,
-        Answer::NotPacked => false,
-        Answer::Short(_) => false,
+        Ok(n) => &again[0..n] == packed,
+        Err(_) => false,
     }
 }
 
-// Writes the text of a packed list into a buffer. Only where it is written is a byte of the buffer changed, and then none after it.
-pub fn unpack(packed: &[u8], out: &mut [u8]) -> Answer
+// Writes the text of a packed list into a buffer, and gives its length. Only where it is written is a byte of the buffer changed, and then
+// none after it.
+pub fn unpack(packed: &[u8], out: &mut [u8]) -> Result<usize, PackError>
     ensures value { result ≡ unpack_answer packed.now (length out.old) }
     ensures out_after { out.new ≡ unpack_bytes packed.now out.old }
 {
-    let mut text = [0u8; ListAnswer::BYTES];
+    let mut text = [0u8; PathList::BYTES];
     let n = spell::list(packed, &mut text);
-    if n > ListAnswer::BYTES {
-        return Answer::NotPacked;
+    if n > PathList::BYTES {
+        return Err(PackError::NotPacked);
     }
     if !is_packed(packed, &text[0..n]) {
-        return Answer::NotPacked;
+        return Err(PackError::NotPacked);
     }
     if out.len() < n {
-        return Answer::Short(n);
+        return Err(PackError::Short(n));
     }
     copy(out, 0, &text[0..n]);
-    Answer::Written(n)
+    Ok(n)
 }

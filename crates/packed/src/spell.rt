@@ -7,7 +7,7 @@ ghost use Rattle.packed.specs.Spelled.{kind_of, spell_name, spell_step, spell_st
 ghost use Rattle.packed.specs.Spelled.{spell_end, spell_line, spelled};
 ghost use Rattle.packed.specs.Laid.{ByteAt, Lays, Spells};
 
-use paths::{Kind, ListAnswer};
+use paths::{Kind, PathList};
 use writer::{copy, put};
 
 // The places after a part, in the packed form and in the buffer.
@@ -43,19 +43,16 @@ fn lay_part(packed: &[u8], at: usize, n: usize, out: &mut [u8], to: usize) -> us
 }
 
 // The kind of a number; one that has none reads as the last.
+#[tactic(auto, using(crate::proofs::Spelling::kinds))]
 fn kind_of(k: usize) -> Kind
     ensures { result ≡ kind_of k }
 {
-    if k == 0 {
-        return Kind::Child;
+    match k {
+        0 => Kind::Child,
+        1 => Kind::Descendant,
+        2 => Kind::SelfStep,
+        _ => Kind::DescendantOrSelf,
     }
-    if k == 1 {
-        return Kind::Descendant;
-    }
-    if k == 2 {
-        return Kind::SelfStep;
-    }
-    Kind::DescendantOrSelf
 }
 
 // Lays what a kind of step is written as.
@@ -98,18 +95,17 @@ fn spell_step(packed: &[u8], at: usize, out: &mut [u8], to: usize) -> Part
 }
 
 // Spells so many steps from a place on.
+#[tactic(auto, using(crate::proofs::Spelling::steps_spelled))]
 fn spell_steps(packed: &[u8], at: usize, count: usize, out: &mut [u8], to: usize) -> Part
     requires { (count ≤ 255) × (at ≤ 5000000) × (to ≤ 5000000) }
     ensures { Spells 70380 at out.old to (spell_steps count (drop at packed.now)) result out.new }
 {
-    let mut left = count;
     let mut end = at;
     let mut place = to;
-    while left > 0 {
+    for _ in 0..count {
         let part = spell_step(packed, end, out, place);
         end = part.end;
         place = part.to;
-        left -= 1;
     }
     Part { end, to: place }
 }
@@ -173,20 +169,19 @@ fn spell_line(packed: &[u8], at: usize, out: &mut [u8], to: usize) -> Part
 }
 
 // Spells a packed form behind its version byte, and gives the length of the text.
+#[tactic(auto, using(crate::proofs::Spelling::spelling))]
 pub fn list(packed: &[u8], out: &mut [u8]) -> usize
     ensures { Wrote out.old 0 (spelled packed.now) result out.new }
 {
     let mut at: usize = 1;
     let mut to: usize = 0;
-    let mut left = ListAnswer::LINES;
-    while left > 0 {
+    for _ in 0..PathList::LINES {
         if packed.len() <= at {
             return to;
         }
         let line = spell_line(packed, at, out, to);
         at = line.end;
         to = line.to;
-        left -= 1;
     }
     to
 }

@@ -8,10 +8,10 @@ use mathlib.Core.List.{List, [], ◌∷◌, ◌++◌}
 use Prim.Native.Nat.{ℕ, ◌≤◌}
 use lib.ListN.{length}
 use lib.Seq.{sets}
+use Rattle.std.specs.Prelude.{Result, Ok, Err}
 use Rattle.contracts.specs.One.{OneResult}
 use Rattle.xml.specs.Forest.{Name}
 use Rattle.paths.specs.Judge.{list_answer, list_paths}
-use Rattle.paths.specs.declared.ListAnswer.TheVariants.{Sound as SoundList}
 use Rattle.attributes.specs.Attribute.{Attribute}
 use Rattle.tags.specs.declared.Item.{Item}
 use Rattle.document.specs.Place.{placement}
@@ -25,50 +25,56 @@ use Rattle.matcher.specs.declared.fit.Fit.{Fit}
 use Rattle.matcher.specs.declared.state.MatchState.{MatchState}
 use Rattle.matcher.proofs.Meaning.{verdict_told, unselected_told, untested_told}
 use Rattle.document.specs.Judge.{scanned}
-use Rattle.document.specs.declared.judge.Judged.TheVariants.{Sound}
+use Rattle.document.specs.declared.ItemError.{ItemError}
+use Rattle.document.specs.declared.Why.{Why}
 use Rattle.notes.specs.Notes.{Stood, text_of}
 use Rattle.notes.specs.Alike.{Alike}
 use Rattle.trees.specs.Written.{cut_of, count_of, tests_of}
 use Rattle.passes.specs.Passed.{judged_by, Told, PassedBy}
 use Rattle.passes.specs.ByTests.{ByTests, unselected, untested, tested}
 use Rattle.passes.specs.declared.Next.{Next}
-use Rattle.passes.specs.declared.Outcome.{Outcome}
-use Rattle.passes.specs.declared.Outcome.TheVariants.{Fine, Fault}
+use Rattle.passes.specs.declared.Measured.{Measured}
 use Rattle.passes.proofs.pass.Reads as pass
 use Rattle.passes.proofs.next_item.Reads as next_item
 use Rattle.passes.proofs.judged.Reads as judged
 
 -- what is handed back, but for the number of notes; and that number
-abbrev pub unnoted : Outcome → Outcome
-unnoted (Fine n c m l) = Fine n c m 0
-unnoted (Fault w at) = Fault w at
+abbrev pub unnoted : Result Measured ItemError → Result Measured ItemError
+unnoted (Ok m) = Ok (record { length = m.length; selected = m.selected; tests = m.tests; noted = 0 })
+unnoted (Err e) = Err e
 
-abbrev pub notes_of : Outcome → ℕ
-notes_of (Fine n c m l) = l
-notes_of (Fault w at) = 0
+abbrev pub notes_of : Result Measured ItemError → ℕ
+notes_of (Ok m) = m.noted
+notes_of (Err e) = 0
 
 -- two outcomes with the buffer and the log after them
-pub record Same (d : List ℕ) (r : Outcome) (o g : List ℕ) (r' : Outcome) (o' g' : List ℕ) : Type 0 where
+pub record Same (d : List ℕ) (r : Result Measured ItemError) (o g : List ℕ) (r' : Result Measured ItemError) (o' g' : List ℕ) : Type 0 where
   pub outcome : unnoted r ≡ unnoted r'
   pub buffer : o ≡ o'
   pub noted : notes_of r ≤ length g → notes_of r' ≤ length g' → text_of d g (notes_of r) ≡ text_of d g' (notes_of r')
 
-pub outcome_one : (counts : Bool) (list d o : List ℕ) (r r' : Outcome) (o₁ g₁ o₂ g₂ : List ℕ) → PassedBy counts list d o r o₁ g₁
+pub outcome_one : (counts : Bool) (list d o : List ℕ) (r r' : Result Measured ItemError) (o₁ g₁ o₂ g₂ : List ℕ)
+    → PassedBy counts list d o r o₁ g₁
     → PassedBy counts list d o r' o₂ g₂
     → unnoted r ≡ unnoted r'
 outcome_one counts list d o r r' o₁ g₁ o₂ g₂ p q = go r r' (p.judged ∙ sym q.judged) p.told q.told
   where
-    go : (x y : Outcome) → judged_by x ≡ judged_by y → Told d (cut_of list d) (count_of list d) (cond counts (tests_of list d) 0) o x o₁ g₁
+    go : (x y : Result Measured ItemError) → judged_by x ≡ judged_by y
+        → Told d (cut_of list d) (count_of list d) (cond counts (tests_of list d) 0) o x o₁ g₁
         → Told d (cut_of list d) (count_of list d) (cond counts (tests_of list d) 0) o y o₂ g₂ → unnoted x ≡ unnoted y
-    go (Fine n c m l) (Fine n' c' m' l') e s t = rw (s.0, s.1, s.2, t.0, t.1, t.2)
-    go (Fine n c m l) (Fault w at) e s t = absurd (false≢true cc)
-    go (Fault w at) (Fine n c m l) e s t = absurd (false≢true cc)
-    go (Fault w at) (Fault v to) e s t = cc
+    go (Ok m) (Ok m') e s t = rw (s.0, s.1, s.2, t.0, t.1, t.2)
+    go (Ok m) (Err v) e s t = absurd (false≢true cc)
+    go (Err w) (Ok m) e s t = absurd (false≢true cc)
+    go (Err w) (Err v) e s t =
+        let y : w.why ≡ v.why = cc in
+        let z : w.at ≡ v.at = cc in
+        ap₂ (λ (x : Why) (k : ℕ). Err (record { why = x; at = k })) y z
 
 -- where the document is sound
-pub sound_one : (counts : Bool) (list d o : List ℕ) (r r' : Outcome) (o₁ g₁ o₂ g₂ : List ℕ) → PassedBy counts list d o r o₁ g₁
+pub sound_one : (counts : Bool) (list d o : List ℕ) (r r' : Result Measured ItemError) (o₁ g₁ o₂ g₂ : List ℕ)
+    → PassedBy counts list d o r o₁ g₁
     → PassedBy counts list d o r' o₂ g₂
-    → scanned d ≡ Sound → Same d r o₁ g₁ r' o₂ g₂
+    → scanned d ≡ Ok tt → Same d r o₁ g₁ r' o₂ g₂
 sound_one counts list d o r r' o₁ g₁ o₂ g₂ p q sound =
     let a = says r o₁ g₁ (p.judged ∙ sound) p.told in
     let b = says r' o₂ g₂ (q.judged ∙ sound) q.told in
@@ -78,17 +84,17 @@ sound_one counts list d o r r' o₁ g₁ o₂ g₂ p q sound =
       noted = λ h k. a.1.text h ∙ sym (b.1.text k);
     }
   where
-    says : (x : Outcome) (b g : List ℕ) → judged_by x ≡ Sound
+    says : (x : Result Measured ItemError) (b g : List ℕ) → judged_by x ≡ Ok tt
         → Told d (cut_of list d) (count_of list d) (cond counts (tests_of list d) 0) o x b g
         → (b ≡ sets o 0 (cut_of list d)) × Stood d g (notes_of x) (cut_of list d)
-    says (Fine n c m l) b g e s = (s.3, s.4)
-    says (Fault w at) b g e s = absurd (false≢true cc)
+    says (Ok m) b g e s = (s.3, s.4)
+    says (Err w) b g e s = absurd (false≢true cc)
 
 -- `pass`
 pub pass_one : Alike pass.Asked pass.Learnt (λ κs a z e z' e'. unnoted z ≡ unnoted z')
 pass_one κs a z z' e e' x = outcome_one _ _ _ _ z z' _ _ _ _
 
-pub buffer_one : Alike (λ κs a. pass.Asked κs a × (scanned a.1.1.1.1.0.now ≡ Sound)) pass.Learnt
+pub buffer_one : Alike (λ κs a. pass.Asked κs a × (scanned a.1.1.1.1.0.now ≡ Ok tt)) pass.Learnt
     (λ κs a z e z' e'. Same a.1.1.1.1.0.now z e.1.1.1.1.1.0.now e.1.1.1.1.1.1.0.now
     z' e'.1.1.1.1.1.0.now e'.1.1.1.1.1.1.0.now)
 buffer_one κs a z z' e e' x p q = sound_one _ _ _ _ z z' _ _ _ _ p q x.1
@@ -105,7 +111,7 @@ next_item_one κs a z z' e e' x p q =
     next_made i (p.1 ∙ ap (λ (j : Item). placement d a.1.1.1.1.1.0 j s) i ∙ sym q.1)
 
 -- `judged`
-judged_told : (list : List ℕ) → list_answer list ≡ SoundList → (names : List Name) (n : Name) (xs : List Attribute) {m : MatchState}
+judged_told : (list : List ℕ) → list_answer list ≡ Ok tt → (names : List Name) (n : Name) (xs : List Attribute) {m : MatchState}
     {f : Fit} → m ≡ state_of (list_paths list) names → f ≡ fit_for (list_paths list) n → {w : Verdict} → ByTests (list_paths list) xs m f w
     → w ≡ verdict_of (list_paths list) (names ++ n ∷ []) xs
 judged_told list sound names n xs em ef t = go (rw (em, ef) at t)
@@ -123,4 +129,4 @@ pub judged_one : (names : List Name) (n : Name)
     judged.Learnt
 judged_one names n κs a z z' e e' x p q =
     let list = a.1.0.now in
-    judged_told list x.0.1.sound names n _ x.1 x.2 p ∙ sym (judged_told list x.0.1.sound names n _ x.1 x.2 q)
+    judged_told list x.0.0.sound names n _ x.1 x.2 p ∙ sym (judged_told list x.0.0.sound names n _ x.1 x.2 q)

@@ -1,5 +1,6 @@
 -- The pass over the items. The invariant: the code's state stands for an engine from which the rest of the pass comes to what it comes to
 -- from the start; the scan of the document does too. Then a law for each way on and each way out.
+use Rattle.std.specs.Prelude.{Ok, Err}
 use Rattle.document.proofs.Placing.{Unstarted}
 use mathlib.Core.Path.{◌≡◌, refl, sym, ap, ap₂, ◌∙◌}
 use mathlib.Core.Bool.{Bool, true, false, cond, not, true≢false}
@@ -16,7 +17,6 @@ use lib.ListN.{length, take, drop, get_or, set, length-set, replicate, length-re
 use lib.Seq.{sets, set-get_or, get_or-set_same, get_or-set_other}
 use Rattle.paths.specs.Path.{Path}
 use Rattle.paths.specs.Judge.{list_answer, list_paths}
-use Rattle.paths.specs.declared.ListAnswer.TheVariants.{Sound as SoundList}
 use Rattle.items.specs.Inside.{Inside}
 use Rattle.items.specs.Item.{item_at}
 use Rattle.tags.specs.Kept.{name_from}
@@ -30,7 +30,6 @@ use Rattle.document.specs.declared.Open.{Open}
 use Rattle.document.specs.declared.Placement.{Placement}
 use Rattle.document.specs.declared.Placement.TheVariants.{Fine, Fault as Faulty, Over}
 use Rattle.document.specs.declared.Why.{Why}
-use Rattle.document.specs.declared.judge.Judged.TheVariants.{Sound}
 use Rattle.document.proofs.After.{start_room}
 use Rattle.document.proofs.Judging.{Judging, judge_start, judge_fault, judge_over, judge_on, fine_ahead, scan_inside, scan_less, scan_on}
 use Rattle.attributes.specs.Attribute.{Attribute}
@@ -64,7 +63,6 @@ use Rattle.output.proofs.Chains.{name_part}
 use Rattle.output.proofs.Steps.{open_is, out_laid, kept_none}
 use Rattle.passes.specs.Opens.{Opens}
 use Rattle.passes.specs.Passed.{PassedBy}
-use Rattle.passes.specs.declared.Outcome.TheVariants.{Fine as Ended, Fault}
 use Rattle.quick.proofs.Opened.{start_named}
 use Rattle.passes.proofs.Telling.{opens_none, opens_kept, opens_more}
 use Rattle.passes.proofs.Rests.{Rest, rest_start, rest_over, sum_over, rest_tag, rest_other}
@@ -175,7 +173,7 @@ none_tallied (aside raw ∷ ts) up = none_tallied ts up
 abbrev pub counted_tests : Bool → List Path → List Name → ℕ
 counted_tests counts ps ns = cond counts (name_tests ps ns) 0
 
-counted_tests_lem : (counts : Bool) (list d : List ℕ) → scanned d ≡ Sound
+counted_tests_lem : (counts : Bool) (list d : List ℕ) → scanned d ≡ Ok tt
     → tallied (counted_tests counts (list_paths list)) (tokens_of d) [] ≡ cond counts (tests_of list d) 0
 counted_tests_lem true list d e = run_tests list d e
 counted_tests_lem false list d e = none_tallied (tokens_of d) []
@@ -247,13 +245,14 @@ module _ {counts : Bool} {list tb d o₀ g₀ : List ℕ} {states : List MatchSt
     (v : Passing counts list tb d o₀ g₀ states memo slots starts lens opened run at first tests o g)
     {i : Item} (e : i ≡ item_at first d at)
     {p : Placement} (q : p ≡ placement d at i (opened_of d starts lens opened)) where
-  pub pass_fault : (why : Why) → p ≡ Faulty why → PassedBy counts list d o₀ (Fault why at) o g
+  pub pass_fault : (why : Why) → p ≡ Faulty why → PassedBy counts list d o₀ (Err (record { why = why; at = at })) o g
   pass_fault why h = record { judged = judge_fault v.judging e q why h; told = tt }
 
-  pub pass_over : p ≡ Over → PassedBy counts list d o₀ (Ended run.len run.count tests run.noted) o g
+  pub pass_over : p ≡ Over
+      → PassedBy counts list d o₀ (Ok (record { length = run.len; selected = run.count; tests = tests; noted = run.noted })) o g
   pass_over h = record { judged = sound; told = go v.x v.stands (whole ∙ run_cut list d (sym sound)) }
     where
-      sound : Sound ≡ scanned d
+      sound : Ok tt ≡ scanned d
       sound = judge_over v.judging e q h
 
       whole : v.x ≡ runs (verdicts (list_paths list)) (tokens_of d) begun
@@ -530,7 +529,7 @@ module _ {counts : Bool} {list tb d o₀ g₀ : List ℕ} {states : List MatchSt
           (omega (arith, tag_level, v.judging.names.starts_long))
           (omega (arith, tag_level, v.judging.names.lens_long)))
 
-      module _ (sound : list_answer list ≡ SoundList) {parent : MatchState} (ep : parent ≡ get_or states opened.level.0 none)
+      module _ (sound : list_answer list ≡ Ok tt) {parent : MatchState} (ep : parent ≡ get_or states opened.level.0 none)
           {fit : Fit} (ef : fit ≡ fit_for (list_paths list) (part d (at + 1) (at + 1 + n))) where
         parent_state : parent ≡ state_of (list_paths list) (above d starts lens opened.level.0)
         parent_state = parent_is v.held tag_level ep

@@ -16,8 +16,7 @@ use lib.Seq.{get_or-set_same, get_or-set_other}
 use Rattle.xml.specs.Productions.{same as same_bytes}
 use Rattle.xml.proofs.Same.{same_refl}
 use Rattle.chars.specs.Name.{reading_at}
-use Rattle.chars.specs.declared.name.Reading.{Reading}
-use Rattle.chars.specs.declared.name.Reading.TheVariants.{Ends}
+use Rattle.std.specs.Prelude.{Option, Some}
 use Rattle.readers.specs.Plain.{text_of}
 use Rattle.tags.specs.Kept.{name_from}
 use Rattle.tags.specs.Tag.{tag_at}
@@ -111,7 +110,7 @@ before_end d at l ne = ⊎_elim (λ q. absurd (ne q)) (λ q. q) (eq-or-lt_of_le 
 
 -- text inside an element
 pub usual_text : (d starts lens : List ℕ) (o : Open) (at : ℕ) → (o.level.0 ≡ 0 → ⊥) → at < length d → (get_or d at 0 ≡ 0x3C → ⊥)
-    → (get_or d at 0 ≡ 0x26 → ⊥) → {r : Reading} → r ≡ reading_at d at (text_of (drop at d)) → {e : ℕ} → r ≡ Ends e
+    → (get_or d at 0 ≡ 0x26 → ⊥) → {r : Option ℕ} → r ≡ reading_at d at (text_of (drop at d)) → {e : ℕ} → r ≡ Some e
     → Usual d at (opened_of d starts lens o) (Text e)
 usual_text d starts lens o at z l n m g {e} q =
     told

@@ -12,7 +12,6 @@
 #![tactic(auto)]
 
 ghost use Rattle.std.specs.Prelude.{◌≡◌, ◌+◌, ◌-◌, ◌≤◌, ◌<◌, length, get_or, take, drop};
-ghost use Rattle.points.specs.Class.{class_table};
 ghost use Rattle.matcher.specs.Fit.{Serves, fit_at};
 ghost use Rattle.matcher.specs.State.{verdict_by};
 ghost use Rattle.paths.specs.Judge.{list_paths};
@@ -26,11 +25,10 @@ ghost use Rattle.passes.specs.Opens.{Opens, Usual};
 ghost use Rattle.passes.specs.Passed.{PassedBy};
 ghost use Rattle.passes.specs.ByTests.{ByTests};
 
-use chars::name::Reading;
 use compiled::Compiled;
 use document::judge::start_of;
 use document::place::{end_of, keep, place};
-use document::{InputLevel, Open, Placement, Why};
+use document::{InputLevel, ItemError, Open, Placement};
 use items::told::item;
 use matcher::Verdict;
 use matcher::fit::{fit_by, row_of};
@@ -38,7 +36,7 @@ use matcher::state::MatchState;
 use output::Run;
 use output::step::{other_step, tag_step};
 use plain::text::text;
-use points::table::Classes;
+use points::class::Classes;
 use quick::end::end_tag;
 use recall::{Known, slot_of};
 use scans::mark::before16;
@@ -46,12 +44,14 @@ use tags::Item;
 use tags::usual::next_tag;
 use tests::{any, passing};
 
-// What a pass comes to: the length of the cut, the number of elements selected, that of the name tests tried and that of the notes; or the
-// item at fault.
-#[derive(Drop)]
-pub enum Outcome {
-    Fine(usize, usize, usize, usize),
-    Fault(Why, usize),
+// What a pass comes to where no item is at fault: the length of the cut, the number of elements selected, that of the name tests tried and
+// that of the notes.
+#[derive(Clone, Copy, Debug, PartialEq, Eq)]
+pub struct Measured {
+    pub length: usize,
+    pub selected: usize,
+    pub tests: usize,
+    pub noted: usize,
 }
 
 // An item, and whether it may stand at its place.
@@ -71,7 +71,7 @@ fn usual_tag(
     opened: Open,
     at: usize,
 ) -> Item
-    requires { (table.now ≡ class_table) × Names doc.now starts.now lens.now opened × (length doc.now ≤ 16777216)
+    requires { Names doc.now starts.now lens.now opened × (length doc.now ≤ 16777216)
         × Opens doc.now starts.now lens.now opened.level.0 × (1 ≤ opened.level.0) × (at < length doc.now)
         × (get_or doc.now at 0 ≡ 0x3C) }
     ensures { Usual doc.now at (opened_of doc.now starts.now lens.now opened) result }
@@ -118,6 +118,7 @@ fn text_end(doc: &[u8], at: usize) -> usize
     ensures { ToldMark 0x5D doc.now at result }
 {
     let mut i = at;
+    // Each turn takes a block while one is left: a range by steps of 16 would need the place of the last, and be no plainer.
     while doc.len() - i >= 16 {
         let n = before16(doc, i, b']');
         if n < 16 {
@@ -140,7 +141,7 @@ fn usual(
     opened: Open,
     at: usize,
 ) -> Item
-    requires { (table.now ≡ class_table) × Names doc.now starts.now lens.now opened × (length doc.now ≤ 16777216)
+    requires { Names doc.now starts.now lens.now opened × (length doc.now ≤ 16777216)
         × Opens doc.now starts.now lens.now opened.level.0 × (at ≤ length doc.now) }
     ensures { Usual doc.now at (opened_of doc.now starts.now lens.now opened) result }
 {
@@ -165,8 +166,8 @@ fn usual(
         }
     }
     match text(doc, at) {
-        Reading::Ends(e) => Item::Text(e),
-        Reading::Fault => Item::Nothing,
+        Some(e) => Item::Text(e),
+        None => Item::Nothing,
     }
 }
 
@@ -180,7 +181,7 @@ pub fn next_item(
     at: usize,
     first: bool,
 ) -> Next
-    requires { (table.now ≡ class_table) × Names doc.now starts.now lens.now opened × (length doc.now ≤ 16777216)
+    requires { Names doc.now starts.now lens.now opened × (length doc.now ≤ 16777216)
         × Opens doc.now starts.now lens.now opened.level.0 × (at ≤ length doc.now) }
     ensures item_value { result.item ≡ item_at first doc.now at }
     ensures placed_value { result.placed ≡ placement doc.now at result.item
@@ -214,7 +215,7 @@ pub fn judged(
     name: usize,
     head: usize,
 ) -> Verdict
-    requires { (table.now ≡ class_table) × Serves list.now t.now × (tested ≡ some_place (take 32 (drop 18368 t.now)))
+    requires { Serves list.now t.now × (tested ≡ some_place (take 32 (drop 18368 t.now)))
         × (at + 1 + name ≤ head) × (head ≤ length doc.now) × (row ≤ 512) × (plain ≡ verdict_by parent (fit_at t.now row)) }
     ensures { ByTests (list_paths list.now)
         (attributes_in 0 (take (head - (at + 1 + name)) (drop (at + 1 + name) doc.now))) parent (fit_at t.now row) result }
@@ -241,8 +242,8 @@ pub fn pass(
     doc: &[u8],
     out: &mut [u8],
     log: &mut [u64],
-) -> Outcome
-    requires { (table.now ≡ class_table) × (length doc.now ≤ 16777216) × Serves list.now t.now × (length log.old ≤ 16777216) }
+) -> Result<Measured, ItemError>
+    requires { (length doc.now ≤ 16777216) × Serves list.now t.now × (length log.old ≤ 16777216) }
     ensures { PassedBy counts list.now doc.now out.old result out.new log.new }
 {
     let tested = any(t);
@@ -258,16 +259,22 @@ pub fn pass(
     let mut at = start_of(doc);
     let mut first = true;
     let mut tests: usize = 0;
+    // Each turn goes on where the item ended, so the place is no count.
     loop {
         let seen = next_item(table, doc, &starts, &lens, opened, at, first);
         let next = seen.item;
         let placed = seen.placed;
         match placed {
             Placement::Fault(why) => {
-                return Outcome::Fault(why, at);
+                return Err(ItemError { why, at });
             }
             Placement::Over => {
-                return Outcome::Fine(run.len, run.count, tests, run.noted);
+                return Ok(Measured {
+                    length: run.len,
+                    selected: run.count,
+                    tests,
+                    noted: run.noted,
+                });
             }
             Placement::Fine => {
                 let level = opened.level.0;

@@ -3,13 +3,14 @@
 use mathlib.Core.Path.{◌≡◌, refl, sym, ap, ◌∙◌}
 use mathlib.Core.Bool.{Bool, true, false, cond, not, ◌&&◌, ◌||◌, and-true, and-false, false≢true}
 use mathlib.Core.List.{List, ◌++◌, append_assoc}
-use mathlib.Core.Option.{Option, none, some, none-ne-some, some-injective}
+use mathlib.Core.Option.{Option as Maybe, none, some, none-ne-some, some-injective}
 use Prim.Native.Nat.{ℕ, ◌+◌, ◌-◌, ◌≤◌, ◌<◌}
 use native.Mathlib.Omega.{arith}
 use borrow.Author.Tests.{lt-leb, le-leb, not-true, not-false}
 use lib.Dec.{eqb}
 use lib.ListN.{length, take, drop, length-append, length-drop}
 use lib.Seq.{drop-drop, length-take-le}
+use Rattle.std.specs.Prelude.{Option, None, Some}
 use Rattle.xml.specs.Notation.{bytes, char, ◌∗}
 use Rattle.xml.specs.Character.{begins, starts, run}
 use Rattle.xml.specs.Productions.{Name, is_char, is_name, is_name_start, is_name_more, except}
@@ -19,17 +20,13 @@ use Rattle.xml.proofs.Language.{reads_language, language_reads}
 use Rattle.xml.proofs.Run.{starts_low, run_reads, run_only, run_drop}
 use Rattle.utf8.specs.Place.{ends_at}
 use Rattle.utf8.specs.Sequence.{sequence_at}
-use Rattle.utf8.specs.declared.Sequence.{Sequence}
-use Rattle.utf8.specs.declared.Sequence.TheVariants.{Point, Bad}
 use Rattle.chars.specs.Name.{name_of, name_at, reading_at}
-use Rattle.chars.specs.declared.name.Reading.{Reading}
-use Rattle.chars.specs.declared.name.Reading.TheVariants.{Ends, Fault}
 use Rattle.chars.proofs.Meaning.{name_found, name_is}
 use Rattle.chars.proofs.Runs.{point_starts, bad_starts, point_wide, Running, run_start, run_ends, run_over, run_less, run_on}
 use Rattle.paths.specs.Path.{AttributeTest, print_attribute, is_value, ProperAttribute}
 use Rattle.paths.specs.Reader.{before, with_value, with_name, attribute_at}
 use Rattle.paths.specs.Place.{value_end, attribute_placed, attribute_end_at}
-use Rattle.paths.specs.declared.TestEnd.TheVariants.{Test as TestTo, Fault as NoTest}
+use Rattle.paths.specs.declared.Test.{Test as PlacedTest}
 use Rattle.paths.proofs.Print.{Printed, Undoes}
 use Rattle.paths.proofs.Names.{name_ends}
 use Rattle.paths.proofs.Steps.{AnyRest, take_before}
@@ -88,7 +85,7 @@ attribute_undoes = record { sound = λ s x e. opened s (begins (bytes "[@") s) r
         let w = ap (λ (y : List ℕ). bytes "[@" ++ (n ++ y)) (begins_split (bytes "=\"") t h) in
         closed s n (drop 2 t) (q ∙ w) k (begins (bytes "\"]") (run is_value 0 (drop 2 t))) refl x e
 
-    by_name : (s u : List ℕ) → s ≡ bytes "[@" ++ u → (o : Option (List ℕ)) → name_of u ≡ o → (x : AttributeTest) → with_name u o ≡ some x
+    by_name : (s u : List ℕ) → s ≡ bytes "[@" ++ u → (o : Maybe (List ℕ)) → name_of u ≡ o → (x : AttributeTest) → with_name u o ≡ some x
         → Printed print_tested ProperAttribute AnyRest s x
     by_name s u q none h x e = absurd (none-ne-some x e)
     by_name s u q (some t) h x e =
@@ -149,12 +146,12 @@ module _ {d : List ℕ} {at i : ℕ} (v : Running is_value d at i) where
   unfolding value_end
   value_over h = run_over v h
 
-  module _ (h : i < length d) {r : Sequence} (q : r ≡ sequence_at d i) where
-    pub value_bad : r ≡ Bad → i ≡ value_end d at
+  module _ (h : i < length d) {r : Option (ℕ × ℕ)} (q : r ≡ sequence_at d i) where
+    pub value_bad : r ≡ None → i ≡ value_end d at
     unfolding value_end
     value_bad b = run_ends v (bad_starts d i q is_value b) (omega arith)
 
-    module _ {c e : ℕ} (f : r ≡ Point c e) {x : Bool} (g : x ≡ is_value c) where
+    module _ {c e : ℕ} (f : r ≡ Some (c, e)) {x : Bool} (g : x ≡ is_value c) where
       pub value_stops : not x ≡ true → i ≡ value_end d at
       unfolding value_end
       value_stops n = run_ends v (point_starts d i q is_value f ∙ sym g ∙ not-true x n) (omega arith)
@@ -190,10 +187,14 @@ module _ (d : List ℕ) (at : ℕ) {e : ℕ} (q : e ≡ value_end d at) where
       let z : at + n ≡ e = omega arith in
       sym (run_drop is_value (drop at d)) ∙ drop-drop n at d ∙ ap (λ (k : ℕ). drop k d) z
 
+-- the test with these places and lengths
+abbrev test_to : ℕ → ℕ → ℕ → ℕ → ℕ → Option PlacedTest
+test_to name len value size end = Some (record { name = name; len = len; value = value; size = size; end = end })
+
 -- a name from at + 2 to e and a value from e + 2 to stop are those of the test x
 placed : (at e stop : ℕ) (x : AttributeTest) → at + 2 ≤ e → length x.name ≡ e - (at + 2) → e + 2 ≤ stop
     → length x.value ≡ stop - (e + 2)
-    → TestTo (at + 2) (e - (at + 2)) (e + 2) (stop - (e + 2)) (stop + 2) ≡ attribute_placed at (some x)
+    → test_to (at + 2) (e - (at + 2)) (e + 2) (stop - (e + 2)) (stop + 2) ≡ attribute_placed at (some x)
 placed at e stop x k n l m =
     let a : e + 2 ≡ at + 2 + length x.name + 2 = omega arith in
     let z : length (print_tested x) ≡ length x.name + length x.value + 6 = simp length-append (omega arith) in
@@ -201,25 +202,25 @@ placed at e stop x k n l m =
     rw (← n, ← m, a, b)
 
 module _ (d : List ℕ) (at : ℕ) {x : Bool} (q : x ≡ begins (bytes "[@") (drop at d)) where
-  pub test_unopened : not x ≡ true → NoTest ≡ attribute_end_at d at
+  pub test_unopened : not x ≡ true → None ≡ attribute_end_at d at
   unfolding attribute_end_at attribute_at
   test_unopened t = sym (rw (sym q ∙ not-true x t))
 
-  module _ (t : not x ≡ false) {r : Reading} (f : r ≡ name_at d (at + 2)) where
+  module _ (t : not x ≡ false) {r : Option ℕ} (f : r ≡ name_at d (at + 2)) where
     at_name : attribute_at (drop at d) ≡ with_name (drop (at + 2) d) (name_of (drop (at + 2) d))
     unfolding attribute_at
     at_name = rw (sym q ∙ not-false x t, drop-drop 2 at d)
 
-    pub test_nameless : r ≡ Fault → NoTest ≡ attribute_end_at d at
+    pub test_nameless : r ≡ None → None ≡ attribute_end_at d at
     unfolding attribute_end_at name_at
     test_nameless e = rw at_name (go (name_of (drop (at + 2) d)) (sym e ∙ f))
       where
-        go : (o : Option (List ℕ)) → Fault ≡ reading_at d (at + 2) o → NoTest ≡ attribute_placed at (with_name (drop (at + 2) d) o)
+        go : (o : Maybe (List ℕ)) → None ≡ reading_at d (at + 2) o → None ≡ attribute_placed at (with_name (drop (at + 2) d) o)
         go none z = refl
         go (some t) z = absurd (let z : ◌≡◌ {A = ℕ} 0 1 = cc in omega arith)
 
-    module _ {e : ℕ} (g : r ≡ Ends e) {y : Bool} (h : y ≡ begins (bytes "=\"") (drop e d)) where
-      pub test_unequal : not y ≡ true → NoTest ≡ attribute_end_at d at
+    module _ {e : ℕ} (g : r ≡ Some e) {y : Bool} (h : y ≡ begins (bytes "=\"") (drop e d)) where
+      pub test_unequal : not y ≡ true → None ≡ attribute_end_at d at
       unfolding attribute_end_at
       test_unequal u =
           let v = name_here d (at + 2) f g in
@@ -232,12 +233,12 @@ module _ (d : List ℕ) (at : ℕ) {x : Bool} (q : x ≡ begins (bytes "[@") (dr
             at_name
             ∙ rw (v.found, v.size, v.rest, sym h ∙ not-false y u, drop-drop 2 e d, value_left d (e + 2) k)
 
-        pub test_unclosed : not z ≡ true → NoTest ≡ attribute_end_at d at
+        pub test_unclosed : not z ≡ true → None ≡ attribute_end_at d at
         unfolding attribute_end_at
         test_unclosed w = sym (rw (at_value, sym l ∙ not-true z w))
 
         pub test_found : not z ≡ false
-            → TestTo (at + 2) (e - (at + 2)) (e + 2) (stop - (e + 2)) (stop + 2) ≡ attribute_end_at d at
+            → test_to (at + 2) (e - (at + 2)) (e + 2) (stop - (e + 2)) (stop + 2) ≡ attribute_end_at d at
         unfolding attribute_end_at
         test_found w =
             let u = drop (at + 2) d in

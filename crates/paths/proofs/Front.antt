@@ -8,10 +8,11 @@ use native.Mathlib.Omega.{arith}
 use borrow.Author.Tests.{le-ltb, lt-ltb}
 use lib.ListN.{length, drop, length-drop}
 use Rattle.utf8.proofs.Place.{drop_end}
+use Rattle.std.specs.Prelude.{Ok, Err}
 use Rattle.paths.specs.Path.{Path}
 use Rattle.paths.specs.Reader.{Run, cons, line_at}
 use Rattle.paths.specs.Judge.{sound_at, lines, fault_of, judge, list_answer}
-use Rattle.paths.specs.declared.ListAnswer.TheVariants.{Sound, TooLong, TooLarge}
+use Rattle.paths.specs.declared.ListError.TheVariants.{TooLong, TooLarge}
 use Rattle.paths.proofs.Lines.{sound_nil, lines_none}
 use Rattle.paths.proofs.Meaning.{judge_past, judge_fault, short_answer}
 
@@ -52,7 +53,7 @@ pub record AtLine (d : List ℕ) (at line : ℕ) : Type 0 where
 pub line_start : {d : List ℕ} → length d ≤ 8192 → AtLine d 0 1
 line_start l = record { passing = pass_start lines (omega arith); short = l; first = omega arith; few = omega arith }
 
-pub too_long : (d : List ℕ) → 8192 < length d → TooLong ≡ list_answer d
+pub too_long : (d : List ℕ) → 8192 < length d → Err TooLong ≡ list_answer d
 unfolding list_answer
 too_long d l = sym (rw (lt-ltb 8192 (length d) l))
 
@@ -64,7 +65,7 @@ module _ {d : List ℕ} {at line : ℕ} (v : AtLine d at line) where
       let m : length (lines (drop at d)).all ≡ 0 = ap (λ (r : Run Path). length r.all) e in
       (omega arith, sym v.passing.left ∙ ap (λ (r : Run Path). r.rest) e)
 
-  pub line_sound : length d ≤ at → Sound ≡ list_answer d
+  pub line_sound : length d ≤ at → Ok tt ≡ list_answer d
   unfolding judge
   line_sound l =
       let (n, q) = stops [] (ap lines (drop_end d at l) ∙ lines_none [] sound_nil) in
@@ -74,21 +75,21 @@ module _ {d : List ℕ} {at line : ℕ} (v : AtLine d at line) where
   some_left : at < length d → drop at d ≡ [] → ⊥
   some_left l e = let z : length (drop at d) ≡ 0 = ap length e in omega (arith, length-drop at d)
 
-  pub line_past : at < length d → 32 < line → TooLarge line ≡ list_answer d
+  pub line_past : at < length d → 32 < line → Err (TooLarge line) ≡ list_answer d
   line_past l h =
       let f = v.few in
       let n = v.passing.counted in
       let z : line ≡ 33 = omega arith in
       let m : 32 + length (lines (drop at d)).all ≡ length (lines d).all = omega arith in
-      ap TooLarge z ∙ sym (short_answer d v.short ∙ judge_past (lines d) (drop at d) (some_left l) m v.passing.left)
+      ap (λ (n : ℕ). Err (TooLarge n)) z ∙ sym (short_answer d v.short ∙ judge_past (lines d) (drop at d) (some_left l) m v.passing.left)
 
   -- the line here is not sound
   pub line_fault : at < length d → line ≤ 32 → sound_at (drop at d) ≡ none → (o : Option Path) → line_at (drop at d) ≡ o
-      → fault_of o line ≡ list_answer d
+      → Err (fault_of o line) ≡ list_answer d
   unfolding judge
   line_fault l h e o k =
       let (n, q) = stops (drop at d) (lines_none (drop at d) e) in
       let f = v.first in
       let z : line - 1 + 1 ≡ line = omega arith in
       sym (short_answer d v.short ∙ rw (n, q, le-ltb 32 (line - 1) (omega arith))
-      (judge_fault (drop at d) (line - 1) (omega arith) (some_left l) o k ∙ ap (fault_of o) z))
+      (judge_fault (drop at d) (line - 1) (omega arith) (some_left l) o k ∙ ap (λ (n : ℕ). Err (fault_of o n)) z))

@@ -3,25 +3,22 @@
 use mathlib.Core.Path.{◌≡◌, refl, sym, ap, ◌∙◌}
 use mathlib.Core.Bool.{Bool, true, false, cond, ◌&&◌}
 use mathlib.Core.List.{List, [], ◌∷◌, ◌++◌, append_assoc}
-use mathlib.Core.Option.{Option, none, some, none-ne-some, some-injective}
+use mathlib.Core.Option.{Option as Maybe, none, some, none-ne-some, some-injective}
 use Prim.Native.Nat.{ℕ, ◌+◌, ◌≤◌, ◌<◌}
 use native.Mathlib.Omega.{arith}
 use lib.Dec.{leb}
 use lib.ListN.{length, take, drop, length-append, length-drop}
 use lib.Seq.{drop-drop, take-append_seam, drop-append_seam}
+use Rattle.std.specs.Prelude.{Option, None, Some, Ok}
 use Rattle.xml.specs.Notation.{bytes}
 use Rattle.paths.specs.Path.{Test, named, Step, AttributeTest, Path, test_size}
 use Rattle.paths.specs.Path.{print_kind, print_test, print_step, print_all, print_mark, print_line, Proper, ProperAttribute, IfAny, Good}
 use Rattle.paths.specs.Answer.{Says, sound}
 use Rattle.paths.specs.Reader.{Run, cons, step_at, steps, Ending, ending_of, print_end, end_at, path_of, with_end, line_at}
 use Rattle.paths.specs.Judge.{small_test, within, small_only, sound_at, lines, list_answer, list_paths}
-use Rattle.paths.specs.Place.{step_placed, step_end_at, value_from, ended, end_placed, line_end_at}
-use Rattle.paths.specs.declared.Kind.{Kind}
-use Rattle.paths.specs.declared.ListAnswer.TheVariants.{Sound}
-use Rattle.paths.specs.declared.StepEnd.{StepEnd}
-use Rattle.paths.specs.declared.StepEnd.TheVariants.{Step as StepTo, Fault as NoStep}
+use Rattle.paths.specs.Place.{step_placed, step_end_at, value_from, end_placed, line_end_at}
+use Rattle.paths.specs.declared.Step.{Step as PlacedStep}
 use Rattle.paths.specs.declared.LineEnd.{LineEnd}
-use Rattle.paths.specs.declared.LineEnd.TheVariants.{Ends as LineEnds, Fault as NoEnd}
 use Rattle.paths.proofs.Print.{read_inside, read_prints, run_cons}
 use Rattle.paths.proofs.Names.{name_long}
 use Rattle.paths.proofs.Attributes.{print_tested, test_print}
@@ -31,18 +28,18 @@ use Rattle.paths.proofs.Meaning.{says}
 
 -- ---- a step
 
--- from at to `end` stands a step of the kind k, and its name is len bytes at the place `name`; a run of steps goes on behind it
-pub record StepHere (d : List ℕ) (at : ℕ) (k : Kind) (name len end : ℕ) : Type 0 where
+-- from at to its end stands the step y, of its kind, and its name is so many bytes at its place; a run of steps goes on behind it
+pub record StepHere (d : List ℕ) (at : ℕ) (y : PlacedStep) : Type 0 where
   pub step : Step
   pub found : step_at (drop at d) ≡ some step
   pub proper : Proper step
-  pub prints : drop at d ≡ print_step step ++ drop end d
-  pub kind : k ≡ step.kind
-  pub size : len ≡ test_size step.test
-  pub bytes : (n : List ℕ) → step.test ≡ named n → take len (drop name d) ≡ n
-  pub on : at < end
-  pub inside : end ≤ length d
-  pub runs : steps (drop at d) ≡ cons step (steps (drop end d))
+  pub prints : drop at d ≡ print_step step ++ drop y.end d
+  pub kind : y.kind ≡ step.kind
+  pub size : y.len ≡ test_size step.test
+  pub bytes : (n : List ℕ) → step.test ≡ named n → take y.len (drop y.name d) ≡ n
+  pub on : at < y.end
+  pub inside : y.end ≤ length d
+  pub runs : steps (drop at d) ≡ cons step (steps (drop y.end d))
 
 name_bytes : (d : List ℕ) (at : ℕ) (x : Step) → step_at (drop at d) ≡ some x → (n : List ℕ) → x.test ≡ named n
     → take (test_size x.test) (drop (at + length (print_kind x.kind)) d) ≡ n
@@ -56,21 +53,21 @@ name_bytes d at x e n h =
     sym (drop-drop (length k) at d) ∙ ap (drop (length k)) q ∙ drop-append_seam k (n ++ p.rest) in
     ap (λ (y : Test). take (test_size y) (drop (at + length k) d)) h ∙ ap (take (length n)) z ∙ take-append_seam n p.rest
 
-module _ (d : List ℕ) (at : ℕ) {r : StepEnd} (q : r ≡ step_end_at d at) where
-  pub step_none : r ≡ NoStep → step_at (drop at d) ≡ none
+module _ (d : List ℕ) (at : ℕ) {r : Option PlacedStep} (q : r ≡ step_end_at d at) where
+  pub step_none : r ≡ None → step_at (drop at d) ≡ none
   unfolding step_end_at
   step_none f = go (step_at (drop at d)) (sym f ∙ q)
     where
-      go : (o : Option Step) → NoStep ≡ step_placed at o → o ≡ none
+      go : (o : Maybe Step) → None ≡ step_placed at o → o ≡ none
       go none z = refl
       go (some x) z = absurd (let z : ◌≡◌ {A = ℕ} 0 1 = cc in omega arith)
 
-  pub step_here : {k : Kind} {name len end : ℕ} → r ≡ StepTo k name len end → StepHere d at k name len end
+  pub step_here : {y : PlacedStep} → r ≡ Some y → StepHere d at y
   unfolding step_end_at steps
-  step_here {k} {name} {len} {end} f = go (step_at (drop at d)) refl (sym f ∙ q)
+  step_here {y} f = go (step_at (drop at d)) refl (sym f ∙ q)
     where
-      here : (x : Step) → step_at (drop at d) ≡ some x → k ≡ x.kind → name ≡ at + length (print_kind x.kind) → len ≡ test_size x.test
-          → end ≡ at + length (print_step x) → StepHere d at k name len end
+      here : (x : Step) → step_at (drop at d) ≡ some x → y.kind ≡ x.kind → y.name ≡ at + length (print_kind x.kind)
+          → y.len ≡ test_size x.test → y.end ≡ at + length (print_step x) → StepHere d at y
       here x e a b c h =
           let l = step_long x in
           let i = read_inside step_undoes step_long d at e in
@@ -87,7 +84,7 @@ module _ (d : List ℕ) (at : ℕ) {r : StepEnd} (q : r ≡ step_end_at d at) wh
             runs = run_cons step_undoes step_long d at e ∙ ap (λ (n : ℕ). cons x (steps (drop n d))) (sym h);
           }
 
-      go : (o : Option Step) → step_at (drop at d) ≡ o → StepTo k name len end ≡ step_placed at o → StepHere d at k name len end
+      go : (o : Maybe Step) → step_at (drop at d) ≡ o → Some y ≡ step_placed at o → StepHere d at y
       go none e z = absurd (let z : ◌≡◌ {A = ℕ} 0 1 = cc in omega arith)
       go (some x) e z = here x e (cc) (cc) (cc) (cc)
 
@@ -99,19 +96,19 @@ pub record TestHere (d : List ℕ) (x : AttributeTest) (name len value size : �
   pub valued : take size (drop value d) ≡ x.value
   pub some : 0 < len
 
--- from at to `next` stands the end of a line, with the mark m, and with a test just if len is not 0
-pub record EndHere (d : List ℕ) (at name len value size : ℕ) (m : Bool) (next : ℕ) : Type 0 where
+-- from at to the next line stands the end of a line, y, with its mark, and with a test just if the length of its name is not 0
+pub record EndHere (d : List ℕ) (at : ℕ) (y : LineEnd) : Type 0 where
   pub ending : Ending
   pub found : end_at (drop at d) ≡ some ending
   pub proper : IfAny ProperAttribute ending.test
-  pub placed : LineEnds name len value size m next ≡ end_placed at (some ending)
-  pub untested : ending.test ≡ none → len ≡ 0
-  pub tested : (x : AttributeTest) → ending.test ≡ some x → TestHere d x name len value size
-  pub mark : m ≡ ending.marked
-  pub small : (leb len 255 && leb size 255) ≡ small_test ending.test
-  pub ends : next ≡ at + length (print_end ending)
-  pub on : at < next
-  pub inside : next ≤ length d
+  pub placed : Some y ≡ end_placed at (some ending)
+  pub untested : ending.test ≡ none → y.len ≡ 0
+  pub tested : (x : AttributeTest) → ending.test ≡ some x → TestHere d x y.name y.len y.value y.size
+  pub mark : y.marked ≡ ending.marked
+  pub small : (leb y.len 255 && leb y.size 255) ≡ small_test ending.test
+  pub ends : y.next ≡ at + length (print_end ending)
+  pub on : at < y.next
+  pub inside : y.next ≤ length d
 
 -- a part w of what stands at a place, and the place of that part
 part_there : (d : List ℕ) (at : ℕ) (u w t : List ℕ) → drop at d ≡ u ++ (w ++ t) → take (length w) (drop (at + length u) d) ≡ w
@@ -134,35 +131,29 @@ test_here d at x t q ok =
       some = name_long x.name ok.name;
     }
 
-module _ (d : List ℕ) (at : ℕ) {r : LineEnd} (q : r ≡ line_end_at d at) where
-  pub end_none : r ≡ NoEnd → end_at (drop at d) ≡ none
+module _ (d : List ℕ) (at : ℕ) {r : Option LineEnd} (q : r ≡ line_end_at d at) where
+  pub end_none : r ≡ None → end_at (drop at d) ≡ none
   unfolding line_end_at
   end_none f = go (end_at (drop at d)) (sym f ∙ q)
     where
-      other : (x : Option AttributeTest) (m : Bool) (n : ℕ) → NoEnd ≡ ended at x m n → ⊥
-      other none m n z = let z : ◌≡◌ {A = ℕ} 0 1 = cc in omega arith
-      other (some x) m n z = let z : ◌≡◌ {A = ℕ} 0 1 = cc in omega arith
-
-      go : (o : Option Ending) → NoEnd ≡ end_placed at o → o ≡ none
+      go : (o : Maybe Ending) → None ≡ end_placed at o → o ≡ none
       go none z = refl
-      go (some e) z = absurd (other e.test e.marked (at + length (print_end e)) z)
+      go (some e) z = absurd (let z : ◌≡◌ {A = ℕ} 0 1 = cc in omega arith)
 
-  pub end_here : {name len value size : ℕ} {m : Bool} {next : ℕ} → r ≡ LineEnds name len value size m next
-      → EndHere d at name len value size m next
+  pub end_here : {y : LineEnd} → r ≡ Some y → EndHere d at y
   unfolding line_end_at
-  end_here {name} {len} {value} {size} {m} {next} f = go (end_at (drop at d)) refl (sym f ∙ q)
+  end_here {y} f = go (end_at (drop at d)) refl (sym f ∙ q)
     where
-      here : (x : Option AttributeTest) (y : Bool) → end_at (drop at d) ≡ some (record { test = x; marked = y })
-          → LineEnds name len value size m next ≡ end_placed at (some (record { test = x; marked = y }))
-          → EndHere d at name len value size m next
-      here none y e z =
-          let l = end_long (record { test = none; marked = y }) in
+      here : (x : Maybe AttributeTest) (m : Bool) → end_at (drop at d) ≡ some (record { test = x; marked = m })
+          → Some y ≡ end_placed at (some (record { test = x; marked = m })) → EndHere d at y
+      here none m e z =
+          let l = end_long (record { test = none; marked = m }) in
           let i = read_inside end_undoes end_long d at e in
-          let n : next ≡ at + length (print_end (record { test = none; marked = y })) = cc in
-          let a : len ≡ 0 = cc in
-          let b : size ≡ 0 = cc in
+          let n : y.next ≡ at + length (print_end (record { test = none; marked = m })) = cc in
+          let a : y.len ≡ 0 = cc in
+          let b : y.size ≡ 0 = cc in
           record {
-            ending = record { test = none; marked = y };
+            ending = record { test = none; marked = m };
             found = e;
             proper = tt;
             placed = z;
@@ -174,19 +165,19 @@ module _ (d : List ℕ) (at : ℕ) {r : LineEnd} (q : r ≡ line_end_at d at) wh
             on = omega arith;
             inside = omega arith;
           }
-      here (some x) y e z =
-          let p = end_undoes.sound (drop at d) (record { test = some x; marked = y }) e in
-          let l = end_long (record { test = some x; marked = y }) in
+      here (some x) m e z =
+          let p = end_undoes.sound (drop at d) (record { test = some x; marked = m }) e in
+          let l = end_long (record { test = some x; marked = m }) in
           let i = read_inside end_undoes end_long d at e in
-          let n : next ≡ at + length (print_end (record { test = some x; marked = y })) = cc in
-          let a : name ≡ at + 2 = cc in
-          let b : len ≡ length x.name = cc in
-          let c : value ≡ value_from at x = cc in
-          let s : size ≡ length x.value = cc in
-          let t = print_mark y ++ bytes "\n" in
+          let n : y.next ≡ at + length (print_end (record { test = some x; marked = m })) = cc in
+          let a : y.name ≡ at + 2 = cc in
+          let b : y.len ≡ length x.name = cc in
+          let c : y.value ≡ value_from at x = cc in
+          let s : y.size ≡ length x.value = cc in
+          let t = print_mark m ++ bytes "\n" in
           let h = test_here d at x (t ++ p.rest) (p.prints ∙ append_assoc (print_tested x) t p.rest) p.ok in
           record {
-            ending = record { test = some x; marked = y };
+            ending = record { test = some x; marked = m };
             found = e;
             proper = p.ok;
             placed = z;
@@ -199,10 +190,9 @@ module _ (d : List ℕ) (at : ℕ) {r : LineEnd} (q : r ≡ line_end_at d at) wh
             inside = omega arith;
           }
 
-      go : (o : Option Ending) → end_at (drop at d) ≡ o → LineEnds name len value size m next ≡ end_placed at o
-          → EndHere d at name len value size m next
+      go : (o : Maybe Ending) → end_at (drop at d) ≡ o → Some y ≡ end_placed at o → EndHere d at y
       go none e z = absurd (let z : ◌≡◌ {A = ℕ} 0 1 = cc in omega arith)
-      go (some y) e z = here y.test y.marked e z
+      go (some x) e z = here x.test x.marked e z
 
 -- ---- where a line ends
 
@@ -238,7 +228,7 @@ line_parts s p e = go (steps s).all (end_at (steps s).rest) e
     test x xs y true e = rw (← some-injective _ _ e) (refl, refl)
     test x xs y false e = absurd (none-ne-some p e)
 
-    go : (xs : List Step) (o : Option Ending) → small_only (with_end xs o) ≡ some p → (xs ≡ p.steps) × (o ≡ some (ending_of p))
+    go : (xs : List Step) (o : Maybe Ending) → small_only (with_end xs o) ≡ some p → (xs ≡ p.steps) × (o ≡ some (ending_of p))
     go [] o e = absurd (none-ne-some p e)
     go (x ∷ xs) none e = absurd (none-ne-some p e)
     go (x ∷ xs) (some y) e = test x xs y (within (path_of (x ∷ xs) y)) e
@@ -248,7 +238,7 @@ pub line_here : (d : List ℕ) (at : ℕ) → (lines (drop at d)).rest ≡ [] �
 unfolding lines
 line_here d at q l = go (sound_at (drop at d)) refl
   where
-    go : (o : Option Path) → sound_at (drop at d) ≡ o → LineHere d at
+    go : (o : Maybe Path) → sound_at (drop at d) ≡ o → LineHere d at
     go none e =
         let z : drop at d ≡ [] = sym (ap (λ (r : Run Path). r.rest) (lines_none (drop at d) e)) ∙ q in
         absurd (omega (arith, ap length z, length-drop at d))
@@ -263,11 +253,11 @@ line_here d at q l = go (sound_at (drop at d)) refl
         }
 
 -- the lines of a sound list are its paths, and nothing is left
-pub sound_lines : (s : List ℕ) → list_answer s ≡ Sound → lines s ≡ record { all = list_paths s; rest = [] }
+pub sound_lines : (s : List ℕ) → list_answer s ≡ Ok tt → lines s ≡ record { all = list_paths s; rest = [] }
 unfolding list_paths
 sound_lines s e = rw e (go (rw e at (says s)))
   where
-    go : Says s Sound → lines s ≡ record { all = (lines s).all; rest = [] }
+    go : Says s (Ok tt) → lines s ≡ record { all = (lines s).all; rest = [] }
     go (sound l ps b n) =
         let q = ap lines b.prints ∙ lines_whole ps [] b.good sound_nil in
         ap (λ (t : List ℕ). record { all = (lines s).all; rest = t }) (ap (λ (r : Run Path). r.rest) q)

@@ -10,12 +10,13 @@ use borrow.Author.Tests.{leb-true, leb-false, lt-leb, ltb-true, ltb-false, lt-lt
 use lib.Dec.{ltb, leb}
 use lib.ListN.{length, take, drop, length-append, length-drop}
 use lib.Seq.{length-take-le}
+use Rattle.std.specs.Prelude.{Result, Ok, Err}
 use Rattle.paths.specs.Path.{Path, print_all, print_line, print_list, All, none as nil, more, Within, Good}
 use Rattle.paths.specs.Answer.{NoLine, LargeLine, Before, Says, long, sound, malformed, large, past}
 use Rattle.paths.specs.Reader.{Run, line_at}
 use Rattle.paths.specs.Judge.{within, sound_at, lines, fault_of, judge_rest, judge, list_answer, list_paths}
-use Rattle.paths.specs.declared.ListAnswer.{ListAnswer}
-use Rattle.paths.specs.declared.ListAnswer.TheVariants.{Sound, TooLong, TooLarge}
+use Rattle.paths.specs.declared.ListError.{ListError}
+use Rattle.paths.specs.declared.ListError.TheVariants.{TooLong, TooLarge}
 use Rattle.paths.proofs.Print.{prepend}
 use Rattle.paths.proofs.Lines.{line_long, line_undoes, test_within, within_test}
 use Rattle.paths.proofs.Lines.{sound_nil, lines_found, lines_print, lines_whole}
@@ -69,12 +70,12 @@ line_over s p h e w = none-ne-some p (sym (rw (h, within_test w) at e))
 
 -- the run r has the lines of s after 32 others, and s is not empty
 pub judge_past : (r : Run Path) (s : List ℕ) → (s ≡ [] → ⊥) → 32 + length (lines s).all ≡ length r.all → (lines s).rest ≡ r.rest
-    → judge r ≡ TooLarge 33
+    → judge r ≡ Err (TooLarge 33)
 unfolding judge
 judge_past r s h n q = go (lines s).all (lines s).rest (lines_found s).prints n q
   where
     go : (ps : List Path) (t : List ℕ) → s ≡ print_all print_line ps ++ t → 32 + length ps ≡ length r.all → t ≡ r.rest
-        → cond (ltb 32 (length r.all)) (TooLarge 33) (judge_rest r.rest (length r.all)) ≡ TooLarge 33
+        → cond (ltb 32 (length r.all)) (Err (TooLarge 33)) (judge_rest r.rest (length r.all)) ≡ Err (TooLarge 33)
     go [] [] e n q = absurd (h e)
     go [] (b ∷ t) e n q = rw (← n, ← q)
     go (p ∷ ps) t e n q = rw (lt-ltb 32 (length r.all) (omega arith))
@@ -83,7 +84,8 @@ judge_few : (ps : List Path) (t : List ℕ) → length ps ≤ 32 → judge (reco
 unfolding judge
 judge_few ps t l = rw (le-ltb 32 (length ps) l)
 
-pub judge_fault : (t : List ℕ) (n : ℕ) → n < 32 → (t ≡ [] → ⊥) → (o : Option Path) → line_at t ≡ o → judge_rest t n ≡ fault_of o (n + 1)
+pub judge_fault : (t : List ℕ) (n : ℕ) → n < 32 → (t ≡ [] → ⊥) → (o : Option Path) → line_at t ≡ o
+    → judge_rest t n ≡ Err (fault_of o (n + 1))
 judge_fault [] n l h o e = absurd (h refl)
 judge_fault (b ∷ t) n l h o e = rw (lt-leb 32 n l, e)
 
@@ -98,10 +100,10 @@ module _ (s : List ℕ) (l : length s ≤ 8192) where
   stopped_answer ps t b n e =
       short_answer ∙ ap judge (ap lines b.prints ∙ lines_whole ps t b.good e) ∙ judge_few ps t n
 
-pub says_only : (s : List ℕ) (a : ListAnswer) → Says s a → list_answer s ≡ a
+pub says_only : (s : List ℕ) (a : Result (Unit {0}) ListError) → Says s a → list_answer s ≡ a
 unfolding list_answer
-says_only s TooLong (long l) = rw (lt-ltb 8192 (length s) l)
-says_only s Sound (sound l ps b n) = stopped_answer s l ps [] b n sound_nil
+says_only s (Err TooLong) (long l) = rw (lt-ltb 8192 (length s) l)
+says_only s (Ok tt) (sound l ps b n) = stopped_answer s l ps [] b n sound_nil
 says_only s _ (malformed l ps t b n h k) =
     stopped_answer s l ps t b (omega arith) (no_line_sound t k) ∙ judge_fault t (length ps) n h none (no_line t k)
 says_only s _ (large l ps t b n k) =
@@ -153,7 +155,7 @@ says s = size (ltb 8192 (length s)) refl
     ended l n [] e = sound l ps (rw e at before) n
     ended l n (b ∷ t) e = full (leb 32 (length ps)) refl
       where
-        faulty : length ps < 32 → (o : Option Path) → line_at (b ∷ t) ≡ o → Says s (fault_of o (length ps + 1))
+        faulty : length ps < 32 → (o : Option Path) → line_at (b ∷ t) ≡ o → Says s (Err (fault_of o (length ps + 1)))
         faulty m none h = malformed l ps (b ∷ t) (rw e at before) m (cons_some b t) (none_line (b ∷ t) h)
         faulty m (some p) h =
             let k = line_undoes.sound (b ∷ t) p h in
@@ -161,11 +163,12 @@ says s = size (ltb 8192 (length s)) refl
             large l ps (b ∷ t) (rw e at before) m
             (record { path = p; rest = k.rest; prints = k.prints; is = k.ok; over = over })
 
-        full : (x : Bool) → leb 32 (length ps) ≡ x → Says s (cond x (TooLarge 33) (fault_of (line_at (b ∷ t)) (length ps + 1)))
+        full : (x : Bool) → leb 32 (length ps) ≡ x → Says s (Err (cond x (TooLarge 33) (fault_of (line_at (b ∷ t)) (length ps + 1))))
         full true h = let z = leb-true 32 (length ps) h in past l ps (b ∷ t) (rw e at before) (omega arith) (cons_some b t)
         full false h = faulty (leb-false 32 (length ps) h) (line_at (b ∷ t)) refl
 
-    many : length s ≤ 8192 → (x : Bool) → ltb 32 (length ps) ≡ x → Says s (cond x (TooLarge 33) (judge_rest (lines s).rest (length ps)))
+    many : length s ≤ 8192 → (x : Bool) → ltb 32 (length ps) ≡ x
+        → Says s (cond x (Err (TooLarge 33)) (judge_rest (lines s).rest (length ps)))
     many l true h =
         let z = ltb-true 32 (length ps) h in
         past l (take 32 ps) (print_list (drop 32 ps) ++ (lines s).rest)
@@ -174,7 +177,7 @@ says s = size (ltb 8192 (length s)) refl
         (prints_some (drop 32 ps) (lines s).rest (rw length-drop (omega arith)))
     many l false h = ended l (ltb-false 32 (length ps) h) (lines s).rest refl
 
-    size : (x : Bool) → ltb 8192 (length s) ≡ x → Says s (cond x TooLong (judge (lines s)))
+    size : (x : Bool) → ltb 8192 (length s) ≡ x → Says s (cond x (Err TooLong) (judge (lines s)))
     size true h = long (ltb-true 8192 (length s) h)
     size false h = many (ltb-false 8192 (length s) h) (ltb 32 (length ps)) refl
 
@@ -190,19 +193,19 @@ pub read_print : (ps : List Path) → All Good ps → length ps ≤ 32 → lengt
 unfolding list_paths
 read_print ps ok n l =
     let b : Before (print_list ps) ps [] = record { prints = sym (append-nil (print_list ps)); good = ok } in
-    rw (says_only (print_list ps) Sound (sound l ps b n)) (lines_printed ps ok)
+    rw (says_only (print_list ps) (Ok tt) (sound l ps b n)) (lines_printed ps ok)
 
 -- two lists of good paths that print the same are the same
 pub print_once : (ps qs : List Path) → All Good ps → All Good qs → print_list ps ≡ print_list qs → ps ≡ qs
 print_once ps qs ok ok' e = sym (lines_printed ps ok) ∙ ap (λ (v : List ℕ). (lines v).all) e ∙ lines_printed qs ok'
 
 -- a sound list prints as its paths, which are good and at most 32
-pub paths_print : (s : List ℕ) → list_answer s ≡ Sound
+pub paths_print : (s : List ℕ) → list_answer s ≡ Ok tt
     → (print_list (list_paths s) ≡ s) × All Good (list_paths s) × (length (list_paths s) ≤ 32)
 unfolding list_paths
 paths_print s e = rw e (go (rw e at (says s)))
   where
-    go : Says s Sound → (print_list (lines s).all ≡ s) × All Good (lines s).all × (length (lines s).all ≤ 32)
+    go : Says s (Ok tt) → (print_list (lines s).all ≡ s) × All Good (lines s).all × (length (lines s).all ≤ 32)
     go (sound l ps b n) =
         let p : print_list ps ≡ s = sym (b.prints ∙ append-nil (print_list ps)) in
         let q : (lines s).all ≡ ps = ap (λ (v : List ℕ). (lines v).all) (sym p) ∙ lines_printed ps b.good in

@@ -1,21 +1,29 @@
 -- What is answered on a list, in the order of document 01, "The path list";
 -- and the numbers of its answers.
-use Rattle.std.specs.Prelude.{◌≡◌, List, [], ◌++◌, ℕ, ◌+◌, ◌≤◌, ◌<◌, length}
+use Rattle.std.specs.Prelude.{◌≡◌, List, [], ◌++◌, ℕ, ◌+◌, ◌≤◌, ◌<◌, length, Result, Ok, Err}
 use Rattle.paths.specs.Path.{Path, print_line, print_list, All, IsPath, Within, Good}
-use Rattle.paths.specs.declared.ListAnswer.{ListAnswer}
-use Rattle.paths.specs.declared.ListAnswer.TheVariants.{Sound, TooLong, Malformed, TooLarge}
+use Rattle.paths.specs.declared.ListError.{ListError}
+use Rattle.paths.specs.declared.ListError.TheVariants.{TooLong, Malformed, TooLarge}
 
-abbrev pub number_of : ListAnswer → ℕ
-number_of Sound = 0
-number_of TooLong = 1
-number_of (Malformed n) = 2
-number_of (TooLarge n) = 3
+-- the numbers of a refusal: its own, and the line at fault
+abbrev pub list_number : ListError → ℕ
+list_number TooLong = 1
+list_number (Malformed n) = 2
+list_number (TooLarge n) = 3
 
-abbrev pub second_of : ListAnswer → ℕ
-second_of Sound = 0
-second_of TooLong = 0
-second_of (Malformed n) = n
-second_of (TooLarge n) = n
+abbrev pub list_second : ListError → ℕ
+list_second TooLong = 0
+list_second (Malformed n) = n
+list_second (TooLarge n) = n
+
+-- those of an answer: 0 and 0 of a sound list
+abbrev pub number_of : Result (Unit {0}) ListError → ℕ
+number_of (Ok u) = 0
+number_of (Err e) = list_number e
+
+abbrev pub second_of : Result (Unit {0}) ListError → ℕ
+second_of (Ok u) = 0
+second_of (Err e) = list_second e
 
 -- no path prints as the line at the front of s
 abbrev pub NoLine : List ℕ → Type 0
@@ -35,11 +43,12 @@ pub record Before (s : List ℕ) (ps : List Path) (t : List ℕ) : Type 0 where
   pub good : All Good ps
 
 -- "the first line with a fault decides, and nothing after it is looked at"; "a line 33 exists if a byte follows the 32nd LF"
-pub data Says (s : List ℕ) : ListAnswer → Type 0 where
-  long : 8192 < length s → Says s TooLong
-  sound : length s ≤ 8192 → (ps : List Path) → Before s ps [] → length ps ≤ 32 → Says s Sound
+pub data Says (s : List ℕ) : Result (Unit {0}) ListError → Type 0 where
+  long : 8192 < length s → Says s (Err TooLong)
+  sound : length s ≤ 8192 → (ps : List Path) → Before s ps [] → length ps ≤ 32 → Says s (Ok tt)
   malformed : length s ≤ 8192 → (ps : List Path) (t : List ℕ) → Before s ps t → length ps < 32 → (t ≡ [] → ⊥) → NoLine t
-      → Says s (Malformed (length ps + 1))
+      → Says s (Err (Malformed (length ps + 1)))
   large : length s ≤ 8192 → (ps : List Path) (t : List ℕ) → Before s ps t → length ps < 32 → LargeLine t
-      → Says s (TooLarge (length ps + 1))
-  past : length s ≤ 8192 → (ps : List Path) (t : List ℕ) → Before s ps t → length ps ≡ 32 → (t ≡ [] → ⊥) → Says s (TooLarge 33)
+      → Says s (Err (TooLarge (length ps + 1)))
+  past : length s ≤ 8192 → (ps : List Path) (t : List ℕ) → Before s ps t → length ps ≡ 32 → (t ≡ [] → ⊥)
+      → Says s (Err (TooLarge 33))

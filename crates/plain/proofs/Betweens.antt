@@ -13,8 +13,7 @@ use Rattle.xml.specs.Notation.{bytes}
 use Rattle.xml.specs.Character.{begins}
 use Rattle.utf8.specs.Place.{ends_at}
 use Rattle.chars.specs.Name.{reading_at}
-use Rattle.chars.specs.declared.name.Reading.{Reading}
-use Rattle.chars.specs.declared.name.Reading.TheVariants.{Ends, Fault}
+use Rattle.std.specs.Prelude.{Option, Some, None}
 use Rattle.readers.specs.Read.{expect, seek}
 use Rattle.readers.specs.Plain.{comment_of, section_of}
 use Rattle.readers.specs.Answer.{Answers}
@@ -32,7 +31,7 @@ pub text_add : (d : List ℕ) (at : ℕ) (w : List ℕ) {x : Bool} → x ≡ beg
 text_add d at w e n l h = record { fits = let f = text_fits d at w e n l in omega arith }
 
 module _ (d : List ℕ) (at : ℕ) (first stop last : List ℕ) {x : Bool} (e : x ≡ begins first (drop at d)) where
-  pub between_none : not x ≡ true → Fault ≡ reading_at d at (between_of first stop last (drop at d))
+  pub between_none : not x ≡ true → None ≡ reading_at d at (between_of first stop last (drop at d))
   unfolding between_of
   between_none n =
       answers_reading (then_fault (text_no d at first e (not-true x n)) (λ t. expect last (seek stop t)) refl)
@@ -40,7 +39,7 @@ module _ (d : List ℕ) (at : ℕ) (first stop last : List ℕ) {x : Bool} (e : 
   module _ (n : not x ≡ false) (l : 0 < length first) {i : ℕ}
       (s : i ≡ ends_at d (at + length first) (seek stop (drop (at + length first) d)))
       {y : Bool} (f : y ≡ begins last (drop i d)) where
-    closes : {r : Reading} → Answers d i r (expect last (drop i d)) → r ≡ reading_at d at (between_of first stop last (drop at d))
+    closes : {r : Option ℕ} → Answers d i r (expect last (drop i d)) → r ≡ reading_at d at (between_of first stop last (drop at d))
     unfolding between_of
     closes {r} a =
         let k = at + length first in
@@ -49,15 +48,15 @@ module _ (d : List ℕ) (at : ℕ) (first stop last : List ℕ) {x : Bool} (e : 
         let p = on_from (expect last) z (sought_ahead d k stop s) a in
         answers_reading (then_ends o (λ t. expect last (seek stop t)) refl p)
 
-    pub between_other : not y ≡ true → Fault ≡ reading_at d at (between_of first stop last (drop at d))
+    pub between_other : not y ≡ true → None ≡ reading_at d at (between_of first stop last (drop at d))
     between_other m = closes (text_no d i last f (not-true y m))
 
-    pub between_ends : not y ≡ false → 0 < length last → Ends (i + length last) ≡ reading_at d at (between_of first stop last (drop at d))
+    pub between_ends : not y ≡ false → 0 < length last → Some (i + length last) ≡ reading_at d at (between_of first stop last (drop at d))
     between_ends m h = closes (text_yes d i last f (not-false y m) h)
 
 -- ---- comments and sections
 
-module _ (d : List ℕ) (at : ℕ) {r : Reading} where
+module _ (d : List ℕ) (at : ℕ) {r : Option ℕ} where
   pub comment_between : r ≡ reading_at d at (between_of (bytes "<!--") (bytes "--") (bytes "-->") (drop at d))
       → r ≡ reading_at d at (comment_of (drop at d))
   unfolding between_of comment_of

@@ -15,7 +15,7 @@ use Rattle.utf8.specs.Place.{ends_at}
 use Rattle.utf8.proofs.Place.{drop_step, drop_end}
 use Rattle.blocks.specs.Block.{until}
 use Rattle.chars.specs.Name.{reading_at}
-use Rattle.chars.specs.declared.name.Reading.TheVariants.{Ends, Fault}
+use Rattle.std.specs.Prelude.{Some, None}
 use Rattle.readers.specs.Plain.{is_mark, text_of}
 use Rattle.scans.proofs.Ends.{Reached, reached_next, reached_on}
 use Rattle.scans.proofs.Marks.{until_rest, until_ahead, until_there}
@@ -84,21 +84,21 @@ texting_start d at e =
     }
 
 module _ {d : List ℕ} {at i : ℕ} (v : Texting d at i) where
-  ends : text_of (drop i d) ≡ some (drop i d) → Ends i ≡ reading_at d at (text_of (drop at d))
-  ends e = rw (sym v.same ∙ e) (ap Ends v.reached.place)
+  ends : text_of (drop i d) ≡ some (drop i d) → Some i ≡ reading_at d at (text_of (drop at d))
+  ends e = rw (sym v.same ∙ e) (ap Some v.reached.place)
 
-  pub texting_over : length d ≤ i → Ends i ≡ reading_at d at (text_of (drop at d))
+  pub texting_over : length d ≤ i → Some i ≡ reading_at d at (text_of (drop at d))
   texting_over h = ends (text_over_lem d i h)
 
   module _ (h : i < length d) where
-    pub texting_markup : (get_or d i 0 ≡ 0x5D → ⊥) → Ends i ≡ reading_at d at (text_of (drop at d))
+    pub texting_markup : (get_or d i 0 ≡ 0x5D → ⊥) → Some i ≡ reading_at d at (text_of (drop at d))
     texting_markup n = ends (text_markup d i h (v.mark h) n)
 
     module _ (b : get_or d i 0 ≡ 0x5D) {x : Bool} (q : x ≡ begins (bytes "]]>") (drop i d)) where
       bracket : {y : Bool} → x ≡ y → text_of (drop i d) ≡ cond y none (text_of (drop (i + 1) d))
       bracket e = text_bracket d i h b (sym e ∙ q)
 
-      pub texting_fault : x ≡ true → Fault ≡ reading_at d at (text_of (drop at d))
+      pub texting_fault : x ≡ true → None ≡ reading_at d at (text_of (drop at d))
       texting_fault t = rw (sym v.same ∙ bracket t)
 
       pub texting_on : x ≡ false → {j : ℕ} → j ≡ ends_at d (i + 1) (until (is_mark 0x5D) (drop (i + 1) d)) → Texting d at j

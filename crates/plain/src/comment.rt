@@ -5,10 +5,9 @@ ghost use Rattle.chars.specs.Name.{reading_at};
 ghost use Rattle.readers.specs.Plain.{comment_of};
 
 use crate::between::between;
-use chars::name::Reading;
 
-// Where the comment from `at` on ends; a fault where none stands there.
-pub fn comment(doc: &[u8], at: usize) -> Reading
+// Where the comment from `at` on ends, if one stands there.
+pub fn comment(doc: &[u8], at: usize) -> Option<usize>
     ensures { result ≡ reading_at doc.now at (comment_of (drop at doc.now)) }
 {
     between(doc, at, b"<!--", b"--", b"-->")

@@ -1,5 +1,4 @@
--- Laws by part of the crate: ranges, classes; one answer.
+-- Laws of the classes, and one answer.
 -- Those of the allowed characters are in xml/proofs/Borders.
-pub mod Ranges
 pub mod Classes
 pub mod OneAnswer

@@ -1,6 +1,7 @@
 -- The classes of name characters by productions [4] and [4a]; the table of those below U+0300, a bit for each code point and class. Last,
--- ranges as a flat list of numbers, as the code keeps them.
-use Rattle.std.specs.Prelude.{Bool, true, false, cond, ◌&&◌, ◌||◌, List, [], ◌∷◌, ◌++◌, ℕ, zero, suc, ◌+◌, ◌*◌, ◌/◌, ◌%◌, ◌^◌, leb, get_or}
+-- ranges as the code keeps them, a first and a last number each.
+use Rattle.std.specs.Prelude.{Bool, true, false, cond, ◌&&◌, List, [], ◌∷◌, ◌++◌, ℕ, zero, suc, ◌+◌, ◌*◌, ◌/◌, ◌%◌, ◌^◌, leb, get_or}
+use Rattle.std.specs.List.{list_any}
 use Rattle.xml.specs.Productions.{is_name_start, is_name_more, is_name}
 
 -- 2 starts a name, 1 only goes on with one, 0 does neither
@@ -32,7 +33,5 @@ unfoldable pub bit_at : List ℕ → ℕ → ℕ → ℕ
 bit_at t from c = get_or t (from + c / 8) 0 / 2 ^ (c % 8) % 2
 
 -- c lies in one of the ranges, each a first and a last number
-abbrev pub pairs : List ℕ → ℕ → Bool
-pairs [] c = false
-pairs (a ∷ []) c = false
-pairs (a ∷ b ∷ t) c = leb a c && leb c b || pairs t c
+abbrev pub pairs : List (ℕ × ℕ) → ℕ → Bool
+pairs ranges c = list_any (λ r. leb r.0 c && leb c r.1) ranges

@@ -4,26 +4,27 @@
 //     bytes     0 .. 95            96 .. 191
 //               starts a name      goes on with one
 //
-// The table is lent to whatever reads names in a loop: a constant that is indexed is made anew at each call, and a lent table is not.
+// The table is lent to whatever reads names in a loop: a constant that is indexed is made anew at each call, and a lent table is not. The
+// type `Classes` of class.rt holds it.
 ghost use Rattle.std.specs.Prelude.{◌≡◌};
 ghost use Rattle.points.specs.Class.{class_table};
+
+use crate::class::Classes;
 
 // The code points below U+0300, and the bytes of a class that have a bit for each of them.
 pub const CLASSED: usize = 0x300;
 
 pub const CLASS_BYTES: usize = CLASSED / 8;
 
-pub type Classes = [u8; 2 * CLASS_BYTES];
-
-// The table, to be lent.
+// The table, to be lent: what `Classes::new` makes, by the name that the lists of contracts and of theorems have.
 pub fn classes() -> Classes
     ensures { result ≡ class_table }
 {
-    CLASS
+    Classes::new()
 }
 
 // A code point stands beside every eighth byte.
-const CLASS: Classes = [
+pub(crate) const CLASS: [u8; 2 * CLASS_BYTES] = [
     0x00, // U+0000: which start a name
     0x00, 0x00, 0x00, 0x00, 0x00, 0x00, 0x04, 0xFE, // U+0040
     0xFF, 0xFF, 0x87, 0xFE, 0xFF, 0xFF, 0x07, 0x00, // U+0080

@@ -3,7 +3,7 @@
 use mathlib.Core.Path.{◌≡◌, refl, sym, ap, ◌∙◌}
 use mathlib.Core.Bool.{Bool, true, false, cond}
 use mathlib.Core.List.{List}
-use mathlib.Core.Option.{Option, none, some, some-injective, none-ne-some}
+use mathlib.Core.Option.{Option as Maybe, none, some, some-injective, none-ne-some}
 use Prim.Native.Nat.{ℕ, ◌+◌, ◌-◌, ◌≤◌}
 use native.Mathlib.Omega.{arith}
 use borrow.Author.Tests.{leb-true}
@@ -27,8 +27,7 @@ use Rattle.tags.specs.declared.Item.TheVariants.{Declaration, Instruction, Comme
 use Rattle.tags.specs.declared.Item.TheVariants.{TooLarge}
 use Rattle.items.specs.Item.{Kind, declaration, instruction, comment, section, doctype, finish, start, reference, text, nothing}
 use Rattle.references.specs.Say.{saying_at}
-use Rattle.references.specs.declared.reference.Saying.{Saying}
-use Rattle.references.specs.declared.reference.Saying.TheVariants.{Says, Fault as NoReference}
+use Rattle.std.specs.Prelude.{Option, Some, None}
 use Rattle.items.specs.Item.{kind_of, item_by, reference_item, item_of, item_at}
 use Rattle.quick.specs.End.{NamedAt}
 
@@ -41,11 +40,11 @@ record Holds (s n : List ℕ) : Type 0 where
   named : name_of inner ≡ some left
   name_is : n ≡ before inner left
 
-abbrev closing : List ℕ → Piece → Option Tag
+abbrev closing : List ℕ → Piece → Maybe Tag
 closing s p =
     let g = gather 0 p.rest in
     let e = skip g.rest in
-    let tag : Bool → List ℕ → Option Tag
+    let tag : Bool → List ℕ → Maybe Tag
     = λ b u. some (record { name = p.name; attributes = g.names; head = before s e; empty = b; rest = u }) in
     or_else (and_then (expect (bytes ">") e) (tag false)) (and_then (expect (bytes "/>") e) (tag true))
 
@@ -58,7 +57,7 @@ closing-name s p v q = go (expect (bytes ">") e) (expect (bytes "/>") e) q
     made : Bool → List ℕ → Tag
     made b u = record { name = p.name; attributes = (gather 0 p.rest).names; head = before s e; empty = b; rest = u }
 
-    go : (x y : Option (List ℕ)) → or_else (and_then x (λ u. some (made false u))) (and_then y (λ u. some (made true u))) ≡ some v
+    go : (x y : Maybe (List ℕ)) → or_else (and_then x (λ u. some (made false u))) (and_then y (λ u. some (made true u))) ≡ some v
         → v.name ≡ p.name
     go (some u) y z = ap (λ (t : Tag). t.name) (sym (some-injective (made false u) v z))
     go none (some u) z = ap (λ (t : Tag). t.name) (sym (some-injective (made true u) v z))
@@ -68,13 +67,13 @@ tag_holds : (s : List ℕ) (v : Tag) → tag_of s ≡ some v → Holds s v.name
 unfolding tag_of piece_named
 tag_holds s v q = open_at (expect (bytes "<") s) refl q
   where
-    named_at : (t : List ℕ) → expect (bytes "<") s ≡ some t → (o : Option (List ℕ)) → name_of t ≡ o
+    named_at : (t : List ℕ) → expect (bytes "<") s ≡ some t → (o : Maybe (List ℕ)) → name_of t ≡ o
         → and_then (and_then o (λ u. some (record { name = before t u; rest = u }))) (closing s) ≡ some v → Holds s v.name
     named_at t f none e z = absurd (none-ne-some v z)
     named_at t f (some u) e z =
         record { inner = t; left = u; opens = f; named = e; name_is = closing-name s (record { name = before t u; rest = u }) v z }
 
-    open_at : (o : Option (List ℕ)) → expect (bytes "<") s ≡ o → and_then o (λ t. and_then (piece_named t) (closing s)) ≡ some v
+    open_at : (o : Maybe (List ℕ)) → expect (bytes "<") s ≡ o → and_then o (λ t. and_then (piece_named t) (closing s)) ≡ some v
         → Holds s v.name
     open_at none f z = absurd (none-ne-some v z)
     open_at (some t) f z = named_at t f (name_of t) refl z
@@ -135,7 +134,7 @@ module _ (d : List ℕ) (at : ℕ) {n h e : ℕ} {m t : Bool} where
       sized v f true s z = by_tag d at v f s (cc)
       sized v f false s z = let y : ◌≡◌ {A = ℕ} 0 1 = cc in absurd (omega arith)
 
-      go : (o : Option Tag) → tag_of (drop at d) ≡ o → Start n h e m t ≡ start_by d at o → NamedAt d (at + 1) n
+      go : (o : Maybe Tag) → tag_of (drop at d) ≡ o → Start n h e m t ≡ start_by d at o → NamedAt d (at + 1) n
       go none f z = let y : ◌≡◌ {A = ℕ} 0 1 = cc in absurd (omega arith)
       go (some v) f z = sized v f (small_tag v) refl z
 
@@ -147,17 +146,17 @@ module _ (d : List ℕ) (at : ℕ) {n h e : ℕ} {m t : Bool} where
       sized p true z = let y : ◌≡◌ {A = ℕ} 0 1 = cc in omega arith
       sized p false z = let y : ◌≡◌ {A = ℕ} 0 1 = cc in omega arith
 
-      go : (o : Option Piece) → Start n h e m t ≡ finish_by d at o → ⊥
+      go : (o : Maybe Piece) → Start n h e m t ≡ finish_by d at o → ⊥
       go none z = let y : ◌≡◌ {A = ℕ} 0 1 = cc in omega arith
       go (some p) z = sized p (leb (length p.name) 255) z
 
-  no_other : (f : ℕ → Item) → ((i : ℕ) → Start n h e m t ≡ f i → ⊥) → (o : Option (List ℕ)) → Start n h e m t ≡ item_by f d at o → ⊥
+  no_other : (f : ℕ → Item) → ((i : ℕ) → Start n h e m t ≡ f i → ⊥) → (o : Maybe (List ℕ)) → Start n h e m t ≡ item_by f d at o → ⊥
   no_other f l none z = let y : ◌≡◌ {A = ℕ} 0 1 = cc in omega arith
   no_other f l (some u) z = l (ends_at d at u) z
 
-  no_reference : (y : Saying) → Start n h e m t ≡ reference_item y → ⊥
-  no_reference (Says c i) z = let y : ◌≡◌ {A = ℕ} 0 1 = cc in omega arith
-  no_reference NoReference z = let y : ◌≡◌ {A = ℕ} 0 1 = cc in omega arith
+  no_reference : (y : Option (ℕ × ℕ)) → Start n h e m t ≡ reference_item y → ⊥
+  no_reference (Some (c, i)) z = let y : ◌≡◌ {A = ℕ} 0 1 = cc in omega arith
+  no_reference None z = let y : ◌≡◌ {A = ℕ} 0 1 = cc in omega arith
 
   -- only a start tag or an empty tag is a `Start`
   pub start_named : (first : Bool) → Start n h e m t ≡ item_at first d at → NamedAt d (at + 1) n

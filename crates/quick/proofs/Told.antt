@@ -21,7 +21,7 @@ use Rattle.utf8.specs.Place.{ends_at}
 use Rattle.utf8.proofs.Place.{drop_step, stands_ends}
 use Rattle.chars.specs.Name.{name_of, name_at}
 use Rattle.chars.specs.Space.{space_end}
-use Rattle.chars.specs.declared.name.Reading.TheVariants.{Ends}
+use Rattle.std.specs.Prelude.{Some}
 use Rattle.chars.proofs.Meaning.{name_found, name_is}
 use Rattle.readers.proofs.Answers.{byte_yes}
 use Rattle.tags.specs.Kept.{name_from}
@@ -101,7 +101,7 @@ module _ (d : List ℕ) (at x n : ℕ) (h : x + n ≤ length d) (c : closes_here
     ends : (at + 2) + n ≡ ends_at d (at + 2) (drop ((at + 2) + n) d)
     ends = stands_ends (at + 2) (record { rest = refl; inside = omega (arith, room) }) (omega arith)
 
-    name_there : Ends ((at + 2) + n) ≡ name_at d (at + 2)
+    name_there : Some ((at + 2) + n) ≡ name_at d (at + 2)
     unfolding name_at
     name_there = rw (named, ← ends)
 

@@ -3,13 +3,13 @@
 use mathlib.Core.Path.{◌≡◌, refl, ap, ◌∙◌}
 use mathlib.Core.Bool.{cond}
 use mathlib.Core.List.{List, [], ◌∷◌, ◌++◌}
-use mathlib.Core.Option.{Option, none, some}
+use mathlib.Core.Option.{Option as Maybe, none, some}
 use Prim.Native.Nat.{ℕ, zero, suc, ◌-◌, ◌<◌}
 use native.Mathlib.Omega.{arith}
 use lib.ListN.{length, drop, length-append}
 use lib.Seq.{drop_at}
 use Rattle.chars.specs.Name.{reading_at}
-use Rattle.chars.specs.declared.name.Reading.{Reading}
+use Rattle.std.specs.Prelude.{Option}
 use Rattle.readers.specs.Read.{and_then, or_else, expect, passed, given, many}
 use Rattle.readers.specs.Answer.{Answers, ends, faults}
 use Rattle.readers.proofs.Combine.{lit_sound, then_some}
@@ -19,18 +19,18 @@ use Rattle.readers.proofs.Left.{Leaves, end_stands, end_ahead}
 -- ---- what is left is a shorter end
 
 -- what f leaves is an end of what it was given, and shorter
-pub record Shrinks (f : List ℕ → Option (List ℕ)) : Type 0 where
+pub record Shrinks (f : List ℕ → Maybe (List ℕ)) : Type 0 where
   pub front : (s t : List ℕ) → f s ≡ some t → Shorter s t
 
-pub shrinks_length : {f : List ℕ → Option (List ℕ)} → Shrinks f → (s t : List ℕ) → f s ≡ some t → length t < length s
+pub shrinks_length : {f : List ℕ → Maybe (List ℕ)} → Shrinks f → (s t : List ℕ) → f s ≡ some t → length t < length s
 shrinks_length k s t e = shorter_length (k.front s t e)
 
 -- what a function answers whose contract is the reading of f
-pub reading_answers : {f : List ℕ → Option (List ℕ)} → Shrinks f → (d : List ℕ) (at : ℕ) {r : Reading}
+pub reading_answers : {f : List ℕ → Maybe (List ℕ)} → Shrinks f → (d : List ℕ) (at : ℕ) {r : Option ℕ}
     → r ≡ reading_at d at (f (drop at d)) → Answers d at r (f (drop at d))
 reading_answers {f} k d at {r} e = rw e (go (f (drop at d)) refl)
   where
-    go : (o : Option (List ℕ)) → f (drop at d) ≡ o → Answers d at (reading_at d at o) o
+    go : (o : Maybe (List ℕ)) → f (drop at d) ≡ o → Answers d at (reading_at d at o) o
     go none q = faults
     go (some t) q =
         let z = k.front (drop at d) t q in
@@ -39,11 +39,11 @@ reading_answers {f} k d at {r} e = rw e (go (f (drop at d)) refl)
 pub lit_shrinks : (x : ℕ) (w : List ℕ) → Shrinks (expect (x ∷ w))
 lit_shrinks x w = record { front = λ s t e. (x ∷ w, lit_sound (x ∷ w) s t e, omega arith) }
 
-module _ {f g : List ℕ → Option (List ℕ)} (kf : Shrinks f) (kg : Shrinks g) where
+module _ {f g : List ℕ → Maybe (List ℕ)} (kf : Shrinks f) (kg : Shrinks g) where
   pub or_shrinks : Shrinks (λ s. or_else (f s) (g s))
   or_shrinks = record { front = λ s t e. go s t (f s) refl e }
     where
-      go : (s t : List ℕ) (o : Option (List ℕ)) → f s ≡ o → or_else o (g s) ≡ some t → Shorter s t
+      go : (s t : List ℕ) (o : Maybe (List ℕ)) → f s ≡ o → or_else o (g s) ≡ some t → Shorter s t
       go s t none h q = kg.front s t q
       go s t (some m) h q = kf.front s t (h ∙ q)
 
@@ -56,33 +56,33 @@ module _ {f g : List ℕ → Option (List ℕ)} (kf : Shrinks f) (kg : Shrinks g
       }
 
 -- f leaves a shorter end, and g an end of that
-pub lead_shrinks : {f g : List ℕ → Option (List ℕ)} → Shrinks f → Leaves g → Shrinks (λ s. and_then (f s) g)
+pub lead_shrinks : {f g : List ℕ → Maybe (List ℕ)} → Shrinks f → Leaves g → Shrinks (λ s. and_then (f s) g)
 lead_shrinks {f} {g} k n =
     record { front = λ s t e. let (m, a, b) = then_some (f s) g t e in shorter_more (k.front s m a) (n.ends m t b) }
 
-pub after_shrinks : {g : List ℕ → List ℕ} {f : List ℕ → Option (List ℕ)} → ((s : List ℕ) → End s (g s)) → Shrinks f
+pub after_shrinks : {g : List ℕ → List ℕ} {f : List ℕ → Maybe (List ℕ)} → ((s : List ℕ) → End s (g s)) → Shrinks f
     → Shrinks (λ s. f (g s))
 after_shrinks {g} p k = record { front = λ s t e. end_shorter (p s) (k.front (g s) t e) }
 
 -- ---- how it goes on, and where it stops
 
-many_skip : (f : List ℕ → Option (List ℕ)) (k : ℕ) (s : List ℕ) → many f k s ≡ many f 0 (drop k s)
+many_skip : (f : List ℕ → Maybe (List ℕ)) (k : ℕ) (s : List ℕ) → many f k s ≡ many f 0 (drop k s)
 unfolding many
 many_skip f zero [] = refl
 many_skip f (suc k) [] = refl
 many_skip f zero (b ∷ s) = refl
 many_skip f (suc k) (b ∷ s) = many_skip f k s
 
-pub many_stop : (f : List ℕ → Option (List ℕ)) (s : List ℕ) → f s ≡ none → many f 0 s ≡ s
+pub many_stop : (f : List ℕ → Maybe (List ℕ)) (s : List ℕ) → f s ≡ none → many f 0 s ≡ s
 unfolding many
 many_stop f [] e = refl
 many_stop f (b ∷ s) e = rw e
 
-module _ {f : List ℕ → Option (List ℕ)} (k : Shrinks f) where
+module _ {f : List ℕ → Maybe (List ℕ)} (k : Shrinks f) where
   pub shrinks_nil : f [] ≡ none
   shrinks_nil = go (f []) refl
     where
-      go : (o : Option (List ℕ)) → f [] ≡ o → o ≡ none
+      go : (o : Maybe (List ℕ)) → f [] ≡ o → o ≡ none
       go none e = refl
       go (some t) e = absurd (let h : length t < 0 = shrinks_length k [] t e in omega arith)
 
@@ -112,7 +112,7 @@ module _ {f : List ℕ → Option (List ℕ)} (k : Shrinks f) where
     many_from (suc j) (b ∷ s) = many_from j s
     many_from zero (b ∷ s) = go (f (b ∷ s)) refl (λ j. many_from j s)
       where
-        go : (o : Option (List ℕ)) → f (b ∷ s) ≡ o → ((j : ℕ) → Q (drop j s) (many f j s))
+        go : (o : Maybe (List ℕ)) → f (b ∷ s) ≡ o → ((j : ℕ) → Q (drop j s) (many f j s))
             → Q (b ∷ s) (cond (given o) (many f (passed o (length s)) s) (b ∷ s))
         go none e r = stop (b ∷ s) e
         go (some t) e r = step (b ∷ s) t _ e (rw (piece_rest b s t e) at (r (length s - length t)))

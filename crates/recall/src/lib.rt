@@ -42,6 +42,7 @@ impl Known {
     pub const KEPT: usize = 64;
 
     // Of no row: nothing is known yet.
+    #[tactic(auto, unfolding(crate::specs::Known::unknown))]
     pub fn nothing() -> Known
         ensures { result ≡ unknown }
     {
@@ -59,14 +60,11 @@ impl Known {
     pub fn is_of(self, row: usize, parent: MatchState) -> bool
         ensures { result ≡ is_of self row parent }
     {
-        if self.row == row {
-            let before = self.parent;
-            return parent.same(before);
-        }
-        false
+        self.row == row && parent.same(self.parent)
     }
 
     // What is known of an element of this row below this state, made anew.
+    #[tactic(auto, unfolding(crate::specs::Known::known_of))]
     pub fn made(counts: bool, t: &Compiled, row: usize, parent: MatchState) -> Known
         requires { row ≤ 512 }
         ensures { (result ≡ known_of counts t.now row parent) × (result.tests ≤ 512) }

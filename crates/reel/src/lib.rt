@@ -3,7 +3,6 @@
 #![tactic(auto)]
 
 ghost use Rattle.std.specs.Prelude.{◌≡◌, ◌≤◌, length};
-ghost use Rattle.points.specs.Class.{class_table};
 ghost use Rattle.document.specs.Levels.{Names};
 ghost use Rattle.passes.specs.Opens.{Opens};
 ghost use Rattle.tape.specs.Taped.{spot_of};
@@ -12,7 +11,7 @@ ghost use Rattle.reel.specs.Reeling.{Reeling, Stopped};
 use document::place::{end_of, keep};
 use document::{Open, Placement, Why};
 use passes::next_item;
-use points::table::Classes;
+use points::class::Classes;
 use tags::Item;
 use tape::{TAGS, Tape, put};
 
@@ -48,7 +47,7 @@ pub fn items(
     first: bool,
     tape: &mut Tape,
 ) -> Read
-    requires { (table.now ≡ class_table) × (length doc.now ≤ 16777216) × Names doc.now starts.old lens.old opened
+    requires { (length doc.now ≤ 16777216) × Names doc.now starts.old lens.old opened
         × Opens doc.now starts.old lens.old opened.level.0 × (at ≤ length doc.now) × (length tape.old ≡ 20480) }
     ensures reeling { Reeling doc.now (spot_of doc.now starts.old lens.old opened at first)
         starts.new lens.new tape.new result.opened result.at result.first result.items result.tags }
@@ -60,6 +59,7 @@ pub fn items(
     let mut first = first;
     let mut items: usize = 0;
     let mut tags: usize = 0;
+    // Each turn goes on where the item ended, and not each item is a tag, so neither the place nor the tags count turns.
     while tags < TAGS {
         let seen = next_item(table, doc, starts, lens, opened, at, first);
         let next = seen.item;

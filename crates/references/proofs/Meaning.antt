@@ -2,15 +2,14 @@
 -- says it (`..-says`, `..-only`). Then where references and characters end: a reference where the reading of it ends (`reference_ends`).
 use mathlib.Core.Path.{◌≡◌, refl, sym, ap, ◌∙◌}
 use mathlib.Core.List.{List}
-use mathlib.Core.Option.{Option, none, some, none-ne-some}
+use mathlib.Core.Option.{Option as Maybe, none, some, none-ne-some}
 use Prim.Native.Nat.{ℕ}
 use lib.ListN.{drop}
 use Rattle.xml.specs.Sign.{Sign as Origin, literal, referred, Where, Comes}
 use Rattle.utf8.specs.Place.{Stands, ends_at}
 use Rattle.utf8.proofs.Place.{stands_ends}
 use Rattle.chars.specs.Name.{reading_at}
-use Rattle.chars.specs.declared.name.Reading.{Reading}
-use Rattle.chars.specs.declared.name.Reading.TheVariants.{Ends, Fault as NoEnd}
+use Rattle.std.specs.Prelude.{Option, Some, None}
 use Rattle.readers.specs.Value.{Said, reference_of, rest_of, reference_end}
 use Rattle.readers.specs.Sign.{Next, next_of}
 use Rattle.readers.proofs.Left.{Shorter, shorter_end, shorter_place, end_stands, end_ahead}
@@ -19,15 +18,13 @@ use Rattle.readers.proofs.Signs.{comes_next, next_comes, comes_shorter}
 use Rattle.references.specs.Say.{saying_at}
 use Rattle.references.specs.Sign.{sign_of, sign_by, sign_at}
 use Rattle.references.specs.Meaning.{ReferenceSays, NextSays}
-use Rattle.references.specs.declared.reference.Saying.{Saying}
-use Rattle.references.specs.declared.reference.Saying.TheVariants.{Says, Fault}
 use Rattle.references.specs.declared.next.Sign.{Sign}
 use Rattle.references.specs.declared.next.Sign.TheVariants.{Literal, Referred, Nothing}
 
 -- where a reference ends, without what it says
-abbrev pub end_of : Saying → Reading
-end_of (Says c e) = Ends e
-end_of Fault = NoEnd
+abbrev pub end_of : Option (ℕ × ℕ) → Option ℕ
+end_of (Some (c, e)) = Some e
+end_of None = None
 
 module _ (d : List ℕ) (at : ℕ) where
   -- a shorter end stands at its place
@@ -39,26 +36,28 @@ module _ (d : List ℕ) (at : ℕ) where
   pub reference_says : ReferenceSays d at (saying_at d at (reference_of (drop at d)))
   reference_says = go (reference_of (drop at d)) refl
     where
-      go : (o : Option Said) → reference_of (drop at d) ≡ o → ReferenceSays d at (saying_at d at o)
+      go : (o : Maybe Said) → reference_of (drop at d) ≡ o → ReferenceSays d at (saying_at d at o)
       go none q = λ c t x. none-ne-some _ (sym q ∙ refers_said x)
       go (some r) q =
           let x = said_refers q in
           let p = placed (refers_shorter x) in
           (rw p.rest x, end_ahead d at r.rest, p.inside)
 
-  pub reference_only : (r : Saying) → ReferenceSays d at r → r ≡ saying_at d at (reference_of (drop at d))
-  reference_only (Says c e) (x, l, h) =
-      ap (Says c) (stands_ends at (record { rest = refl; inside = h }) l) ∙ ap (saying_at d at) (sym (refers_said x))
-  reference_only Fault n = go (reference_of (drop at d)) refl
+  pub reference_only : (r : Option (ℕ × ℕ)) → ReferenceSays d at r → r ≡ saying_at d at (reference_of (drop at d))
+  reference_only (Some (c, e)) (x, l, h) =
+      ap (λ (e : ℕ). Some (c, e)) (stands_ends at (record { rest = refl; inside = h }) l)
+      ∙ ap (saying_at d at) (sym (refers_said x))
+  reference_only None n = go (reference_of (drop at d)) refl
     where
-      go : (o : Option Said) → reference_of (drop at d) ≡ o → Fault ≡ saying_at d at o
+      go : (o : Maybe Said) → reference_of (drop at d) ≡ o → None ≡ saying_at d at o
       go none q = refl
       go (some r) q = absurd (n r.code r.rest (said_refers q))
 
-  pub reference_ends : {r : Saying} → r ≡ saying_at d at (reference_of (drop at d)) → end_of r ≡ reading_at d at (reference_end (drop at d))
+  pub reference_ends : {r : Option (ℕ × ℕ)} → r ≡ saying_at d at (reference_of (drop at d))
+      → end_of r ≡ reading_at d at (reference_end (drop at d))
   reference_ends e = ap end_of e ∙ go (reference_of (drop at d))
     where
-      go : (o : Option Said) → end_of (saying_at d at o) ≡ reading_at d at (rest_of o)
+      go : (o : Maybe Said) → end_of (saying_at d at o) ≡ reading_at d at (rest_of o)
       go none = refl
       go (some r) = refl
 
@@ -77,7 +76,7 @@ module _ (d : List ℕ) (at : ℕ) where
             let p = placed (comes_shorter w k) in
             (rw p.rest k, end_ahead d at t, p.inside)
 
-        go : (o : Option Next) → next_of w (drop at d) ≡ o → NextSays w d at (sign_by d at o)
+        go : (o : Maybe Next) → next_of w (drop at d) ≡ o → NextSays w d at (sign_by d at o)
         go none q = λ x t k. none-ne-some _ (sym q ∙ comes_next w k)
         go (some n) q = one n.sign n.rest (next_comes w q)
 
@@ -89,6 +88,6 @@ module _ (d : List ℕ) (at : ℕ) where
         ap (Referred c) (stands_ends at (record { rest = refl; inside = h }) l) ∙ ap (sign_by d at) (sym (comes_next w k))
     next_only Nothing n = go (next_of w (drop at d)) refl
       where
-        go : (o : Option Next) → next_of w (drop at d) ≡ o → Nothing ≡ sign_by d at o
+        go : (o : Maybe Next) → next_of w (drop at d) ≡ o → Nothing ≡ sign_by d at o
         go none q = refl
         go (some x) q = absurd (n x.sign x.rest (next_comes w q))

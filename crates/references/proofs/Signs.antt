@@ -3,7 +3,7 @@
 use mathlib.Core.Path.{◌≡◌, refl, sym, ap, ◌∙◌}
 use mathlib.Core.Bool.{Bool, true, false, not, ◌&&◌, ◌||◌, or-true, or-false, false≢true}
 use mathlib.Core.List.{List}
-use mathlib.Core.Option.{Option, none, some}
+use mathlib.Core.Option.{Option as Maybe, none, some}
 use Prim.Native.Nat.{ℕ, ◌+◌}
 use native.Mathlib.Omega.{arith}
 use borrow.Author.Rules.{rules}
@@ -18,8 +18,8 @@ use Rattle.xml.specs.Sign.{Where as Stands, refers_in, plain_in}
 use Rattle.xml.proofs.Character.{character_some}
 use Rattle.utf8.specs.Place.{ends_at}
 use Rattle.utf8.specs.Sequence.{point_at, sequence_at}
-use Rattle.utf8.specs.declared.Sequence.{Sequence}
-use Rattle.utf8.specs.declared.Sequence.TheVariants.{Point, Bad}
+use Rattle.std.proofs.lemmas.Option.{some_pair_parts}
+use Rattle.std.specs.Prelude.{Option, Some, None}
 use Rattle.readers.specs.Plain.{is_mark}
 use Rattle.readers.specs.Value.{Said, reference_of}
 use Rattle.readers.specs.Sign.{closed, by_reference, by_itself, next_of}
@@ -27,8 +27,6 @@ use Rattle.references.specs.Say.{saying_at}
 use Rattle.references.specs.Sign.{where_of, sign_by, sign_at, itself_at}
 use Rattle.references.specs.declared.next.Where.{Where}
 use Rattle.references.specs.declared.next.Where.TheVariants.{Text, Section, Double, Single}
-use Rattle.references.specs.declared.reference.Saying.{Saying}
-use Rattle.references.specs.declared.reference.Saying.TheVariants.{Says, Fault}
 use Rattle.references.specs.declared.next.Sign.{Sign}
 use Rattle.references.specs.declared.next.Sign.TheVariants.{Literal, Referred, Nothing}
 
@@ -141,20 +139,20 @@ module _ (w : Stands) (d : List ℕ) (at : ℕ) {b : Bool} (e : b ≡ closed w (
   unfolding itself_at
   itself_closed t = go (character (drop at d))
     where
-      go : (o : Option ℕ) → Nothing ≡ sign_by d at (by_itself w (drop at d) o)
+      go : (o : Maybe ℕ) → Nothing ≡ sign_by d at (by_itself w (drop at d) o)
       go none = refl
       go (some c) = rw (sym e ∙ t, sym (and_not (plain_in w c))) refl
 
-  module _ (t : b ≡ false) {r : Sequence} (q : r ≡ sequence_at d at) where
-    pub itself_bad : r ≡ Bad → Nothing ≡ itself_at w d at
+  module _ (t : b ≡ false) {r : Option (ℕ × ℕ)} (q : r ≡ sequence_at d at) where
+    pub itself_bad : r ≡ None → Nothing ≡ itself_at w d at
     unfolding itself_at sequence_at
     itself_bad z = go (character (drop at d)) (sym z ∙ q)
       where
-        go : (o : Option ℕ) → Bad ≡ point_at at o → Nothing ≡ sign_by d at (by_itself w (drop at d) o)
+        go : (o : Maybe ℕ) → None ≡ point_at at o → Nothing ≡ sign_by d at (by_itself w (drop at d) o)
         go none x = refl
         go (some y) x = absurd (false≢true cc)
 
-    module _ {c i : ℕ} (z : r ≡ Point c i) {p : Bool} (h : p ≡ plain_in w c) where
+    module _ {c i : ℕ} (z : r ≡ Some (c, i)) {p : Bool} (h : p ≡ plain_in w c) where
       pub itself_plain : p ≡ true → Literal c i ≡ itself_at w d at
       unfolding itself_at sequence_at ends_at
       itself_plain y = go (character (drop at d)) refl (sym z ∙ q)
@@ -164,20 +162,20 @@ module _ (w : Stands) (d : List ℕ) (at : ℕ) {b : Bool} (e : b ≡ closed w (
               let k = ap length (character_some (drop at d) x f).1 ∙ length-append (utf8 x) (drop (length (utf8 x)) (drop at d)) in
               omega (arith, length-drop (length (utf8 x)) (drop at d))
 
-          go : (o : Option ℕ) → character (drop at d) ≡ o → Point c i ≡ point_at at o
+          go : (o : Maybe ℕ) → character (drop at d) ≡ o → Some (c, i) ≡ point_at at o
               → Literal c i ≡ sign_by d at (by_itself w (drop at d) o)
           go none f x = absurd (false≢true cc)
           go (some v) f x =
-              let j : c ≡ v = cc in
-              rw (← j, sym h ∙ y, sym e ∙ t) (ap (Literal c) (let k : i ≡ at + length (utf8 v) = cc in k ∙ width v f ∙ rw j refl))
+              let (j, k) = some_pair_parts _ _ _ _ x in
+              rw (← j, sym h ∙ y, sym e ∙ t) (ap (Literal c) (k ∙ width v f ∙ rw j refl))
 
       pub itself_other : p ≡ false → Nothing ≡ itself_at w d at
       unfolding itself_at sequence_at
       itself_other y = go (character (drop at d)) (sym z ∙ q)
         where
-          go : (o : Option ℕ) → Point c i ≡ point_at at o → Nothing ≡ sign_by d at (by_itself w (drop at d) o)
+          go : (o : Maybe ℕ) → Some (c, i) ≡ point_at at o → Nothing ≡ sign_by d at (by_itself w (drop at d) o)
           go none x = absurd (false≢true cc)
-          go (some v) x = let j : c ≡ v = cc in rw (← j, sym h ∙ y) refl
+          go (some v) x = let (j, k) = some_pair_parts _ _ _ _ x in rw (← j, sym h ∙ y) refl
 
 pub ruleset standing = (itself_closed, itself_bad, itself_plain, itself_other)
 
@@ -188,22 +186,22 @@ module _ (w : Stands) (d : List ℕ) (at : ℕ) {b : Bool} (e : b ≡ refers_in 
   unfolding sign_at next_of itself_at
   next_other t h = rw (sym e ∙ t) h
 
-  module _ (t : b ≡ true) {s : Saying} (q : s ≡ saying_at d at (reference_of (drop at d))) where
+  module _ (t : b ≡ true) {s : Option (ℕ × ℕ)} (q : s ≡ saying_at d at (reference_of (drop at d))) where
     by_amp : sign_by d at (by_reference (reference_of (drop at d))) ≡ sign_at w d at
     unfolding sign_at next_of
     by_amp = rw (sym e ∙ t) refl
 
-    pub next_referred : {c i : ℕ} → s ≡ Says c i → Referred c i ≡ sign_at w d at
+    pub next_referred : {c i : ℕ} → s ≡ Some (c, i) → Referred c i ≡ sign_at w d at
     next_referred {c} {i} z = go (reference_of (drop at d)) (sym z ∙ q) ∙ by_amp
       where
-        go : (o : Option Said) → Says c i ≡ saying_at d at o → Referred c i ≡ sign_by d at (by_reference o)
+        go : (o : Maybe Said) → Some (c, i) ≡ saying_at d at o → Referred c i ≡ sign_by d at (by_reference o)
         go none x = absurd (false≢true cc)
-        go (some v) x = cc
+        go (some v) x = let (j, k) = some_pair_parts _ _ _ _ x in cc
 
-    pub next_silent : s ≡ Fault → Nothing ≡ sign_at w d at
+    pub next_silent : s ≡ None → Nothing ≡ sign_at w d at
     next_silent z = go (reference_of (drop at d)) (sym z ∙ q) ∙ by_amp
       where
-        go : (o : Option Said) → Fault ≡ saying_at d at o → Nothing ≡ sign_by d at (by_reference o)
+        go : (o : Maybe Said) → None ≡ saying_at d at o → Nothing ≡ sign_by d at (by_reference o)
         go none x = refl
         go (some v) x = absurd (false≢true cc)
 

@@ -9,10 +9,10 @@ ghost use Rattle.readers.specs.Plain.{is_mark};
 ghost use Rattle.readers.specs.Sign.{closed};
 ghost use Rattle.references.specs.Sign.{where_of, itself_at, sign_at};
 
-use crate::reference::{Saying, reference};
+use crate::reference::reference;
 use chars::text::stands;
 use points::allowed::is_char;
-use utf8::{Sequence, sequence_at};
+use utf8::sequence_at;
 
 // Where characters stand: in text, between tags and the like; in a CDATA section; in a value in double quotes or in single ones.
 #[derive(Clone, Copy)]
@@ -91,13 +91,13 @@ fn itself(doc: &[u8], at: usize, place: Where) -> Sign
         return Sign::Nothing;
     }
     match sequence_at(doc, at) {
-        Sequence::Point(c, e) => {
+        Some((c, e)) => {
             if plain(place, c) {
                 return Sign::Literal(c, e);
             }
             Sign::Nothing
         }
-        Sequence::Bad => Sign::Nothing,
+        None => Sign::Nothing,
     }
 }
 
@@ -107,8 +107,8 @@ pub fn next(doc: &[u8], at: usize, place: Where) -> Sign
 {
     if amp(doc, at, place) {
         return match reference(doc, at) {
-            Saying::Says(c, e) => Sign::Referred(c, e),
-            Saying::Fault => Sign::Nothing,
+            Some((c, e)) => Sign::Referred(c, e),
+            None => Sign::Nothing,
         };
     }
     itself(doc, at, place)

@@ -9,18 +9,20 @@ use borrow.Author.Tests.{lt-ltb, le-ltb, eq-eqb, ne_eqb, ltb-false}
 use lib.Dec.{ltb}
 use lib.ListN.{length, take, drop}
 use lib.Seq.{take_at}
+use Rattle.std.specs.Prelude.{Result, Ok, Err, ⊤}
 use Rattle.xml.specs.Notation.{bytes}
 use Rattle.paths.specs.Judge.{list_answer}
-use Rattle.paths.specs.declared.ListAnswer.{ListAnswer}
-use Rattle.paths.specs.declared.ListAnswer.TheVariants as list
+use Rattle.paths.specs.declared.ListError.{ListError}
+use Rattle.paths.specs.declared.ListError.TheVariants as list
 use Rattle.document.specs.Judge.{judge_of}
 use Rattle.document.specs.declared.Why.TheVariants as why
-use Rattle.document.specs.declared.judge.Judged.{Judged}
-use Rattle.document.specs.declared.judge.Judged.TheVariants as document
+use Rattle.document.specs.declared.DocumentError.{DocumentError}
+use Rattle.document.specs.declared.DocumentError.TheVariants as document
 use Rattle.trees.specs.Written.{cut_of, count_of, tests_of}
 use Rattle.cutter.specs.Answer.{by_list, by_document, by_room, answer_of, after, bytes_after, number_of, second_of, third_of}
-use Rattle.cutter.specs.declared.Answer.{Answer}
-use Rattle.cutter.specs.declared.Answer.TheVariants.{Written, Short}
+use Rattle.cutter.specs.declared.answer.Cut.{Cut}
+use Rattle.refusals.specs.declared.CutError.{CutError}
+use Rattle.refusals.specs.declared.CutError.TheVariants as errors
 use Rattle.exported.specs.Numbers.{numbers_of}
 use Rattle.exported.specs.declared.FourNumbers.{FourNumbers}
 use Rattle.writer.specs.Wrote.{Wrote}
@@ -62,30 +64,31 @@ pub ruleset keeping = (wrote_kept, kept_short)
 -- ---- the cut in the room
 
 -- under 0 the second number is the cut's length, there is room for it, and it stands at the front
-abbrev Stands : List ℕ → List ℕ → Answer → Type 0
+abbrev Stands : List ℕ → List ℕ → Result Cut CutError → Type 0
 Stands w o a = number_of a ≡ 0 → (second_of a ≡ length w) × (length w ≤ length o) × (after a w o ≡ w ++ drop (length w) o)
 
 room_stands : (w o : List ℕ) (c t : ℕ) → Stands w o (by_room (length o) w c t)
 room_stands w o c t = go (ltb (length o) (length w)) refl
   where
-    go : (x : Bool) → ltb (length o) (length w) ≡ x → Stands w o (cond x (Short (length w)) (Written (length w) c t))
+    go : (x : Bool) → ltb (length o) (length w) ≡ x
+        → Stands w o (cond x (Err (errors.Short (length w))) (Ok (record { length = length w; selected = c; tests = t })))
     go true e h = absurd (omega arith)
     go false e h = (refl, ltb-false (length o) (length w) e, refl)
 
-document_stands : (w o : List ℕ) (j : Judged) (a : Answer) → Stands w o a → Stands w o (by_document j a)
-document_stands w o document.Sound a h = h
-document_stands w o document.TooLong a h = λ z. absurd (omega arith)
-document_stands w o (document.OtherEncoding k) a h = λ z. absurd (omega arith)
-document_stands w o (document.NotChar k) a h = λ z. absurd (omega arith)
-document_stands w o (document.AtFault why.Doctype k) a h = λ z. absurd (omega arith)
-document_stands w o (document.AtFault why.Malformed k) a h = λ z. absurd (omega arith)
-document_stands w o (document.AtFault why.TooLarge k) a h = λ z. absurd (omega arith)
+document_stands : (w o : List ℕ) (j : Result ⊤ DocumentError) (a : Result Cut CutError) → Stands w o a → Stands w o (by_document j a)
+document_stands w o (Ok _) a h = h
+document_stands w o (Err document.TooLong) a h = λ z. absurd (omega arith)
+document_stands w o (Err (document.OtherEncoding k)) a h = λ z. absurd (omega arith)
+document_stands w o (Err (document.NotChar k)) a h = λ z. absurd (omega arith)
+document_stands w o (Err (document.At why.Doctype k)) a h = λ z. absurd (omega arith)
+document_stands w o (Err (document.At why.Malformed k)) a h = λ z. absurd (omega arith)
+document_stands w o (Err (document.At why.TooLarge k)) a h = λ z. absurd (omega arith)
 
-list_stands : (w o : List ℕ) (l : ListAnswer) (a : Answer) → Stands w o a → Stands w o (by_list l a)
-list_stands w o list.Sound a h = h
-list_stands w o list.TooLong a h = λ z. absurd (omega arith)
-list_stands w o (list.Malformed n) a h = λ z. absurd (omega arith)
-list_stands w o (list.TooLarge n) a h = λ z. absurd (omega arith)
+list_stands : (w o : List ℕ) (l : Result ⊤ ListError) (a : Result Cut CutError) → Stands w o a → Stands w o (by_list l a)
+list_stands w o (Ok _) a h = h
+list_stands w o (Err list.TooLong) a h = λ z. absurd (omega arith)
+list_stands w o (Err (list.Malformed n)) a h = λ z. absurd (omega arith)
+list_stands w o (Err (list.TooLarge n)) a h = λ z. absurd (omega arith)
 
 answer_stands : (list d o : List ℕ) → Stands (cut_of list d) o (answer_of list d (length o))
 unfolding answer_of

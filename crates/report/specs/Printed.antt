@@ -1,9 +1,10 @@
 -- All that the program `cut` prints, for a list and a standard input. Document 01's sentences stand beside what they say.
-use Rattle.std.specs.Prelude.{cond, List, [], ◌∷◌, ◌++◌, ℕ, ltb, eqb, length}
+use Rattle.std.specs.Prelude.{cond, List, [], ◌∷◌, ◌++◌, ℕ, ltb, eqb, length, Result}
 use Rattle.xml.specs.Notation.{bytes}
 use Rattle.trees.specs.Written.{cut_of}
 use Rattle.cutter.specs.Answer.{answer_of, number_of, second_of, third_of}
-use Rattle.cutter.specs.declared.Answer.{Answer}
+use Rattle.cutter.specs.declared.answer.Cut.{Cut}
+use Rattle.refusals.specs.declared.CutError.{CutError}
 use Rattle.report.specs.Decimal.{decimal}
 
 -- a space and a number
@@ -26,7 +27,7 @@ abbrev pub refused_of : ℕ → ℕ → List ℕ
 refused_of number second = line_of (bytes "refused") number second
 
 -- the cut is kept under 0
-abbrev pub told_of : Answer → List ℕ → List ℕ
+abbrev pub told_of : Result Cut CutError → List ℕ → List ℕ
 told_of a cut = cond (eqb (number_of a) 0) (kept_of (third_of a) cut) (refused_of (number_of a) (second_of a))
 
 -- "the document from standard input, at most 32,768 bytes (else it prints `too long` and LF and nothing more, for every list). Its output

@@ -12,14 +12,14 @@ ghost use Rattle.report.specs.Decimal.{decimal as decimal_of};
 ghost use Rattle.report.specs.Printed.{spaced as spaced_of, line_of, kept_of, printed};
 
 use exported::choughbell_cut;
-use paths::ListAnswer;
+use paths::PathList;
 use writer::{copy, put};
 
 // The most bytes of a document.
 const DOCUMENT: usize = 32768;
 
 // What is read of a list and of the standard input: one byte more than they may have.
-pub const LIST: usize = ListAnswer::BYTES + 1;
+pub const LIST: usize = PathList::BYTES + 1;
 
 pub const INPUT: usize = DOCUMENT + 1;
 
@@ -29,7 +29,7 @@ const ROOM: usize = 65536;
 // Bytes enough for all that is printed: a cut that fills the room, with a word and two numbers of at most 20 digits.
 pub const PRINTED: usize = 65600;
 
-// Lays a number in decimal at a place, and gives the place after it.
+// Lays a number in decimal at a place, and gives the place after it. Its digits are laid one by one: `format!` allocates, and so can fail.
 fn decimal(out: &mut [u8], at: usize, n: u64) -> usize
     requires { at + 20 ≤ 18446744073709551615 }
     ensures { Wrote out.old at (decimal_of n) result out.new }

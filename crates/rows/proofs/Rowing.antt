@@ -6,8 +6,6 @@ use mathlib.Core.List.{List, [], ◌∷◌, ◌++◌}
 use Prim.Native.Nat.{ℕ, zero, suc, ◌+◌, ◌-◌, ◌*◌, ◌≤◌, ◌<◌}
 use native.Mathlib.Numerals.{add-one}
 use native.Mathlib.Omega.{arith}
-use mir.Syntax.{w64}
-use mir.Val.{Fits}
 use lib.ListN.{length, get_or, take, drop, length-drop}
 use lib.Seq.{length-take-le}
 use Rattle.xml.specs.Forest.{Name}
@@ -54,31 +52,8 @@ pub record Joined (d starts lens : List ℕ) (level : ℕ) (o : List ℕ) (to pl
   pub near : place ≤ to + 256 * k
   pub same : length o' ≡ length o
 
-pub joined_start : {d starts lens : List ℕ} {level : ℕ} {o : List ℕ} {to : ℕ} → Joined d starts lens level o to to 0 o
-joined_start = record { laid = wrote_none; upto = omega arith; near = omega arith; same = refl }
-
 module _ {d starts lens : List ℕ} {level : ℕ} {o o₁ : List ℕ} {to place k : ℕ} (p : PlainNames d starts lens level)
     (v : Joined d starts lens level o to place k o₁) where
-  pub joined_deep : k < level → k < 64
-  joined_deep l = omega (arith, p.deep)
-
-  pub joined_fits : length d ≤ 16777216 → k < level → Fits w64 (get_or starts k 0 + get_or lens k 0)
-  joined_fits h l = record { fits = omega (arith, p.inside k l) }
-
-  pub joined_inside : k < level → get_or starts k 0 + get_or lens k 0 ≤ length d
-  joined_inside l = p.inside k l
-
-  pub joined_room : {a : ℕ} → to < 2305843009213693952 → k < level → a ≤ place + 1
-      → a + length (take ((get_or starts k 0 + get_or lens k 0) - get_or starts k 0) (drop (get_or starts k 0) d)) ≤ 18446744073709551615
-  joined_room h l n =
-      let z : (get_or starts k 0 + get_or lens k 0) - get_or starts k 0 ≡ get_or lens k 0 = omega arith in
-      let long : length (take (get_or lens k 0) (drop (get_or starts k 0) d)) ≡ get_or lens k 0 =
-      length-take-le (get_or lens k 0) (drop (get_or starts k 0) d) (omega (arith, length-drop (get_or starts k 0) d, p.inside k l)) in
-      rw z (omega (arith, long, v.near, v.upto, p.deep, p.small k l))
-
-  pub joined_near : to < 2305843009213693952 → place ≤ 2305843009213710336
-  joined_near h = omega (arith, v.near, v.upto, p.deep)
-
   pub joined_step : {o₂ o₃ : List ℕ} {a e r : ℕ} → k < level → Wrote o₁ place (joint k) a o₂ × (a ≤ place + 1)
       → e ≡ get_or starts k 0 + get_or lens k 0 → Wrote o₂ a (take (e - get_or starts k 0) (drop (get_or starts k 0) d)) r o₃
       → Joined d starts lens level o to r (k + 1) o₃
@@ -96,12 +71,6 @@ module _ {d starts lens : List ℕ} {level : ℕ} {o o₁ : List ℕ} {to place 
         near = omega (arith, v.near, y.long, long, p.small k l);
         same = wrote_long y ∙ wrote_long w ∙ v.same;
       }
-
-  pub joined_end : level ≤ k
-      → Wrote o to (path_of (names_of d starts lens level)) place o₁ × (place ≤ to + 16448)
-  joined_end h =
-      let z : k ≡ level = omega (arith, v.upto) in
-      (rw (← z) v.laid, omega (arith, v.near, v.upto, p.deep))
 
 -- ---- it is plain
 
@@ -157,5 +126,3 @@ module _ {d starts lens : List ℕ} {level : ℕ} (p : PlainNames d starts lens 
       → Wrote o to (record_of (names_of d starts lens level) (element_text m d end)) e o₃ × (e ≤ to + 268435456)
   record_bare end f z =
       (rw f (record_laid (names_of d starts lens level) [] path_quiet w.0 x field_none z), omega (arith, w.1, x.long, z.long))
-
-pub ruleset joined = (joined_start, joined_deep, joined_fits, joined_inside, joined_near, joined_step, joined_end)

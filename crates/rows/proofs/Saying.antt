@@ -2,7 +2,7 @@
 use mathlib.Core.Path.{◌≡◌, refl, sym, ◌∙◌}
 use mathlib.Core.Bool.{Bool, true, false, false≢true}
 use mathlib.Core.List.{List, [], ◌∷◌}
-use mathlib.Core.Option.{Option, none, some}
+use mathlib.Core.Option.{Option as Maybe, none, some}
 use mathlib.Core.Logic.{◌⊎◌, inl, inr}
 use Prim.Native.Nat.{ℕ, ◌+◌, ◌-◌, ◌*◌, ◌≤◌, ◌<◌}
 use native.Mathlib.Omega.{arith}
@@ -15,8 +15,8 @@ use Rattle.xml.proofs.Utf8.{scalar_cases}
 use Rattle.readers.specs.Value.{Said, reference_of}
 use Rattle.readers.proofs.Reference.{said_refers, refers_scalar}
 use Rattle.references.specs.Say.{saying_at}
-use Rattle.references.specs.declared.reference.Saying.{Saying}
-use Rattle.references.specs.declared.reference.Saying.TheVariants.{Says, Fault}
+use Rattle.std.specs.Prelude.{Option, Some, None}
+use Rattle.std.proofs.lemmas.Option.{some_pair_parts}
 use Rattle.rows.specs.Text.{lines_from, lines, content, said_by, said_of}
 use Rattle.rows.specs.Laid.{Lays}
 use Rattle.rows.specs.declared.field.Laid.{Laid}
@@ -50,33 +50,33 @@ code_small raw {r} e = go (scalar_cases r.code (refers_scalar (said_refers e)))
     go (inl h) = omega arith
     go (inr (l, h)) = h
 
-module _ (raw : List ℕ) {s : Saying} (e : s ≡ saying_at raw 0 (reference_of raw)) where
-  pub says_small : {c i : ℕ} → s ≡ Says c i → c < 0x110000
+module _ (raw : List ℕ) {s : Option (ℕ × ℕ)} (e : s ≡ saying_at raw 0 (reference_of raw)) where
+  pub says_small : {c i : ℕ} → s ≡ Some (c, i) → c < 0x110000
   says_small {c} {i} z = go (reference_of raw) refl (sym z ∙ e)
     where
-      go : (x : Option Said) → reference_of raw ≡ x → Says c i ≡ saying_at raw 0 x → c < 0x110000
+      go : (x : Maybe Said) → reference_of raw ≡ x → Some (c, i) ≡ saying_at raw 0 x → c < 0x110000
       go none p y = absurd (false≢true cc)
-      go (some r) p y = let w : c ≡ r.code = cc in rw w (code_small raw p)
+      go (some r) p y = let (w, _) = some_pair_parts _ _ _ _ y in rw w (code_small raw p)
 
-  says_char : {c i : ℕ} → s ≡ Says c i → said_by (reference_of raw) ≡ utf8 c
+  says_char : {c i : ℕ} → s ≡ Some (c, i) → said_by (reference_of raw) ≡ utf8 c
   says_char {c} {i} z = go (reference_of raw) (sym z ∙ e)
     where
-      go : (x : Option Said) → Says c i ≡ saying_at raw 0 x → said_by x ≡ utf8 c
+      go : (x : Maybe Said) → Some (c, i) ≡ saying_at raw 0 x → said_by x ≡ utf8 c
       go none y = absurd (false≢true cc)
-      go (some r) y = let w : c ≡ r.code = cc in rw w
+      go (some r) y = let (w, _) = some_pair_parts _ _ _ _ y in rw w
 
-  says_none : s ≡ Fault → said_by (reference_of raw) ≡ []
+  says_none : s ≡ None → said_by (reference_of raw) ≡ []
   says_none z = go (reference_of raw) (sym z ∙ e)
     where
-      go : (x : Option Said) → Fault ≡ saying_at raw 0 x → said_by x ≡ []
+      go : (x : Maybe Said) → None ≡ saying_at raw 0 x → said_by x ≡ []
       go none y = refl
       go (some r) y = absurd (false≢true cc)
 
-  pub says_laid : {q : Bool} {o o₁ : List ℕ} {to c i : ℕ} {r : Laid} → s ≡ Says c i → Lays q o to (utf8 c) r o₁ × (r.to ≤ to + 8)
+  pub says_laid : {q : Bool} {o o₁ : List ℕ} {to c i : ℕ} {r : Laid} → s ≡ Some (c, i) → Lays q o to (utf8 c) r o₁ × (r.to ≤ to + 8)
       → Lays q o to (said_by (reference_of raw)) r o₁ × (r.to ≤ to + 8)
   says_laid z v = rw (says_char z) v
 
-  pub says_fault : {q : Bool} {o : List ℕ} {to : ℕ} → s ≡ Fault
+  pub says_fault : {q : Bool} {o : List ℕ} {to : ℕ} → s ≡ None
       → Lays q o to (said_by (reference_of raw)) (record { to = to; special = false }) o × (to ≤ to + 8)
   says_fault z = rw (says_none z) (lays_none, omega arith)
 

@@ -3,10 +3,10 @@
 use mathlib.Core.Path.{◌≡◌, refl, sym, ap, ◌∙◌}
 use mathlib.Core.List.{List, [], ◌∷◌, ◌++◌, append_assoc, append-nil}
 use Prim.Native.Nat.{ℕ, suc}
+use Rattle.std.specs.Prelude.{Ok}
 use Rattle.xml.specs.Forest.{Name, Forest, nil, other, elem}
 use Rattle.paths.specs.Judge.{list_paths}
 use Rattle.document.specs.Judge.{scanned}
-use Rattle.document.specs.declared.judge.Judged.TheVariants.{Sound}
 use Rattle.trees.specs.Cut.{Judge, on}
 use Rattle.trees.specs.Grown.{Token, finish, tokens, tokens_of, forest_of}
 use Rattle.trees.specs.Written.{verdicts}
@@ -42,7 +42,7 @@ over_records v (elem t kids close rest) up ts =
     over_records v kids (t.name ∷ up) (finish close ∷ tokens rest ts) ∙ ap (λ (x : List ℕ). below ++ x) (over_records v rest up ts) in
     rw (text, kin) (simp append_assoc)
 
-pub sound_table : (list d : List ℕ) → scanned d ≡ Sound
+pub sound_table : (list d : List ℕ) → scanned d ≡ Ok tt
     → header ++ records_over (verdicts (list_paths list)) (tokens_of d) [] ≡ table_of list d
 unfolding table_of
 sound_table list d h =

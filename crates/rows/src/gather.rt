@@ -1,7 +1,6 @@
 // The text directly in an element, gathered from behind its start tag to its end: "text, references and CDATA whose innermost open element
 // it is". It may go on behind elements inside it, which are passed over by counting how deep they go.
 ghost use Rattle.std.specs.Prelude.{◌≡◌, ◌+◌, ◌≤◌, ◌<◌, length};
-ghost use Rattle.points.specs.Class.{class_table};
 ghost use Rattle.writer.specs.Wrote.{Wrote};
 ghost use Rattle.rows.specs.Field.{field};
 ghost use Rattle.rows.specs.Tokens.{text_from};
@@ -11,7 +10,7 @@ use crate::field::{Laid, quote};
 use crate::said::lay_said;
 use document::place::end_of;
 use items::told::item;
-use points::table::Classes;
+use points::class::Classes;
 use tags::Item;
 
 // What an item is to a text that is gathered: a start tag; an end tag; an empty tag; any other item; or none, which ends it too.
@@ -62,7 +61,7 @@ fn part_of(item: Item) -> Part
 
 // From a place behind an element's start tag on, in any document: where no item is left, or one is broken, the text ends too.
 fn lay_text(table: &Classes, doc: &[u8], at: usize, quoted: bool, out: &mut [u8], to: usize) -> Laid
-    requires { (table.now ≡ class_table) × (length doc.now ≤ 16777216) × (at ≤ length doc.now) × (to < 4611686018427387904) }
+    requires { (length doc.now ≤ 16777216) × (at ≤ length doc.now) × (to < 4611686018427387904) }
     ensures lays { Lays quoted out.old to (text_from 0 doc.now at) result out.new }
     ensures to_bound { result.to ≤ to + 134217728 }
 {
@@ -70,6 +69,7 @@ fn lay_text(table: &Classes, doc: &[u8], at: usize, quoted: bool, out: &mut [u8]
     let mut depth: usize = 0;
     let mut place = to;
     let mut special = false;
+    // Each turn goes on where the item ended, so the place is no count.
     loop {
         let next = item(table, doc, i, false);
         let end = end_of(i, next);
@@ -108,7 +108,7 @@ fn lay_text(table: &Classes, doc: &[u8], at: usize, quoted: bool, out: &mut [u8]
 
 // The field of that text.
 pub fn lay_field(table: &Classes, doc: &[u8], at: usize, out: &mut [u8], to: usize) -> usize
-    requires { (table.now ≡ class_table) × (length doc.now ≤ 16777216) × (at ≤ length doc.now) × (to < 2305843009213693952) }
+    requires { (length doc.now ≤ 16777216) × (at ≤ length doc.now) × (to < 2305843009213693952) }
     ensures wrote { Wrote out.old to (field (text_from 0 doc.now at)) result out.new }
     ensures upper_bound { result ≤ to + 134217730 }
 {

@@ -1,6 +1,5 @@
 // A record, and the header: "The first field is the names from the root joined by `/`. The second is the text directly in the element."
-ghost use Rattle.std.specs.Prelude.{◌≡◌, [], ◌∷◌, ◌+◌, ◌≤◌, ◌<◌, length};
-ghost use Rattle.points.specs.Class.{class_table};
+ghost use Rattle.std.specs.Prelude.{[], ◌∷◌, ◌+◌, ◌≤◌, ◌<◌, length};
 ghost use Rattle.document.specs.Levels.{names_of};
 ghost use Rattle.writer.specs.Wrote.{Wrote};
 ghost use Rattle.rows.specs.Field.{path_of, record_of, header as header_of};
@@ -8,7 +7,7 @@ ghost use Rattle.rows.specs.Laid.{joint, PlainNames, element_text};
 
 use crate::gather::lay_field;
 use document::Open;
-use points::table::Classes;
+use points::class::Classes;
 use writer::{copy, put};
 
 // What joins a name to those of the k levels above it.
@@ -38,13 +37,11 @@ fn lay_path(
     ensures upper_bound { result ≤ to + 16448 }
 {
     let mut place = to;
-    let mut k: usize = 0;
-    while k < level {
+    for k in 0..level {
         let from = lay_joint(k, out, place);
         let a = starts[k];
         let e = a + lens[k];
         place = copy(out, from, &doc[a..e]);
-        k += 1;
     }
     place
 }
@@ -70,8 +67,8 @@ pub fn lay_record(
     out: &mut [u8],
     to: usize,
 ) -> usize
-    requires { (table.now ≡ class_table) × (length doc.now ≤ 16777216) × (end ≤ length doc.now)
-        × PlainNames doc.now starts.now lens.now level × (to < 1152921504606846976) }
+    requires { (length doc.now ≤ 16777216) × (end ≤ length doc.now) × PlainNames doc.now starts.now lens.now level
+        × (to < 1152921504606846976) }
     ensures wrote { Wrote out.old to
         (record_of (names_of doc.now starts.now lens.now level)
         (element_text empty doc.now end)) result out.new }

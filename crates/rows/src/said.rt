@@ -8,7 +8,7 @@ ghost use Rattle.rows.specs.Laid.{Lays};
 
 use crate::field::{Laid, lay};
 use chars::text::stands;
-use references::reference::{Saying, reference};
+use references::reference::reference;
 
 // A byte of text, by whether a CR stands before it: CR is made LF, and LF behind CR is no more.
 fn lay_line(after: bool, b: u8, quoted: bool, out: &mut [u8], to: usize) -> Laid
@@ -34,14 +34,11 @@ fn lay_lines(raw: &[u8], quoted: bool, out: &mut [u8], to: usize) -> Laid
     let mut at = to;
     let mut special = false;
     let mut after = false;
-    let mut i: usize = 0;
-    while i < raw.len() {
-        let b = raw[i];
+    for &b in raw {
         let laid = lay_line(after, b, quoted, out, at);
         at = laid.to;
-        special = special | laid.special;
+        special |= laid.special;
         after = b == 0x0D;
-        i += 1;
     }
     Laid { to: at, special }
 }
@@ -108,8 +105,8 @@ fn lay_reference(raw: &[u8], quoted: bool, out: &mut [u8], to: usize) -> Laid
     ensures to_bound { result.to ≤ to + 8 }
 {
     match reference(raw, 0) {
-        Saying::Says(c, _) => lay_char(c, quoted, out, to),
-        Saying::Fault => Laid { to, special: false },
+        Some((c, _)) => lay_char(c, quoted, out, to),
+        None => Laid { to, special: false },
     }
 }
 

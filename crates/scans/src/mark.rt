@@ -37,10 +37,8 @@ fn some_mark64(s: &[u8], i: usize, q: u8) -> bool
     ensures { result ≡ some_of (λ k. is_mark q (get_or s.now (i + k) 0)) 64 }
 {
     let mut found = false;
-    let mut j: usize = 0;
-    while j < 64 {
-        found = found | is_mark(s[i + j], q);
-        j += 1;
+    for b in &s[i..i + 64] {
+        found |= is_mark(*b, q);
     }
     found
 }
@@ -50,6 +48,7 @@ fn after_blocks(s: &[u8], from: usize, q: u8) -> usize
     requires { from ≤ length s.now }
     ensures { Skips (is_mark q) s.now from result }
 {
+    // Over `chunks_exact(64)` the place would have to be made of a count of blocks: no plainer.
     let mut i = from;
     while s.len() - i >= 64 {
         if some_mark64(s, i, q) {
@@ -65,14 +64,12 @@ fn mark_tail(s: &[u8], from: usize, q: u8) -> usize
     requires { from ≤ length s.now }
     ensures { result ≡ ends_at s.now from (until (is_mark q) (drop from s.now)) }
 {
-    let mut i = from;
-    while i < s.len() {
+    for i in from..s.len() {
         if is_mark(s[i], q) {
             return i;
         }
-        i += 1;
     }
-    i
+    s.len()
 }
 
 // The first place from `from` on with `<`, `&` or q, or the end; a place past the end is answered itself. A q that is not ASCII, which no
@@ -86,6 +83,7 @@ pub fn to_mark(s: &[u8], from: usize, q: u8) -> usize
     if q >= 0x80 {
         return mark_tail(s, from, q);
     }
+    // Each turn goes on where its scan ended, so the place is no count.
     let mut i = from;
     while s.len() - i >= 16 {
         let n = before16(s, i, q);

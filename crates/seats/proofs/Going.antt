@@ -2,6 +2,7 @@
 -- pass in itself, and it stands behind them. Then a law for the items between two tags, which change nothing, for each way on and for the
 -- way out; a tag that comes back from the tape is the one in the document (proofs/Images.antt), so the laws of a pass (proofs/Passing.antt
 -- of the crate passes) serve for it.
+use Rattle.std.specs.Prelude.{Ok}
 use Rattle.document.proofs.Placing.{Unstarted}
 use mathlib.Core.Path.{◌≡◌, refl, sym, ap, ap₂, subst, ◌∙◌}
 use mathlib.Core.Bool.{Bool, true, false, cond}
@@ -12,7 +13,6 @@ use native.Mathlib.Nat.{eq-or-lt_of_le}
 use native.Mathlib.Omega.{arith}
 use lib.ListN.{length, take, drop, get_or, set, replicate}
 use Rattle.paths.specs.Judge.{list_answer, list_paths}
-use Rattle.paths.specs.declared.ListAnswer.TheVariants.{Sound as SoundList}
 use Rattle.tags.specs.declared.Item.{Item}
 use Rattle.tags.specs.declared.Item.TheVariants.{Start}
 use Rattle.items.specs.Inside.{Inside}
@@ -316,7 +316,7 @@ module _ {counts : Bool} {list tb d t : List ℕ} {items tags : ℕ} {starts₀ 
         pub going_deeper : Placed d starts' lens' (opened.level.0 + 1)
         going_deeper = tag_placed going refl refl going_fine tag es el
 
-        pub going_tag : list_answer list ≡ SoundList → {parent : MatchState} → parent ≡ get_or states opened.level.0 none
+        pub going_tag : list_answer list ≡ Ok tt → {parent : MatchState} → parent ≡ get_or states opened.level.0 none
             → {fit : Fit} → fit ≡ fit_for (list_paths list) (part d (at + 1) (at + 1 + n))
             → {verdict : Verdict}
             → ByTests (list_paths list) (attributes_in 0 (take (b - (at + 1 + n)) (drop (at + 1 + n) d))) parent fit verdict

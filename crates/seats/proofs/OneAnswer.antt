@@ -103,4 +103,4 @@ pub through_one : Alike through.Asked through.Learnt
     e.1.1.1.1.1.1.1.1.1.1.1.1.0.now e.1.1.1.1.1.1.1.1.1.1.1.1.1.0.now
     e'.1.1.1.1.1.1.1.1.1.1.0.now e'.1.1.1.1.1.1.1.1.1.1.1.0.now z'
     e'.1.1.1.1.1.1.1.1.1.1.1.1.0.now e'.1.1.1.1.1.1.1.1.1.1.1.1.1.0.now)
-through_one κs a z z' e e' x p q = through_same a.1.1.1.0 x.4 p q
+through_one κs a z z' e e' x p q = through_same a.1.1.1.0 x.3 p q

@@ -7,6 +7,7 @@ use Prim.Native.Nat.{ℕ, zero, suc, ◌+◌, ◌<◌}
 use native.Mathlib.Nat.{zero-add}
 use native.Mathlib.Omega.{arith}
 use lib.ListN.{length, get_or, replicate, length-replicate}
+use Rattle.std.specs.Prelude.{Ok, Err}
 use Rattle.paths.specs.Path.{Path}
 use Rattle.paths.specs.Judge.{list_paths}
 use Rattle.tags.specs.declared.Item.{Item}
@@ -24,7 +25,6 @@ use Rattle.recall.specs.Known.{unknown}
 use Rattle.recall.specs.declared.Known.{Known}
 use Rattle.output.specs.declared.Run.{Run}
 use Rattle.passes.specs.Passed.{PassedBy}
-use Rattle.passes.specs.declared.Outcome.TheVariants.{Fine as Ended, Fault}
 use Rattle.passes.proofs.States.{none, above}
 use Rattle.passes.proofs.Passing.{Passing, pass_start, pass_fault, pass_over, recalls_none}
 use Rattle.seats.specs.Standing.{Standing}
@@ -127,8 +127,9 @@ module _ {counts : Bool} {list d o₀ starts lens : List ℕ} {s : Seat} {o g : 
       (replicate 64 0) starts lens s.opened s.run s.at s.first s.tests o g
   some_pass = seated_passing v (standing_some (list_paths list) d starts lens s.opened.level.0) refl []
 
-  pub seated_over : p ≡ Over → PassedBy counts list d o₀ (Ended s.run.len s.run.count s.tests s.run.noted) o g
+  pub seated_over : p ≡ Over
+      → PassedBy counts list d o₀ (Ok (record { length = s.run.len; selected = s.run.count; tests = s.tests; noted = s.run.noted })) o g
   seated_over h = pass_over some_pass e q h
 
-  pub seated_fault : (why : Why) → p ≡ Faulty why → PassedBy counts list d o₀ (Fault why s.at) o g
+  pub seated_fault : (why : Why) → p ≡ Faulty why → PassedBy counts list d o₀ (Err (record { why = why; at = s.at })) o g
   seated_fault why h = pass_fault some_pass e q why h

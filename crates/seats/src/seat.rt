@@ -8,7 +8,6 @@
 // The match states by level and what is known of elements (`memo`) are made for each tape anew, so a client keeps none of them: what it
 // writes does not depend on them.
 ghost use Rattle.std.specs.Prelude.{◌≡◌, true, false, ◌≤◌, length};
-ghost use Rattle.points.specs.Class.{class_table};
 ghost use Rattle.matcher.specs.Fit.{Serves};
 ghost use Rattle.seats.specs.Seated.{Begun, seat_spot};
 ghost use Rattle.seats.specs.Went.{Lies, Sits, WentBy, Through};
@@ -21,7 +20,7 @@ use matcher::fit::row_of;
 use output::Run;
 use output::step::{other_step, tag_step};
 use passes::judged;
-use points::table::Classes;
+use points::class::Classes;
 use recall::{Known, slot_of};
 use tags::Item;
 use tape::{Tape, begin_on, tag_on};
@@ -77,7 +76,7 @@ fn all_through(
     log: &mut [u64],
     seat: Seat,
 ) -> Seat
-    requires { (table.now ≡ class_table) × (length doc.now ≤ 16777216) × (length log.old ≤ 16777216) × (tags ≤ 4096)
+    requires { (length doc.now ≤ 16777216) × (length log.old ≤ 16777216) × (tags ≤ 4096)
         × Serves list.now t.now × Begun counts list.now doc.now starts.old lens.old seat out.old log.old
         × Lies doc.now tape.now (seat_spot doc.now starts.old lens.old seat) tags to first }
     ensures { WentBy counts list.now doc.now tape.now starts.old lens.old seat
@@ -94,8 +93,7 @@ fn all_through(
     let nothing = Known::nothing();
     let mut memo = [nothing; Known::KEPT];
     let mut slots = [0usize; Open::LEVELS];
-    let mut k: usize = 0;
-    while k < tags {
+    for k in 0..tags {
         let at = begin_on(tape, k);
         let next = tag_on(tape, k);
         let level = opened.level.0;
@@ -143,7 +141,6 @@ fn all_through(
                 empty,
             );
             opened = opened.after(next);
-            k += 1;
             continue;
         }
         run = other_step(
@@ -158,7 +155,6 @@ fn all_through(
             next,
         );
         opened = opened.after(next);
-        k += 1;
     }
     Seat {
         run,
@@ -187,7 +183,7 @@ pub fn through(
     log: &mut [u64],
     seat: Seat,
 ) -> Seat
-    requires { (table.now ≡ class_table) × (length doc.now ≤ 16777216) × (length log.old ≤ 16777216) × (tags ≤ 4096)
+    requires { (length doc.now ≤ 16777216) × (length log.old ≤ 16777216) × (tags ≤ 4096)
         × Sits live counts list.now t.now doc.now tape.now starts.old lens.old seat out.old log.old tags to first }
     ensures { Through live counts list.now doc.now tape.now starts.old
         lens.old seat out.old log.old tags to first starts.new lens.new result

@@ -30,11 +30,8 @@ pub fn states_of(
 {
     let fresh = MatchState::fresh();
     let mut all = [fresh; Open::LEVELS];
-    let mut k: usize = 0;
-    while k < level {
-        if k + 1 == Open::LEVELS {
-            return States { all };
-        }
+    // no element stands below the deepest level, so there is no state for it
+    for k in 0..level.min(Open::LEVELS - 1) {
         let a = starts[k];
         let n = lens[k];
         let row = row_of(list, t, &doc[a..a + n]);
@@ -42,7 +39,6 @@ pub fn states_of(
         let parent = all[k];
         let below = parent.deeper(fit);
         all[k + 1] = below;
-        k += 1;
     }
     States { all }
 }

@@ -3,10 +3,10 @@ use mathlib.Core.Path.{◌≡◌, sym, ap, ◌∙◌}
 use mathlib.Core.List.{List, [], ◌∷◌}
 use Prim.Native.Nat.{ℕ, ◌+◌}
 use native.Mathlib.Omega.{arith}
+use Rattle.std.specs.Prelude.{Ok}
 use Rattle.xml.specs.Forest.{Name, Forest, nil, other, elem}
 use Rattle.paths.specs.Judge.{list_paths}
 use Rattle.document.specs.Judge.{scanned}
-use Rattle.document.specs.declared.judge.Judged.TheVariants.{Sound}
 use Rattle.trees.specs.Cut.{Judge, on, one, count}
 use Rattle.trees.specs.Grown.{Token, start, finish, aside, tokens, tokens_of, forest_of}
 use Rattle.trees.specs.Engine.{outer}
@@ -29,7 +29,7 @@ over_selected v (elem t kids close rest) up ts =
     let b = over_selected v rest up ts in
     omega arith
 
-pub sound_count : (list d : List ℕ) → scanned d ≡ Sound → selected_over (verdicts (list_paths list)) (tokens_of d) [] ≡ count_of list d
+pub sound_count : (list d : List ℕ) → scanned d ≡ Ok tt → selected_over (verdicts (list_paths list)) (tokens_of d) [] ≡ count_of list d
 unfolding count_of
 sound_count list d e =
     let v = verdicts (list_paths list) in

@@ -6,10 +6,10 @@ use mathlib.Core.List.{List, [], ◌∷◌, ◌++◌}
 use Prim.Native.Nat.{ℕ, zero, suc, ◌+◌, ◌-◌, ◌≤◌, ◌<◌}
 use native.Mathlib.Nat.{zero-add}
 use lib.ListN.{length, take, drop, get_or, set}
+use Rattle.std.specs.Prelude.{Ok}
 use Rattle.xml.specs.Forest.{Name, Tag}
 use Rattle.paths.specs.Path.{Path}
 use Rattle.paths.specs.Judge.{list_answer, list_paths}
-use Rattle.paths.specs.declared.ListAnswer.TheVariants.{Sound}
 use Rattle.tags.specs.Kept.{name_from}
 use Rattle.document.specs.Levels.{names_of, deeper}
 use Rattle.attributes.specs.Attribute.{Attribute}
@@ -45,7 +45,7 @@ by_deeper P true l a c = a
 by_deeper P false l a c = c
 
 -- a tag at a place, whose name has n bytes and whose head ends at b and the tag at f; its parent's state, and the fit of its name
-module _ (list : List ℕ) (sound : list_answer list ≡ Sound) {d starts lens : List ℕ} {states : List MatchState} {level : ℕ}
+module _ (list : List ℕ) (sound : list_answer list ≡ Ok tt) {d starts lens : List ℕ} {states : List MatchState} {level : ℕ}
     (v : Held (list_paths list) states d starts lens level) (l : level < 64) {parent : MatchState} (ep : parent ≡ get_or states level none)
     (at n b f : ℕ) {fit : Fit} (ef : fit ≡ fit_for (list_paths list) (name_from d (at + 1) n)) where
   abbrev ps : List Path

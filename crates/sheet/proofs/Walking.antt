@@ -2,6 +2,7 @@
 -- on. The invariant: the records laid so far and those of the tokens left are the records of all tokens, and the elements counted and those
 -- left are all that are selected; the scan comes to what it comes to from the start; states and names are kept by level, and what is kept
 -- of elements is known of them. The header was laid before: `o₁` is the buffer with it, and `base` the place behind it.
+use Rattle.std.specs.Prelude.{Ok, Err}
 use Rattle.document.proofs.Placing.{Unstarted}
 use mathlib.Core.Path.{◌≡◌, refl, sym, ap, ◌∙◌}
 use mathlib.Core.Bool.{Bool, true, false}
@@ -15,7 +16,6 @@ use lib.ListN.{length, take, drop, get_or, set, length-set, replicate, length-re
 use lib.Seq.{sets}
 use Rattle.xml.specs.Forest.{Name}
 use Rattle.paths.specs.Judge.{list_answer, list_paths}
-use Rattle.paths.specs.declared.ListAnswer.TheVariants.{Sound as SoundList}
 use Rattle.tags.specs.Kept.{name_from}
 use Rattle.tags.specs.declared.Item.{Item}
 use Rattle.tags.specs.declared.Item.TheVariants.{Declaration, Instruction, Comment, Section, Reference, Text, Start, Finish}
@@ -29,7 +29,6 @@ use Rattle.document.specs.declared.Open.{Open}
 use Rattle.document.specs.declared.Placement.{Placement}
 use Rattle.document.specs.declared.Placement.TheVariants.{Fine, Fault as Faulty, Over}
 use Rattle.document.specs.declared.Why.{Why}
-use Rattle.document.specs.declared.judge.Judged.TheVariants.{Sound}
 use Rattle.document.proofs.After.{start_room, opened_after}
 use Rattle.document.proofs.Judging.{Judging, judge_start, judge_fault, judge_over, fine_ahead, scan_inside, scan_less, scan_on}
 use Rattle.attributes.specs.Held.{attributes_in}
@@ -60,7 +59,6 @@ use Rattle.rows.proofs.Plain.{plain_names}
 use Rattle.rows.proofs.Tokens.{sound_table}
 use Rattle.sheet.specs.Passed.{Started, Passed}
 use Rattle.sheet.specs.declared.Run.{Run}
-use Rattle.sheet.specs.declared.Outcome.TheVariants.{Fine as Ended, Fault}
 use Rattle.sheet.proofs.Counts.{sound_count}
 use Rattle.sheet.proofs.Rests.{Rest, rest_start, rest_over, count_over, rest_tag, rest_other}
 use Rattle.sheet.proofs.Verdicts.{by_deeper}
@@ -212,10 +210,11 @@ module _ {list tb d o₁ : List ℕ} {base : ℕ} {states : List MatchState} {me
     {p : Placement} (q : p ≡ placement d at i (opened_of d starts lens opened)) where
   -- ---- out
 
-  pub walk_fault : (o₀ : List ℕ) (why : Why) → p ≡ Faulty why → Passed list d o₀ (Fault why at) o
+  pub walk_fault : (o₀ : List ℕ) (why : Why) → p ≡ Faulty why → Passed list d o₀ (Err (record { why = why; at = at })) o
   walk_fault o₀ why h = record { judged = judge_fault v.judging e q why h; told = tt }
 
-  pub walk_over : {o₀ : List ℕ} → Wrote o₀ 0 header base o₁ → p ≡ Over → Passed list d o₀ (Ended run.to run.count) o
+  pub walk_over : {o₀ : List ℕ} → Wrote o₀ 0 header base o₁ → p ≡ Over
+      → Passed list d o₀ (Ok (record { length = run.to; selected = run.count })) o
   walk_over {o₀} w h =
       record {
         judged = sound;
@@ -226,7 +225,7 @@ module _ {list tb d o₁ : List ℕ} {base : ℕ} {states : List MatchState} {me
         );
       }
     where
-      sound : Sound ≡ scanned d
+      sound : Ok tt ≡ scanned d
       sound = judge_over v.judging e q h
 
       whole : Wrote o₀ 0 (header ++ v.done) run.to o
@@ -295,7 +294,7 @@ module _ {list tb d o₁ : List ℕ} {base : ℕ} {states : List MatchState} {me
           less = rw eo (no_more i k)
 
       -- a start tag or empty tag
-      module _ {n b f : ℕ} {m t : Bool} (s : i ≡ Start n b f m t) (sound : list_answer list ≡ SoundList)
+      module _ {n b f : ℕ} {m t : Bool} (s : i ≡ Start n b f m t) (sound : list_answer list ≡ Ok tt)
           {parent : MatchState} (ep : parent ≡ get_or states opened.level.0 none)
           {fit : Fit} (ef : fit ≡ fit_for (list_paths list) (part d (at + 1) (at + 1 + n))) where
         pub fit_is : fit ≡ fit_for (list_paths list) (name_from d (at + 1) n)

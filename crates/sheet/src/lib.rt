@@ -12,60 +12,40 @@
 // length is counted in 64 bits.
 #![tactic(auto)]
 
-ghost use Rattle.std.specs.Prelude.{◌≡◌, false, ◌+◌, ◌≤◌, ◌<◌, length, drop};
-ghost use Rattle.points.specs.Class.{class_table};
+ghost use Rattle.std.specs.Prelude.{◌≡◌, false, ◌+◌, ◌≤◌, ◌<◌, length, drop, Ok};
 ghost use Rattle.chars.specs.Check.{check_of};
-ghost use Rattle.chars.specs.declared.whole.Checked.TheVariants.{All};
 ghost use Rattle.readers.specs.Named.{other_encoding};
 ghost use Rattle.document.specs.Judge.{start_of};
 ghost use Rattle.document.specs.Levels.{names_of};
 ghost use Rattle.matcher.specs.Fit.{Serves};
 ghost use Rattle.trees.specs.Cut.{is_selected};
 ghost use Rattle.rows.specs.Laid.{PlainNames, element_text};
-ghost use Rattle.sheet.specs.Answer.{fault_of, answer_by, bytes_by, answer_of, bytes_after};
+ghost use Rattle.sheet.specs.Answer.{answer_by, bytes_by, answer_of, bytes_after};
 ghost use Rattle.sheet.specs.Passed.{Started, Passed};
 
-use chars::whole::{Checked, check};
+use chars::whole::check;
 use compiled::compile::read;
 use compiled::{Compiled, layout};
 use document::judge::start_of;
 use document::place::{end_of, keep};
-use document::{Open, Placement, Why};
+use document::{DocumentError, ItemError, Open, Placement};
 use instructions::declaration::names_other;
 use matcher::Verdict;
 use matcher::fit::row_of;
 use matcher::state::MatchState;
 use passes::{judged, next_item};
-use paths::ListAnswer;
-use points::table::{Classes, classes};
+use points::class::Classes;
 use recall::{Known, slot_of};
+use refusals::CutError;
 use rows::row::{lay_header, lay_record};
 use tags::Item;
 use tests::any;
 
-// What is answered, in the order of document 01's table: the table is written, with its length and the number of elements selected; the
-// list is too long; a line of it is malformed, or too large; the document is too long; its declaration names another encoding; a sequence
-// that is no character; a document type, an item that is not well-formed, an item over a size; the buffer is too short for the table.
-#[derive(Drop)]
-pub enum Answer {
-    Written { length: usize, selected: usize },
-    ListTooLong,
-    ListMalformed(usize),
-    ListTooLarge(usize),
-    TooLong,
-    OtherEncoding(usize),
-    NotChar(usize),
-    Doctype(usize),
-    Malformed(usize),
-    TooLarge(usize),
-    Short(usize),
-}
-
-// What a pass comes to: the length of the table and the number of elements selected; or the item at fault.
-#[derive(Drop)]
-enum Outcome {
-    Fine(usize, usize),
-    Fault(Why, usize),
+// A table that is written: its length and the number of elements selected.
+#[derive(Clone, Copy, Debug, PartialEq, Eq)]
+pub struct Table {
+    pub length: usize,
+    pub selected: usize,
 }
 
 // What is laid so far: the place after it, and the number of elements selected.
@@ -99,7 +79,7 @@ fn start(
     out: &mut [u8],
     run: Run,
 ) -> Run
-    requires { (table.now ≡ class_table) × (length doc.now ≤ 16777216) × (end ≤ length doc.now)
+    requires { (length doc.now ≤ 16777216) × (end ≤ length doc.now)
         × PlainNames doc.now starts.now lens.now (level + 1) × (run.to < 1152921504606846976) × (run.count < 16777216) }
     ensures { Started verdict (names_of doc.now starts.now lens.now (level + 1))
         (element_text empty doc.now end) out.old run result out.new }
@@ -116,8 +96,14 @@ fn start(
 
 // A pass over the items by the tables of a sound list: the header, and at each start tag the record of its element. Into one byte it
 // measures. States, names and what is known of elements are kept as in a pass that cuts (the crate passes).
-fn pass(table: &Classes, list: &[u8], t: &Compiled, doc: &[u8], out: &mut [u8]) -> Outcome
-    requires { (table.now ≡ class_table) × (length doc.now ≤ 16777216) × Serves list.now t.now }
+fn pass(
+    table: &Classes,
+    list: &[u8],
+    t: &Compiled,
+    doc: &[u8],
+    out: &mut [u8],
+) -> Result<Table, ItemError>
+    requires { (length doc.now ≤ 16777216) × Serves list.now t.now }
     ensures { Passed list.now doc.now out.old result out.new }
 {
     let tested = any(t);
@@ -136,16 +122,20 @@ fn pass(table: &Classes, list: &[u8], t: &Compiled, doc: &[u8], out: &mut [u8]) 
     };
     let mut at = start_of(doc);
     let mut first = true;
+    // Each turn goes on where the item ended, so the place is no count.
     loop {
         let seen = next_item(table, doc, &starts, &lens, opened, at, first);
         let next = seen.item;
         let placed = seen.placed;
         match placed {
             Placement::Fault(why) => {
-                return Outcome::Fault(why, at);
+                return Err(ItemError { why, at });
             }
             Placement::Over => {
-                return Outcome::Fine(run.to, run.count);
+                return Ok(Table {
+                    length: run.to,
+                    selected: run.count,
+                });
             }
             Placement::Fine => {
                 keep(&mut starts, &mut lens, opened, at, next);
@@ -190,68 +180,51 @@ fn pass(table: &Classes, list: &[u8], t: &Compiled, doc: &[u8], out: &mut [u8]) 
     }
 }
 
-// An item at a place is at fault.
-fn fault_of(why: Why, at: usize) -> Answer
-    ensures { result ≡ fault_of why at }
-{
-    match why {
-        Why::Doctype => Answer::Doctype(at),
-        Why::Malformed => Answer::Malformed(at),
-        Why::TooLarge => Answer::TooLarge(at),
-    }
-}
-
 // By the tables of a sound list, a document of characters that names no other encoding: measured, and written where there is room.
-fn written(list: &[u8], t: &Compiled, doc: &[u8], out: &mut [u8]) -> Answer
+fn written(list: &[u8], t: &Compiled, doc: &[u8], out: &mut [u8]) -> Result<Table, CutError>
     requires { Serves list.now t.now × (length doc.now ≤ 16777216)
-        × (other_encoding (drop (start_of doc.now) doc.now) ≡ false) × (check_of doc.now ≡ All) }
+        × (other_encoding (drop (start_of doc.now) doc.now) ≡ false) × (check_of doc.now ≡ Ok tt) }
     ensures value { result ≡ answer_by list.now doc.now (length out.old) }
     ensures out_after { out.new ≡ bytes_by list.now doc.now out.old }
 {
-    let table = classes();
+    let table = Classes::new();
     let mut scratch = [0u8; 1];
-    match pass(&table, list, t, doc, &mut scratch) {
-        Outcome::Fault(why, at) => fault_of(why, at),
-        Outcome::Fine(length, selected) => {
-            // 9: "giving the length of the whole table"
-            if out.len() < length {
-                return Answer::Short(length);
-            }
-            pass(&table, list, t, doc, out);
-            Answer::Written { length, selected }
-        }
+    let measured = pass(&table, list, t, doc, &mut scratch)?;
+    // 9: "giving the length of the whole table"
+    let length = measured.length;
+    if out.len() < length {
+        return Err(CutError::Short(length));
     }
+    // The same items come to the same.
+    let _ = pass(&table, list, t, doc, out);
+    Ok(measured)
 }
 
 // By the tables of a sound list, any document: 4, 10, 5, then 6 to 9.
-fn rows_by(list: &[u8], t: &Compiled, doc: &[u8], out: &mut [u8]) -> Answer
+fn rows_by(list: &[u8], t: &Compiled, doc: &[u8], out: &mut [u8]) -> Result<Table, CutError>
     requires { Serves list.now t.now }
     ensures value { result ≡ answer_by list.now doc.now (length out.old) }
     ensures out_after { out.new ≡ bytes_by list.now doc.now out.old }
 {
     if doc.len() > Open::BYTES {
-        return Answer::TooLong;
+        return Err(CutError::Document(DocumentError::TooLong));
     }
     let start = start_of(doc);
     if names_other(doc, start) {
-        return Answer::OtherEncoding(start);
+        return Err(CutError::Document(DocumentError::OtherEncoding(start)));
     }
     match check(doc) {
-        Checked::All => written(list, t, doc, out),
-        Checked::BadAt(o) => Answer::NotChar(o),
+        Ok(()) => written(list, t, doc, out),
+        Err(e) => Err(CutError::Document(DocumentError::NotChar(e.valid_up_to))),
     }
 }
 
 // Any list, any document and any buffer. Only under 0 is a byte of the buffer changed, and then none after the table.
-pub fn rows(list: &[u8], doc: &[u8], out: &mut [u8]) -> Answer
+pub fn rows(list: &[u8], doc: &[u8], out: &mut [u8]) -> Result<Table, CutError>
     ensures value { result ≡ answer_of list.now doc.now (length out.old) }
     ensures out_after { out.new ≡ bytes_after list.now doc.now out.old }
 {
     let mut t = [0u16; layout::LENGTH];
-    match read(list, &mut t) {
-        ListAnswer::Sound => rows_by(list, &t, doc, out),
-        ListAnswer::TooLong => Answer::ListTooLong,
-        ListAnswer::Malformed(line) => Answer::ListMalformed(line),
-        ListAnswer::TooLarge(line) => Answer::ListTooLarge(line),
-    }
+    read(list, &mut t)?;
+    rows_by(list, &t, doc, out)
 }

@@ -6,29 +6,21 @@ ghost use Rattle.std.specs.Prelude.{◌≡◌, length};
 ghost use Rattle.sheet.specs.Answer.{answer_of, bytes_after};
 ghost use Rattle.spreadsheet.specs.Numbers.{rows_numbers};
 
-use exported::{Numbers, refusal};
-use sheet::{Answer, rows};
+use exported::{Numbers, cut_refusal};
+use refusals::CutError;
+use sheet::{Table, rows};
 
 // The numbers of an answer: under 0 the length written and the elements selected.
-fn rows_numbers(a: Answer) -> Numbers
+fn rows_numbers(a: Result<Table, CutError>) -> Numbers
     ensures { result ≡ rows_numbers a }
 {
     match a {
-        Answer::Written { length, selected } => Numbers {
+        Ok(table) => Numbers {
             number: 0,
-            second: length as u64,
-            third: selected as u64,
+            second: table.length as u64,
+            third: table.selected as u64,
         },
-        Answer::ListTooLong => refusal(1, 0),
-        Answer::ListMalformed(line) => refusal(2, line),
-        Answer::ListTooLarge(line) => refusal(3, line),
-        Answer::TooLong => refusal(4, 0),
-        Answer::OtherEncoding(o) => refusal(10, o),
-        Answer::NotChar(o) => refusal(5, o),
-        Answer::Doctype(o) => refusal(6, o),
-        Answer::Malformed(o) => refusal(7, o),
-        Answer::TooLarge(o) => refusal(8, o),
-        Answer::Short(needed) => refusal(9, needed),
+        Err(e) => cut_refusal(e),
     }
 }
 

@@ -1,13 +1,12 @@
 -- RFC 4180 records, in document 02's words. In order: a field; a record; the records of a forest; the table of a document by a list.
 -- Names stand from the root down to the element. What is selected is said by a choice of places for a path's steps and by its attribute
 -- test, `BySome`.
-use Rattle.std.specs.Prelude.{◌≡◌, List, [], ◌∷◌, ◌++◌, ℕ}
+use Rattle.std.specs.Prelude.{◌≡◌, List, [], ◌∷◌, ◌++◌, ℕ, Ok}
 use Rattle.xml.specs.Notation.{bytes}
 use Rattle.xml.specs.Forest.{Name, Tag, Forest, nil, other, elem}
 use Rattle.attributes.specs.Held.{attributes_of}
 use Rattle.paths.specs.Path.{Path}
 use Rattle.paths.specs.Answer.{Before, Says}
-use Rattle.paths.specs.declared.ListAnswer.TheVariants as lists
 use Rattle.matcher.specs.Says.{Some, BySome}
 use Rattle.matcher.specs.Tried.{Counted}
 use Rattle.demands.specs.Elements.{Element, elements}
@@ -64,7 +63,7 @@ pub data RowsSay (ps : List Path) : (above : List Name) (f : Forest) (w : List �
 -- By a list and of a document that are accepted, w is the table, and c the number of elements selected: the list is the print of some
 -- paths, and production [1] derives the document with some forest. "the header `path,text`" is a record "too".
 pub record Tables (list d w : List ℕ) (c : ℕ) : Type 0 where
-  pub listed : Says list lists.Sound
+  pub listed : Says list (Ok tt)
   pub paths : List Path
   pub printed : Before list paths []
   pub forest : Forest

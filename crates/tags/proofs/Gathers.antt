@@ -3,7 +3,7 @@
 use mathlib.Core.Path.{◌≡◌, refl, sym, ap, ap₂, ◌∙◌}
 use mathlib.Core.Bool.{Bool, true, false, ◌&&◌, ◌||◌, and-true, and_assoc}
 use mathlib.Core.List.{List, [], ◌∷◌, ◌++◌, append_assoc, append-nil}
-use mathlib.Core.Option.{Option, none, some}
+use mathlib.Core.Option.{Option as Maybe, none, some}
 use Prim.Native.Nat.{ℕ, ◌+◌, ◌-◌, ◌^◌, ◌≤◌, ◌<◌}
 use native.Mathlib.Omega.{arith}
 use mir.Syntax.{w64}
@@ -16,8 +16,7 @@ use lib.ListN.{length, take, drop, replicate, length-drop, length-append, length
 use lib.Seq.{take_all}
 use Rattle.utf8.specs.Place.{Stands}
 use Rattle.chars.specs.Name.{name_at, reading_at}
-use Rattle.chars.specs.declared.name.Reading.{Reading}
-use Rattle.chars.specs.declared.name.Reading.TheVariants.{Ends, Fault}
+use Rattle.std.specs.Prelude.{Option, Some, None}
 use Rattle.readers.specs.Read.{space_of}
 use Rattle.readers.specs.Value.{value_of}
 use Rattle.readers.specs.Named.{Piece, eq_of, attribute_of, Gathered, gather, small_all, repeated}
@@ -28,36 +27,36 @@ use Rattle.readers.proofs.Value.{value_shrinks}
 use Rattle.readers.proofs.Attributes.{gather_stop, gather_step}
 use Rattle.tags.specs.Kept.{name_from, KeptOf, Keeps, Noted, AttributeIs, named, fault, AttributesAre}
 use Rattle.tags.specs.declared.gather.Attribute.{Attribute}
-use Rattle.tags.specs.declared.gather.Attribute.TheVariants.{Named, Fault as NoAttribute}
 use Rattle.tags.proofs.Kept.{name_size}
 use Rattle.tags.proofs.Named.{piece_none, piece_some, piece_ahead, piece_inside}
 
 -- ---- `next_attribute`
 
-module _ (d : List ℕ) (at : ℕ) {r : Reading} (a : Answers d at r (space_of (drop at d))) where
-  pub attribute_blankless : r ≡ Fault → AttributeIs d at NoAttribute (attribute_of (drop at d))
+module _ (d : List ℕ) (at : ℕ) {r : Option ℕ} (a : Answers d at r (space_of (drop at d))) where
+  pub attribute_blankless : r ≡ None → AttributeIs d at None (attribute_of (drop at d))
   unfolding attribute_of
   attribute_blankless q = rw (fault_none a q) fault
 
-  module _ {i : ℕ} (q : r ≡ Ends i) {n : Reading} (b : n ≡ name_at d i) where
-    pub attribute_nameless : n ≡ Fault → AttributeIs d at NoAttribute (attribute_of (drop at d))
+  module _ {i : ℕ} (q : r ≡ Some i) {n : Option ℕ} (b : n ≡ name_at d i) where
+    pub attribute_nameless : n ≡ None → AttributeIs d at None (attribute_of (drop at d))
     unfolding attribute_of
     attribute_nameless f = rw (ends_some a q, piece_none d i b f) fault
 
-    module _ {e : ℕ} (g : n ≡ Ends e) {m : Reading} (c : Answers d e m (eq_of (drop e d))) where
-      pub attribute_unequal : m ≡ Fault → AttributeIs d at NoAttribute (attribute_of (drop at d))
+    module _ {e : ℕ} (g : n ≡ Some e) {m : Option ℕ} (c : Answers d e m (eq_of (drop e d))) where
+      pub attribute_unequal : m ≡ None → AttributeIs d at None (attribute_of (drop at d))
       unfolding attribute_of
       attribute_unequal f = rw (ends_some a q, piece_some d i b g, fault_none c f) fault
 
-      module _ {v : ℕ} (h : m ≡ Ends v) {w : Reading} (x : w ≡ reading_at d v (value_of (drop v d))) where
+      module _ {v : ℕ} (h : m ≡ Some v) {w : Option ℕ} (x : w ≡ reading_at d v (value_of (drop v d))) where
         valued : Answers d v w (value_of (drop v d))
         valued = reading_answers value_shrinks d v x
 
-        pub attribute_valueless : w ≡ Fault → AttributeIs d at NoAttribute (attribute_of (drop at d))
+        pub attribute_valueless : w ≡ None → AttributeIs d at None (attribute_of (drop at d))
         unfolding attribute_of
         attribute_valueless f = rw (ends_some a q, piece_some d i b g, ends_some c h, fault_none valued f) fault
 
-        pub attribute_named : {end : ℕ} → w ≡ Ends end → AttributeIs d at (Named i (e - i) end) (attribute_of (drop at d))
+        pub attribute_named : {end : ℕ} → w ≡ Some end
+            → AttributeIs d at (Some (record { name = i; len = e - i; end = end })) (attribute_of (drop at d))
         unfolding attribute_of
         attribute_named {end} f =
             let p = ends_ahead a q in
@@ -67,8 +66,8 @@ module _ (d : List ℕ) (at : ℕ) {r : Reading} (a : Answers d at r (space_of (
             let y = ends_inside valued f in
             let z = shrinks_length value_shrinks (drop v d) (drop end d) (ends_some valued f) in
             rw (ends_some a q, piece_some d i b g, ends_some c h, ends_some valued f)
-            (named {name = i} {len = e - i} {end = end} (omega (arith, length-drop v d, length-drop end d, ends_inside c h)) (omega arith)
-            refl (record { rest = refl; inside = y }))
+            (named {a = record { name = i; len = e - i; end = end }} (omega (arith, length-drop v d, length-drop end d, ends_inside c h))
+            (omega arith) refl (record { rest = refl; inside = y }))
 
 pub ruleset attributing = (
   attribute_blankless,
@@ -85,25 +84,24 @@ pub ruleset attributing = (
 -- ---- `gather`
 
 -- what an attribute's answer says
-record Found (d : List ℕ) (at name len end : ℕ) (o : Option Piece) : Type 0 where
+record Found (d : List ℕ) (at : ℕ) (x : Attribute) (o : Maybe Piece) : Type 0 where
   piece : Piece
   read : o ≡ some piece
-  further : at < end
-  inside : name + len ≤ length d
-  name_is : name_from d name len ≡ piece.name
-  stands : Stands d end piece.rest
+  further : at < x.end
+  inside : x.name + x.len ≤ length d
+  name_is : name_from d x.name x.len ≡ piece.name
+  stands : Stands d x.end piece.rest
 
-found : {d : List ℕ} {at : ℕ} {r : Attribute} {o : Option Piece} {name len end : ℕ} → AttributeIs d at r o → r ≡ Named name len end
-    → Found d at name len end o
-found {d} {at} {name = name} {len = len} {end = end} a q = go (rw q at a)
+found : {d : List ℕ} {at : ℕ} {r : Option Attribute} {o : Maybe Piece} {x : Attribute} → AttributeIs d at r o → r ≡ Some x → Found d at x o
+found {d} {at} {x = x} a q = go (rw q at a)
   where
-    go : {o : Option Piece} → AttributeIs d at (Named name len end) o → Found d at name len end o
+    go : {o : Maybe Piece} → AttributeIs d at (Some x) o → Found d at x o
     go (named {p = p} l h e s) = record { piece = p; read = refl; further = l; inside = h; name_is = e; stands = s }
 
-none_found : {d : List ℕ} {at : ℕ} {r : Attribute} {o : Option Piece} → AttributeIs d at r o → r ≡ NoAttribute → o ≡ none
+none_found : {d : List ℕ} {at : ℕ} {r : Option Attribute} {o : Maybe Piece} → AttributeIs d at r o → r ≡ None → o ≡ none
 none_found {d} {at} a q = go (rw q at a)
   where
-    go : {o : Option Piece} → AttributeIs d at NoAttribute o → o ≡ none
+    go : {o : Maybe Piece} → AttributeIs d at None o → o ≡ none
     go fault = refl
 
 pub record Gathering (d : List ℕ) (at i count : ℕ) (small twice : Bool) (starts lens : List ℕ) : Type 0 where
@@ -145,8 +143,8 @@ small_snoc (n ∷ ns) w =
     ∙ sym (and_assoc (leb (length n) 255) (small_all ns) (leb (length w) 255))
 
 module _ {d : List ℕ} {at i count : ℕ} {small twice : Bool} {starts lens : List ℕ} (v : Gathering d at i count small twice starts lens)
-    {r : Attribute} (a : AttributeIs d i r (attribute_of (drop i d))) where
-  pub gather_none : r ≡ NoAttribute → AttributesAre d at (record { end = i; small = leb count 32 && small; twice = twice })
+    {r : Option Attribute} (a : AttributeIs d i r (attribute_of (drop i d))) where
+  pub gather_none : r ≡ None → AttributesAre d at (record { end = i; small = leb count 32 && small; twice = twice })
   gather_none q =
       let stop = gather_stop (drop i d) (none_found a q) in
       let all : gather 0 (drop at d) ≡ record { names = v.names; rest = drop i d }
@@ -166,22 +164,22 @@ module _ {d : List ℕ} {at i count : ℕ} {small twice : Bool} {starts lens : L
       few : leb count 32 ≡ true → length v.names ≤ 32
       few e = let z = leb-true count 32 e in let y = v.kept.count_is in omega arith
 
-  module _ {name len end : ℕ} (q : r ≡ Named name len end) where
-    pub gather_inside : name + len ≤ length d
+  module _ {t : Attribute} (q : r ≡ Some t) where
+    pub gather_inside : t.name + t.len ≤ length d
     gather_inside = (found a q).inside
 
-    pub gather_less : length d - end < length d - i
+    pub gather_less : length d - t.end < length d - i
     gather_less = let z = (found a q).further in let y = (found a q).stands.inside in omega arith
 
     pub gather_fits : length d < 2 ^ 64 → Fits w64 (count + 1)
     gather_fits l =
         record { fits = let z = v.room in let y = (found a q).further in let x = (found a q).stands.inside in omega arith }
 
-    pub gather_more : {starts' lens' : List ℕ} {again : Bool} → Noted d starts lens count name len starts' lens' again
-        → Gathering d at end (count + 1) (small && leb len 255) (twice || again) starts' lens'
+    pub gather_more : {starts' lens' : List ℕ} {again : Bool} → Noted d starts lens count t.name t.len starts' lens' again
+        → Gathering d at t.end (count + 1) (small && leb t.len 255) (twice || again) starts' lens'
     gather_more {again = again} n =
         let f = found a q in
-        let w = name_from d name len in
+        let w = name_from d t.name t.len in
         record {
           names = v.names ++ w ∷ [];
           kept =
@@ -192,7 +190,7 @@ module _ {d : List ℕ} {at i count : ℕ} {small twice : Bool} {starts lens : L
           inside = f.stands.inside;
           room = let z = f.further in let y = v.room in omega arith;
           small_is =
-              ap₂ (λ (b : Bool) (k : ℕ). b && leb k 255) v.small_is (sym (name_size d name len f.inside))
+              ap₂ (λ (b : Bool) (k : ℕ). b && leb k 255) v.small_is (sym (name_size d t.name t.len f.inside))
               ∙ sym (small_snoc v.names w);
           twice_is = ap (λ (b : Bool). b || again) v.twice_is ∙ sym (n.twice v.names v.kept);
           same =
@@ -201,8 +199,8 @@ module _ {d : List ℕ} {at i count : ℕ} {small twice : Bool} {starts lens : L
               (gather_step (drop i d) f.piece f.read
               ∙ ap₂ (λ (x s : List ℕ). record { names = x ∷ (gather 0 s).names; rest = (gather 0 s).rest }) (sym f.name_is)
               (sym f.stands.rest))
-              ∙ ap (λ (ns : List (List ℕ)). record { names = ns; rest = (gather 0 (drop end d)).rest })
-              (sym (append_assoc v.names (w ∷ []) (gather 0 (drop end d)).names));
+              ∙ ap (λ (ns : List (List ℕ)). record { names = ns; rest = (gather 0 (drop t.end d)).rest })
+              (sym (append_assoc v.names (w ∷ []) (gather 0 (drop t.end d)).names));
         }
 
 pub gather_keeps : {d : List ℕ} {at i count : ℕ} {small twice : Bool} {starts lens : List ℕ}

@@ -3,7 +3,7 @@
 use mathlib.Core.Path.{◌≡◌, refl, sym, ap, ap₂, ◌∙◌}
 use mathlib.Core.Bool.{Bool, true, false, ◌||◌, or-false, or_assoc, false≢true}
 use mathlib.Core.List.{List, [], ◌∷◌, ◌++◌}
-use Prim.Native.Nat.{ℕ, ◌+◌, ◌-◌, ◌≤◌, ◌<◌}
+use Prim.Native.Nat.{ℕ, ◌+◌, ◌≤◌, ◌<◌}
 use mathlib.Core.Logic.{⊎_elim}
 use native.Mathlib.Nat.{eq-or-lt_of_le}
 use native.Mathlib.Numerals.{add-one}
@@ -12,10 +12,9 @@ use borrow.Author.Tests.{eqb-true, eqb-false}
 use lib.Dec.{eqb}
 use lib.ListN.{length, get_or, take, drop, set, length-drop, length-append, length-set, drop_of_length-le, get_or-append}
 use lib.Seq.{drop-cons, length-take-le, take_all, take-append-le, get_or-set_same, get_or-set_other, get_or-append_seam}
-use Rattle.xml.specs.Character.{begins}
 use Rattle.xml.specs.Productions.{same}
 use Rattle.readers.specs.Named.{has, repeated}
-use Rattle.xml.proofs.Same.{same_equal, same_refl, same_other, begins-same}
+use Rattle.xml.proofs.Same.{same_equal, same_refl, same_other}
 use Rattle.tags.specs.Kept.{name_from, KeptOf, Keeps, Seen, Noted}
 
 -- ---- a name of n bytes
@@ -23,23 +22,6 @@ use Rattle.tags.specs.Kept.{name_from, KeptOf, Keeps, Seen, Noted}
 module _ (d : List ℕ) (a n : ℕ) (l : a + n ≤ length d) where
   pub name_size : length (name_from d a n) ≡ n
   name_size = length-take-le n (drop a d) (omega (arith, length-drop a d))
-
--- ---- `same_name`
-
-module _ (d : List ℕ) (a n x l : ℕ) (h : a + n ≤ length d) (g : x + l ≤ length d) where
-  pub names_longer : (l ≡ n → ⊥) → false ≡ same (name_from d a n) (name_from d x l)
-  names_longer ne =
-      sym (same_other (name_from d a n) (name_from d x l) (λ e. ne (sym (name_size d x l g) ∙ sym (ap length e) ∙ name_size d a n h)))
-
-  pub names_compared : l ≡ n → {b : Bool} → b ≡ begins (take (x + l - x) (drop x d)) (drop a d)
-      → b ≡ same (name_from d a n) (name_from d x l)
-  names_compared q t =
-      let z : x + l - x ≡ l = omega arith in
-      t ∙ ap (λ (m : ℕ). begins (take m (drop x d)) (drop a d)) z
-      ∙ begins-same (name_from d x l) (drop a d)
-      ∙ ap (λ (m : ℕ). same (take m (drop a d)) (name_from d x l)) (name_size d x l g ∙ q)
-
-pub ruleset naming = (names_longer, names_compared)
 
 -- ---- `seen`
 

@@ -18,8 +18,7 @@ use Rattle.utf8.specs.Place.{ends_at}
 use Rattle.utf8.proofs.Place.{stands_ends}
 use Rattle.chars.specs.Space.{space_end}
 use Rattle.chars.specs.Name.{name_at}
-use Rattle.chars.specs.declared.name.Reading.{Reading}
-use Rattle.chars.specs.declared.name.Reading.TheVariants.{Ends, Fault}
+use Rattle.std.specs.Prelude.{Option, Some, None}
 use Rattle.readers.specs.Read.{expect, skip}
 use Rattle.readers.specs.Named.{before, piece_named, end_tag_of}
 use Rattle.readers.specs.Answer.{Answers}
@@ -45,21 +44,21 @@ module _ (d : List ℕ) (a e : ℕ) (l : a ≤ e) (h : e ≤ length d) where
   pub name_long : length (name_in d a e) ≡ e - a
   name_long = length-take-le (e - a) (drop a d) (omega (arith, length-drop a d))
 
-module _ (d : List ℕ) (a : ℕ) {r : Reading} (n : r ≡ name_at d a) where
-  pub piece_none : r ≡ Fault → piece_named (drop a d) ≡ none
+module _ (d : List ℕ) (a : ℕ) {r : Option ℕ} (n : r ≡ name_at d a) where
+  pub piece_none : r ≡ None → piece_named (drop a d) ≡ none
   unfolding piece_named
   piece_none q = rw (fault_none (name_answers d a n) q)
 
-  pub piece_some : {e : ℕ} → r ≡ Ends e → piece_named (drop a d) ≡ some (record { name = name_in d a e; rest = drop e d })
+  pub piece_some : {e : ℕ} → r ≡ Some e → piece_named (drop a d) ≡ some (record { name = name_in d a e; rest = drop e d })
   unfolding piece_named
   piece_some {e} q =
       let z = name_answers d a n in
       rw (ends_some z q, before_name d a e (ends_ahead z q) (ends_inside z q))
 
-  pub piece_ahead : {e : ℕ} → r ≡ Ends e → a ≤ e
+  pub piece_ahead : {e : ℕ} → r ≡ Some e → a ≤ e
   piece_ahead q = ends_ahead (name_answers d a n) q
 
-  pub piece_inside : {e : ℕ} → r ≡ Ends e → e ≤ length d
+  pub piece_inside : {e : ℕ} → r ≡ Some e → e ≤ length d
   piece_inside q = ends_inside (name_answers d a n) q
 
 -- ---- end tags
@@ -69,23 +68,23 @@ module _ (d : List ℕ) (at : ℕ) {b : Bool} (t : b ≡ begins (bytes "</") (dr
   unfolding end_tag_at end_tag_of
   finish_none q = sym (rw (fault_none (text_no d at (bytes "</") t (not-true b q)) refl))
 
-  module _ (q : not b ≡ false) {r : Reading} (n : r ≡ name_at d (at + 2)) where
+  module _ (q : not b ≡ false) {r : Option ℕ} (n : r ≡ name_at d (at + 2)) where
     opened : expect (bytes "</") (drop at d) ≡ some (drop (at + 2) d)
     opened = ends_some (text_yes d at (bytes "</") t (not-false b q) (omega arith)) refl
 
-    pub finish_nameless : r ≡ Fault → Malformed ≡ end_tag_at d at
+    pub finish_nameless : r ≡ None → Malformed ≡ end_tag_at d at
     unfolding end_tag_at end_tag_of
     finish_nameless f = sym (rw (opened, piece_none d (at + 2) n f))
 
-    module _ {e k : ℕ} (f : r ≡ Ends e) (s : k ≡ space_end d e) {c : Reading} (g : Answers d k c (expect (0x3E ∷ []) (drop k d))) where
+    module _ {e k : ℕ} (f : r ≡ Some e) (s : k ≡ space_end d e) {c : Option ℕ} (g : Answers d k c (expect (0x3E ∷ []) (drop k d))) where
       blank : skip (drop e d) ≡ drop k d
       blank = sym (space_stands d e s (piece_inside d (at + 2) n f)).rest
 
-      pub finish_open : c ≡ Fault → Malformed ≡ end_tag_at d at
+      pub finish_open : c ≡ None → Malformed ≡ end_tag_at d at
       unfolding end_tag_at end_tag_of
       finish_open z = sym (rw (opened, piece_some d (at + 2) n f, blank, fault_none g z))
 
-      module _ {end : ℕ} (z : c ≡ Ends end) where
+      module _ {end : ℕ} (z : c ≡ Some end) where
         closed : end_tag_at d at ≡ finish_by d at (some (record { name = name_in d (at + 2) e; rest = drop end d }))
         unfolding end_tag_at end_tag_of
         closed = rw (opened, piece_some d (at + 2) n f, blank, ends_some g z)

@@ -19,8 +19,7 @@ use Rattle.utf8.specs.Place.{ends_at}
 use Rattle.utf8.proofs.Place.{stands_ends}
 use Rattle.chars.specs.Space.{space_end}
 use Rattle.chars.specs.Name.{name_at}
-use Rattle.chars.specs.declared.name.Reading.{Reading}
-use Rattle.chars.specs.declared.name.Reading.TheVariants.{Ends, Fault}
+use Rattle.std.specs.Prelude.{Option, Some, None}
 use Rattle.readers.specs.Read.{expect, skip}
 use Rattle.readers.specs.Named.{Tag, before, gather, tag_of, small_tag}
 use Rattle.readers.proofs.Answers.{ends_some, fault_none, text_inside, text_yes, text_no}
@@ -55,15 +54,15 @@ module _ (d : List ℕ) (at : ℕ) {b : Bool} (t : b ≡ begins (bytes "<") (dro
   pub tag_add : not b ≡ false → length d < 2 ^ 64 → Fits w64 (at + 1)
   tag_add q l = record { fits = let z = tag_inside q in omega arith }
 
-  module _ (q : not b ≡ false) {r : Reading} (n : r ≡ name_at d (at + 1)) where
+  module _ (q : not b ≡ false) {r : Option ℕ} (n : r ≡ name_at d (at + 1)) where
     opened : expect (bytes "<") (drop at d) ≡ some (drop (at + 1) d)
     opened = ends_some (text_yes d at (bytes "<") t (not-false b q) (omega arith)) refl
 
-    pub tag_nameless : r ≡ Fault → Malformed ≡ tag_at d at
+    pub tag_nameless : r ≡ None → Malformed ≡ tag_at d at
     unfolding tag_at tag_of
     tag_nameless f = sym (rw (opened, piece_none d (at + 1) n f))
 
-    module _ {e : ℕ} (f : r ≡ Ends e) {held : Attributes} (a : AttributesAre d e held) {head : ℕ} (s : head ≡ space_end d held.end) where
+    module _ {e : ℕ} (f : r ≡ Some e) {held : Attributes} (a : AttributesAre d e held) {head : ℕ} (s : head ≡ space_end d held.end) where
       blank : skip (gather 0 (drop e d)).rest ≡ drop head d
       blank = ap skip (sym a.stands.rest) ∙ sym (space_stands d held.end s a.stands.inside).rest
 

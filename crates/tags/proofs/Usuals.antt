@@ -19,8 +19,7 @@ use Rattle.blocks.specs.Block.{until, Skips, First}
 use Rattle.blocks.proofs.Until.{seek_start}
 use Rattle.words.specs.Word.{is_no_name}
 use Rattle.chars.specs.Name.{name_at, reading_at}
-use Rattle.chars.specs.declared.name.Reading.{Reading}
-use Rattle.chars.specs.declared.name.Reading.TheVariants.{Ends}
+use Rattle.std.specs.Prelude.{Option, Some, None}
 use Rattle.chars.specs.Space.{space_end}
 use Rattle.chars.proofs.Runs.{run_start}
 use Rattle.chars.proofs.Spaces.{spaces_end}
@@ -38,7 +37,6 @@ use Rattle.tags.specs.Tag.{tag_at}
 use Rattle.tags.specs.Kept.{Keeps, Noted, AttributesAre}
 use Rattle.tags.specs.Usual.{ToldName, ToldMark, ToldAttribute, ToldTag}
 use Rattle.tags.specs.declared.gather.Attribute.{Attribute}
-use Rattle.tags.specs.declared.gather.Attribute.TheVariants.{Named, Fault as NoAttribute}
 use Rattle.tags.specs.declared.Item.{Item}
 use Rattle.tags.specs.declared.Item.TheVariants.{Start, Malformed}
 use Rattle.tags.proofs.Named.{piece_ahead, piece_inside}
@@ -90,20 +88,20 @@ pub ruleset marked = (seek_start, mark_untold)
 -- a value in quotes without a reference
 module _ (d : List ℕ) (at q end : ℕ) (h : at < length d) (e : get_or d at 0 ≡ q)
     (f : end ≡ ends_at d (at + 1) (until (is_mark q) (drop (at + 1) d))) (l : end < length d) (g : get_or d end 0 ≡ q) where
-  quoted : (q ≡ 0x26 → ⊥) → Answers d at (Ends (end + 1)) (quoted_of q (drop at d))
+  quoted : (q ≡ 0x26 → ⊥) → Answers d at (Some (end + 1)) (quoted_of q (drop at d))
   quoted n =
       quoted_ends q at (byte_yes d at q h e) refl
       (pieces_other (pieces_start (omega arith) f) l (λ z. n (sym g ∙ z)))
       (byte_yes d end q l g)
 
-  value_ends : eqb q 0x22 || eqb q 0x27 ≡ true → Ends (end + 1) ≡ reading_at d at (value_of (drop at d))
+  value_ends : eqb q 0x22 || eqb q 0x27 ≡ true → Some (end + 1) ≡ reading_at d at (value_of (drop at d))
   unfolding value_of
   value_ends c = go (eqb q 0x22) refl c
     where
-      single : q ≡ 0x27 → Answers d at (Ends (end + 1)) (quoted_of 0x27 (drop at d))
+      single : q ≡ 0x27 → Answers d at (Some (end + 1)) (quoted_of 0x27 (drop at d))
       single z = rw z at (quoted (λ y. omega arith))
 
-      go : (b : Bool) → eqb q 0x22 ≡ b → b || eqb q 0x27 ≡ true → Ends (end + 1) ≡ reading_at d at (value_of (drop at d))
+      go : (b : Bool) → eqb q 0x22 ≡ b → b || eqb q 0x27 ≡ true → Some (end + 1) ≡ reading_at d at (value_of (drop at d))
       go true y _ =
           let z = eqb-true q 0x22 y in
           first_reading (rw z at (quoted (λ x. omega arith))) (quoted_of 0x27 (drop at d)) refl
@@ -140,12 +138,12 @@ equals_space : is_space 0x3D ≡ false
 unfolding is_space
 equals_space = refl
 
-pub attribute_untold : {d : List ℕ} {at : ℕ} → ToldAttribute d at NoAttribute
-attribute_untold = record { is = λ name len end e. let y : ◌≡◌ {A = ℕ} 0 1 = cc in absurd (omega arith) }
+pub attribute_untold : {d : List ℕ} {at : ℕ} → ToldAttribute d at None
+attribute_untold = record { is = λ a e. let y : ◌≡◌ {A = ℕ} 0 1 = cc in absurd (omega arith) }
 
-module _ (d : List ℕ) (at : ℕ) {r : Reading} (a : Answers d at r (space_of (drop at d))) {i : ℕ} (q : r ≡ Ends i) {e : ℕ}
+module _ (d : List ℕ) (at : ℕ) {r : Option ℕ} (a : Answers d at r (space_of (drop at d))) {i : ℕ} (q : r ≡ Some i) {e : ℕ}
     (n : ToldName d i e) (p : e ≡ 0 → ⊥) where
-  name_is : Ends e ≡ name_at d i
+  name_is : Some e ≡ name_at d i
   name_is = n.is (omega arith)
 
   pub name_within : e ≤ length d
@@ -160,18 +158,18 @@ module _ (d : List ℕ) (at : ℕ) {r : Reading} (a : Answers d at r (space_of (
     either : eqb (get_or d (e + 1) 0) 0x22 || eqb (get_or d (e + 1) 0) 0x27 ≡ true
     either = quote_is (eqb (get_or d (e + 1) 0) 0x22) (eqb (get_or d (e + 1) 0) 0x27) c
 
-    equal : Answers d e (Ends (e + 1)) (eq_of (drop e d))
+    equal : Answers d e (Some (e + 1)) (eq_of (drop e d))
     equal =
         eq_ends d e (unspaced d e 0x3D (omega arith) g equals_space) (omega arith) (byte_yes d e 0x3D (omega arith) g) refl
         (unspaced d (e + 1) (get_or d (e + 1) 0) (omega arith) refl (quote_space (get_or d (e + 1) 0) either))
 
-    valued : Ends (z + 1) ≡ reading_at d (e + 1) (value_of (drop (e + 1) d))
+    valued : Some (z + 1) ≡ reading_at d (e + 1) (value_of (drop (e + 1) d))
     valued =
         let two : e + 2 ≡ (e + 1) + 1 = omega arith in
         value_ends d (e + 1) (get_or d (e + 1) 0) z (omega arith) refl (rw two at (f.is h)) h k either
 
-    pub attribute_told : ToldAttribute d at (Named i (e - i) (z + 1))
-    attribute_told = record { is = λ name len end y. attribute_named d at a q name_is refl equal refl valued refl }
+    pub attribute_told : ToldAttribute d at (Some (record { name = i; len = e - i; end = z + 1 }))
+    attribute_told = record { is = λ _ y. attribute_named d at a q name_is refl equal refl valued refl }
 
 pub ruleset attributed = (attribute_untold, quote_ascii, name_within, name_ahead, attribute_told, ends_inside)
 
@@ -183,7 +181,7 @@ tag_untold = record { is = λ name head end empty twice e. let y : ◌≡◌ {A 
 -- the tag is read up to i: its name, from the place at + 1 to e, and attributes, of which no name stands twice
 pub record Walking (d : List ℕ) (at e name i count : ℕ) (starts lens : List ℕ) : Type 0 where
   pub begun : true ≡ begins (bytes "<") (drop at d)
-  pub named : Ends e ≡ name_at d (at + 1)
+  pub named : Some e ≡ name_at d (at + 1)
   pub name_is : name ≡ e - (at + 1)
   pub small : name ≤ 255
   pub few : count ≤ 32
@@ -213,15 +211,16 @@ module _ {d : List ℕ} {at e name i count : ℕ} {starts lens : List ℕ} (v : 
   walk_keeps = gather_keeps v.gathered
 
   -- one attribute more
-  module _ {r : Attribute} (a : ToldAttribute d i r) {place len end : ℕ} (q : r ≡ Named place len end) where
-    pub walk_within : place + len ≤ length d
-    walk_within = gather_inside v.gathered (a.is place len end q) q
+  module _ {r : Option Attribute} (a : ToldAttribute d i r) {t : Attribute} (q : r ≡ Some t) where
+    pub walk_within : t.name + t.len ≤ length d
+    walk_within = gather_inside v.gathered (a.is _ q) q
 
-    pub walk_less : length d - end < length d - i
-    walk_less = gather_less v.gathered (a.is place len end q) q
+    pub walk_less : length d - t.end < length d - i
+    walk_less = gather_less v.gathered (a.is _ q) q
 
-    pub walk_more : len ≤ 255 → count < 32 → {starts' lens' : List ℕ} {again : Bool}
-        → Noted d starts lens count place len starts' lens' again → again ≡ false → Walking d at e name end (count + 1) starts' lens'
+    pub walk_more : t.len ≤ 255 → count < 32 → {starts' lens' : List ℕ} {again : Bool}
+        → Noted d starts lens count t.name t.len starts' lens' again → again ≡ false
+        → Walking d at e name t.end (count + 1) starts' lens'
     walk_more l m n z =
         record {
           begun = v.begun;
@@ -229,7 +228,7 @@ module _ {d : List ℕ} {at e name i count : ℕ} {starts lens : List ℕ} (v : 
           name_is = v.name_is;
           small = v.small;
           few = omega arith;
-          gathered = rw (le-leb len 255 l, z) at (gather_more v.gathered (a.is place len end q) q n);
+          gathered = rw (le-leb t.len 255 l, z) at (gather_more v.gathered (a.is _ q) q n);
         }
 
 -- the end of the head: no attribute stands there

@@ -1,11 +1,11 @@
 -- The attributes' names that are kept by their places, the first 32 of a tag; what is asked of them, and one more name kept.
 -- Then an attribute, and the attributes of a tag, in places.
 use Rattle.std.specs.Prelude.{◌≡◌, Bool, true, ◌&&◌, ◌||◌, List, [], ◌∷◌, ◌++◌, ℕ, ◌+◌, ◌≤◌, ◌<◌, leb, length, get_or, take, drop}
-use Rattle.std.proofs.Math.Option.{Option, none, some}
+use Rattle.std.proofs.Math.Option.{Option as Maybe, none, some}
 use Rattle.utf8.specs.Place.{Stands}
 use Rattle.readers.specs.Named.{Piece, gather, small_all, has, repeated}
+use Rattle.std.specs.Prelude.{Option, Some, None}
 use Rattle.tags.specs.declared.gather.Attribute.{Attribute}
-use Rattle.tags.specs.declared.gather.Attribute.TheVariants.{Named, Fault}
 use Rattle.tags.specs.declared.gather.Attributes.{Attributes}
 
 -- the name of n bytes at the place a of d
@@ -42,10 +42,10 @@ pub record Noted (d starts lens : List ℕ) (count a n : ℕ) (starts' lens' : L
 
 -- ---- an attribute: its name's place and length, and its end
 
-pub data AttributeIs (d : List ℕ) (at : ℕ) : Attribute → Option Piece → Type 0 where
-  named : {name len end : ℕ} {p : Piece} → at < end → name + len ≤ length d → name_from d name len ≡ p.name
-      → Stands d end p.rest → AttributeIs d at (Named name len end) (some p)
-  fault : AttributeIs d at Fault none
+pub data AttributeIs (d : List ℕ) (at : ℕ) : Option Attribute → Maybe Piece → Type 0 where
+  named : {a : Attribute} {p : Piece} → at < a.end → a.name + a.len ≤ length d → name_from d a.name a.len ≡ p.name
+      → Stands d a.end p.rest → AttributeIs d at (Some a) (some p)
+  fault : AttributeIs d at None none
 
 -- ---- the attributes of a tag: where they end, whether they are within the sizes, and if so whether a name stands twice
 

@@ -1,23 +1,23 @@
 // The attributes of a tag: white space, a name, `=` and a value, any number of times. The names' places are kept, up to 32 of them, so that
 // a name that stands twice is found by its bytes. A tag with more than 32 attributes is read to its end all the same, since a broken
 // production comes before a size.
-ghost use Rattle.std.specs.Prelude.{◌≡◌, ◌+◌, ◌≤◌, ◌<◌, length, drop};
-ghost use Rattle.points.specs.Class.{class_table};
+ghost use Rattle.std.specs.Prelude.{◌+◌, ◌≤◌, ◌<◌, length, drop};
 ghost use Rattle.readers.specs.Named.{attribute_of};
 ghost use Rattle.tags.specs.Kept.{Keeps, Seen, Noted, AttributeIs, AttributesAre};
 
 use crate::Item;
 use crate::names::same_name;
-use chars::name::{Reading, name_by};
+use chars::name::name_by;
 use instructions::steps::{eq, space};
-use points::table::Classes;
+use points::class::Classes;
 use values::value::value;
 
-// An attribute with the white space before it: its name's place and length, and where it ends; or none.
-#[derive(Drop)]
-pub enum Attribute {
-    Named { name: usize, len: usize, end: usize },
-    Fault,
+// An attribute with the white space before it: its name's place and length, and where it ends.
+#[derive(Clone, Copy)]
+pub struct Attribute {
+    pub name: usize,
+    pub len: usize,
+    pub end: usize,
 }
 
 // Where the attributes end; whether they are within the sizes, and if so whether a name stands twice.
@@ -40,12 +40,10 @@ fn seen(
     requires { Keeps doc.now starts.now lens.now count × (count < 32) × (a + n ≤ length doc.now) }
     ensures { Seen doc.now starts.now lens.now count a n result }
 {
-    let mut k: usize = 0;
-    while k < count {
+    for k in 0..count {
         if same_name(doc, a, n, starts[k], lens[k]) {
             return true;
         }
-        k += 1;
     }
     false
 }
@@ -72,32 +70,24 @@ pub fn note(
 }
 
 // S Attribute at a place.
-fn next_attribute(classes: &Classes, doc: &[u8], at: usize) -> Attribute
-    requires { (classes.now ≡ class_table) × (at ≤ length doc.now) }
+fn next_attribute(classes: &Classes, doc: &[u8], at: usize) -> Option<Attribute>
+    requires { at ≤ length doc.now }
     ensures { AttributeIs doc.now at result (attribute_of (drop at doc.now)) }
 {
-    let Reading::Ends(a) = space(doc, at) else {
-        return Attribute::Fault;
-    };
-    let Reading::Ends(e) = name_by(classes, doc, a) else {
-        return Attribute::Fault;
-    };
-    let Reading::Ends(v) = eq(doc, e) else {
-        return Attribute::Fault;
-    };
-    let Reading::Ends(end) = value(doc, v) else {
-        return Attribute::Fault;
-    };
-    Attribute::Named {
+    let a = space(doc, at)?;
+    let e = name_by(classes, doc, a)?;
+    let v = eq(doc, e)?;
+    let end = value(doc, v)?;
+    Some(Attribute {
         name: a,
         len: e - a,
         end,
-    }
+    })
 }
 
 // The attributes from a place on.
 pub fn gather(classes: &Classes, doc: &[u8], at: usize) -> Attributes
-    requires { (classes.now ≡ class_table) × (at ≤ length doc.now) }
+    requires { at ≤ length doc.now }
     ensures { AttributesAre doc.now at result }
 {
     let mut starts = [0usize; Item::ATTRIBUTES];
@@ -106,16 +96,17 @@ pub fn gather(classes: &Classes, doc: &[u8], at: usize) -> Attributes
     let mut small = true;
     let mut twice = false;
     let mut i = at;
+    // Each turn goes on where the reader of an attribute ended, so the place is no count.
     loop {
         match next_attribute(classes, doc, i) {
-            Attribute::Named { name, len, end } => {
+            Some(Attribute { name, len, end }) => {
                 let again = note(doc, &mut starts, &mut lens, count, name, len);
                 twice = twice | again;
                 small = small & (len <= Item::NAME);
                 count += 1;
                 i = end;
             }
-            Attribute::Fault => {
+            None => {
                 return Attributes {
                     end: i,
                     small: (count <= Item::ATTRIBUTES) & small,

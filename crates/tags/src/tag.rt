@@ -1,16 +1,15 @@
 // [40] STag and [44] EmptyElemTag: `<`, a name, attributes, white space or none, and then `>` or `/>`.
 // Sizes are looked at once the tag has been read to its end.
 ghost use Rattle.std.specs.Prelude.{◌≡◌, cond};
-ghost use Rattle.points.specs.Class.{class_table};
 ghost use Rattle.tags.specs.Tag.{tag_at};
 ghost use Rattle.tags.specs.declared.Item.TheVariants.{Start, TooLarge};
 
 use crate::Item;
 use crate::gather::gather;
-use chars::name::{Reading, name_by};
+use chars::name::name_by;
 use chars::space::after_space;
 use chars::text::stands;
-use points::table::Classes;
+use points::class::Classes;
 
 // A tag within the sizes, or one that is too large.
 fn sized(small: bool, name: usize, head: usize, end: usize, empty: bool, twice: bool) -> Item
@@ -30,13 +29,12 @@ fn sized(small: bool, name: usize, head: usize, end: usize, empty: bool, twice: 
 
 // The start tag or empty tag at a place, or its fault.
 pub fn tag(classes: &Classes, doc: &[u8], at: usize) -> Item
-    requires { classes.now ≡ class_table }
     ensures { result ≡ tag_at doc.now at }
 {
     if !stands(doc, at, b"<") {
         return Item::Malformed;
     }
-    let Reading::Ends(e) = name_by(classes, doc, at + 1) else {
+    let Some(e) = name_by(classes, doc, at + 1) else {
         return Item::Malformed;
     };
     let held = gather(classes, doc, e);

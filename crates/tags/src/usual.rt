@@ -7,24 +7,21 @@
 //     <place name="A &amp; B">        left: a reference
 //     <pláce>                         left: a name that is not ASCII
 ghost use Rattle.std.specs.Prelude.{◌≡◌, ◌≤◌, ◌<◌, length};
-ghost use Rattle.points.specs.Class.{class_table};
 ghost use Rattle.tags.specs.Tag.{tag_at};
 ghost use Rattle.tags.specs.Usual.{ToldName, ToldMark, ToldAttribute, ToldTag};
 
 use crate::Item;
 use crate::gather::{Attribute, note};
 use crate::tag::tag;
-use chars::name::{Reading, ascii8};
+use chars::name::ascii8;
 use chars::text::stands;
 use instructions::steps::space;
-use points::class::starts;
-use points::table::Classes;
+use points::class::Classes;
 use scans::mark::before16;
 
 // Where the name at a place ends, if it has ASCII characters only and an ASCII byte follows, and words reach so far; else 0, which says
 // nothing.
 fn name_end(classes: &Classes, doc: &[u8], at: usize) -> usize
-    requires { classes.now ≡ class_table }
     ensures { ToldName doc.now at result }
 {
     if at >= doc.len() {
@@ -34,10 +31,11 @@ fn name_end(classes: &Classes, doc: &[u8], at: usize) -> usize
     if b >= 0x80 {
         return 0;
     }
-    if !starts(classes, b as u32) {
+    if !classes.starts(b as u32) {
         return 0;
     }
     let mut i = at;
+    // Each turn goes on where the word before ended or the name did, so the place is no count.
     while doc.len() - i >= 8 {
         let n = ascii8(doc, i);
         i += n;
@@ -57,6 +55,7 @@ fn value_end(doc: &[u8], at: usize, q: u8) -> usize
     ensures { ToldMark q doc.now at result }
 {
     let mut i = at;
+    // Each turn takes a block while one is left: a range by steps of 16 would need the place of the last, and be no plainer.
     while doc.len() - i >= 16 {
         let n = before16(doc, i, q);
         if n < 16 {
@@ -68,44 +67,41 @@ fn value_end(doc: &[u8], at: usize, q: u8) -> usize
 }
 
 // S Attribute at a place, as it mostly stands; else none, which says nothing.
-fn usual_attribute(classes: &Classes, doc: &[u8], at: usize) -> Attribute
-    requires { (classes.now ≡ class_table) × (at ≤ length doc.now) }
+fn usual_attribute(classes: &Classes, doc: &[u8], at: usize) -> Option<Attribute>
+    requires { at ≤ length doc.now }
     ensures { ToldAttribute doc.now at result }
 {
-    let Reading::Ends(a) = space(doc, at) else {
-        return Attribute::Fault;
-    };
+    let a = space(doc, at)?;
     let e = name_end(classes, doc, a);
     if e == 0 {
-        return Attribute::Fault;
+        return None;
     }
     if doc.len() - e < 2 {
-        return Attribute::Fault;
+        return None;
     }
     if doc[e] != b'=' {
-        return Attribute::Fault;
+        return None;
     }
     let q = doc[e + 1];
     if (q != 0x22) & (q != 0x27) {
-        return Attribute::Fault;
+        return None;
     }
     let z = value_end(doc, e + 2, q);
     if z >= doc.len() {
-        return Attribute::Fault;
+        return None;
     }
     if doc[z] != q {
-        return Attribute::Fault;
+        return None;
     }
-    Attribute::Named {
+    Some(Attribute {
         name: a,
         len: e - a,
         end: z + 1,
-    }
+    })
 }
 
 // The start tag or empty tag at a place, as it mostly stands; else a fault, which says nothing.
 fn usual_tag(classes: &Classes, doc: &[u8], at: usize) -> Item
-    requires { classes.now ≡ class_table }
     ensures { ToldTag doc.now at result }
 {
     if !stands(doc, at, b"<") {
@@ -123,6 +119,7 @@ fn usual_tag(classes: &Classes, doc: &[u8], at: usize) -> Item
     let mut lens = [0usize; Item::ATTRIBUTES];
     let mut count: usize = 0;
     let mut i = e;
+    // Each turn goes on where the reader of an attribute ended, so the place is no count.
     loop {
         if stands(doc, i, b">") {
             return Item::Start {
@@ -143,7 +140,7 @@ fn usual_tag(classes: &Classes, doc: &[u8], at: usize) -> Item
             };
         }
         match usual_attribute(classes, doc, i) {
-            Attribute::Named { name: a, len, end } => {
+            Some(Attribute { name: a, len, end }) => {
                 if len > Item::NAME {
                     return Item::Malformed;
                 }
@@ -156,7 +153,7 @@ fn usual_tag(classes: &Classes, doc: &[u8], at: usize) -> Item
                 count += 1;
                 i = end;
             }
-            Attribute::Fault => {
+            None => {
                 return Item::Malformed;
             }
         }
@@ -165,7 +162,6 @@ fn usual_tag(classes: &Classes, doc: &[u8], at: usize) -> Item
 
 // The start tag or empty tag at a place, or its fault.
 pub fn next_tag(classes: &Classes, doc: &[u8], at: usize) -> Item
-    requires { classes.now ≡ class_table }
     ensures { result ≡ tag_at doc.now at }
 {
     let told = usual_tag(classes, doc, at);

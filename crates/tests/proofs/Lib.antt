@@ -1,6 +1,5 @@
--- Laws: a place that is not 0; the path of a number, its test and what passes it;
+-- Laws: the path of a number, its test and what passes it;
 -- path by path to those that pass; whether there is a test; one answer.
-pub mod Some
 pub mod OnePath
 pub mod EachPath
 pub mod AnyTest

@@ -3,18 +3,18 @@
 use mathlib.Core.Path.{◌≡◌, refl, sym, ap, ap₂, ◌∙◌}
 use mathlib.Core.Bool.{Bool, true, false}
 use mathlib.Core.List.{List, [], ◌∷◌, ◌++◌, map}
-use mathlib.Core.Option.{Option, none, some}
+use mathlib.Core.Option.{Option as Maybe, none, some}
 use Prim.Native.Nat.{ℕ, zero, suc, ◌+◌, ◌-◌, ◌^◌, ◌≤◌, ◌<◌}
 use native.Mathlib.Omega.{arith}
 use borrow.Author.Tests.{ltb-true, ltb-false}
 use lib.Dec.{ltb}
 use lib.ListN.{length, take, drop, get_or, length-map, get_or-eq_default}
 use lib.Seq.{get_or-take, get_or-drop}
+use Rattle.std.specs.Prelude.{Option, None, Some}
 use Rattle.paths.specs.Path.{AttributeTest, Path}
 use Rattle.paths.specs.Place.{line_end_at}
 use Rattle.paths.specs.Judge.{list_paths}
 use Rattle.paths.specs.declared.LineEnd.{LineEnd}
-use Rattle.paths.specs.declared.LineEnd.TheVariants.{Ends, Fault}
 use Rattle.compiled.specs.Bits.{last_bit, lasts_of}
 use Rattle.compiled.specs.Compiled.{test_place, tests_of, tables_of}
 use Rattle.compiled.specs.Line.{AtPath}
@@ -135,7 +135,7 @@ module _ {d t : List ℕ} (s : Serves d t) {p : ℕ} (l : p < 32) where
     pub passes_untested : get_or t (18368 + p) 0 ≡ 0 → (xs : List Attribute) → true ≡ passes_at ps xs p
     passes_untested e xs = sym (passes_here xs ∙ go here.path.test (sym entry ∙ e))
       where
-        go : (x : Option AttributeTest) → test_place x (test_begins here.done here.path) ≡ 0 → passes_test x xs ≡ true
+        go : (x : Maybe AttributeTest) → test_place x (test_begins here.done here.path) ≡ 0 → passes_test x xs ≡ true
         go none q = refl
         go (some x) q = absurd (let z = test_some here in omega arith)
 
@@ -144,70 +144,57 @@ module _ {d t : List ℕ} (s : Serves d t) {p : ℕ} (l : p < 32) where
       path_test : PathTest d p (get_or t (18368 + p) 0)
       path_test = go here.path.test refl
         where
-          go : (x : Option AttributeTest) → here.path.test ≡ x → PathTest d p (get_or t (18368 + p) 0)
-          go none e = absurd (m (entry ∙ ap (λ (x : Option AttributeTest). test_place x (test_begins here.done here.path)) e))
+          go : (x : Maybe AttributeTest) → here.path.test ≡ x → PathTest d p (get_or t (18368 + p) 0)
+          go none e = absurd (m (entry ∙ ap (λ (x : Maybe AttributeTest). test_place x (test_begins here.done here.path)) e))
           go (some x) e =
               let z : get_or t (18368 + p) 0 ≡ test_begins here.done here.path =
-              entry ∙ ap (λ (x : Option AttributeTest). test_place x (test_begins here.done here.path)) e in
+              entry ∙ ap (λ (x : Maybe AttributeTest). test_place x (test_begins here.done here.path)) e in
               record {
                 test = x;
                 at = rw z (test_stands here x e);
-                passes = λ xs. passes_here xs ∙ ap (λ (x : Option AttributeTest). passes_test x xs) e;
+                passes = λ xs. passes_here xs ∙ ap (λ (x : Maybe AttributeTest). passes_test x xs) e;
               }
 
-      module _ {r : LineEnd} (q : r ≡ line_end_at d (get_or t (18368 + p) 0)) where
-        pub passes_fault : r ≡ Fault → (xs : List Attribute) → false ≡ passes_at ps xs p
+      module _ {r : Option LineEnd} (q : r ≡ line_end_at d (get_or t (18368 + p) 0)) where
+        pub passes_fault : r ≡ None → (xs : List Attribute) → false ≡ passes_at ps xs p
         passes_fault f xs =
-            let z : Fault ≡ Ends _ _ _ _ _ _ = sym f ∙ q ∙ path_test.at.ends in
+            let z : None ≡ Some path_test.at.end = sym f ∙ q ∙ path_test.at.ends in
             absurd (let y : ◌≡◌ {A = ℕ} 0 1 = cc in omega arith)
 
-        module _ {a j v k : ℕ} {mark : Bool} {next : ℕ} (f : r ≡ Ends a j v k mark next) where
+        module _ {y : LineEnd} (f : r ≡ Some y) where
           abbrev here_at : TestAt d (get_or t (18368 + p) 0) path_test.test
           here_at = path_test.at
 
-          same : Ends a j v k mark next
-              ≡ Ends here_at.name (length path_test.test.name) here_at.value (length path_test.test.value) here_at.marked
-              here_at.next
-          same = sym f ∙ q ∙ here_at.ends
+          same : y ≡ here_at.end
+          same = let z : Some y ≡ Some here_at.end = sym f ∙ q ∙ here_at.ends in cc
 
-          pub name_fits : a + j ≤ length d
-          name_fits =
-              let x : a ≡ here_at.name = let z = same in cc in
-              let y : j ≡ length path_test.test.name = let z = same in cc in
-              let i = here_at.name_in in
-              omega arith
+          pub name_fits : y.name + y.len ≤ length d
+          name_fits = rw same here_at.name_in
 
-          pub value_fits : v + k ≤ length d
-          value_fits =
-              let x : v ≡ here_at.value = let z = same in cc in
-              let y : k ≡ length path_test.test.value = let z = same in cc in
-              let i = here_at.value_in in
-              omega arith
+          pub value_fits : y.value + y.size ≤ length d
+          value_fits = rw same here_at.value_in
 
           -- and the sums fit 64 bits
           small : length d < 2 ^ 64
           small = let b = sound_bytes d s.sound in let p : 2 ^ 64 ≡ 18446744073709551616 = refl in omega arith
 
-          pub name_sum : a + j < 2 ^ 64
+          pub name_sum : y.name + y.len < 2 ^ 64
           name_sum = let i = name_fits in let b = small in omega arith
 
-          pub value_sum : v + k < 2 ^ 64
+          pub value_sum : y.value + y.size < 2 ^ 64
           value_sum = let i = value_fits in let b = small in omega arith
 
           part : (i o : ℕ) → take (i + o - i) (drop i d) ≡ take o (drop i d)
           part i o = let z : i + o - i ≡ o = omega arith in rw z
 
           pub passes_tested : (xs : List Attribute) {b : Bool}
-              → b ≡ has_attribute xs (take (a + j - a) (drop a d)) (take (v + k - v) (drop v d)) → b ≡ passes_at ps xs p
+              → b ≡ has_attribute xs (take (y.name + y.len - y.name) (drop y.name d)) (take (y.value + y.size - y.value) (drop y.value d))
+              → b ≡ passes_at ps xs p
           passes_tested xs {b} h =
-              let x : a ≡ here_at.name = let z = same in cc in
-              let y : j ≡ length path_test.test.name = let z = same in cc in
-              let u : v ≡ here_at.value = let z = same in cc in
-              let w : k ≡ length path_test.test.value = let z = same in cc in
-              let g : take (a + j - a) (drop a d) ≡ path_test.test.name =
-              part a j ∙ ap₂ (λ (o i : ℕ). take o (drop i d)) y x ∙ here_at.named in
-              let e : take (v + k - v) (drop v d) ≡ path_test.test.value =
-              part v k ∙ ap₂ (λ (o i : ℕ). take o (drop i d)) w u ∙ here_at.valued in
+              let g : take (y.name + y.len - y.name) (drop y.name d) ≡ path_test.test.name =
+              part y.name y.len ∙ ap (λ (x : LineEnd). take x.len (drop x.name d)) same ∙ here_at.named in
+              let e : take (y.value + y.size - y.value) (drop y.value d) ≡ path_test.test.value =
+              part y.value y.size ∙ ap (λ (x : LineEnd). take x.size (drop x.value d)) same ∙ here_at.valued in
               h ∙ ap₂ (has_attribute xs) g e ∙ sym (path_test.passes xs)
 
 pub ruleset by_path = (passes_past, passes_untested, passes_fault, name_fits, value_fits, name_sum, value_sum, passes_tested)

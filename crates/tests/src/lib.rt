@@ -3,7 +3,6 @@
 #![tactic(auto)]
 
 ghost use Rattle.std.specs.Prelude.{◌≡◌, ◌-◌, ◌^◌, ◌<◌, length, take, drop};
-ghost use Rattle.points.specs.Class.{class_table};
 ghost use Rattle.paths.specs.Judge.{list_paths};
 ghost use Rattle.attributes.specs.Held.{attributes_in};
 ghost use Rattle.matcher.specs.Fit.{Serves};
@@ -12,21 +11,14 @@ ghost use Rattle.tests.specs.Passing.{some_place, passes_at};
 
 use attribute::has::has;
 use compiled::{Compiled, layout};
-use paths::{LineEnd, end_at};
-use points::table::Classes;
+use paths::end_at;
+use points::class::Classes;
 
 // Whether one of the places is not 0.
 fn some_place(places: &[u16]) -> bool
     ensures { result ≡ some_place places.now }
 {
-    let mut i: usize = 0;
-    while i < places.len() {
-        if places[i] != 0 {
-            return true;
-        }
-        i += 1;
-    }
-    false
+    places.iter().any(|place| *place != 0)
 }
 
 // Whether a path of the list has a test.
@@ -39,7 +31,7 @@ pub fn any(t: &Compiled) -> bool
 
 // Whether there is a path p, and the tag passes its test or it has none.
 fn passes(classes: &Classes, list: &[u8], t: &[u16], tag: &[u8], p: usize) -> bool
-    requires { (classes.now ≡ class_table) × Serves list.now t.now × (length t.now ≡ 18400) × (p < 32) }
+    requires { Serves list.now t.now × (length t.now ≡ 18400) × (p < 32) }
     ensures { result ≡ passes_at (list_paths list.now) (attributes_in 0 tag.now) p }
 {
     if t[layout::LASTS + p] == 0 {
@@ -50,19 +42,14 @@ fn passes(classes: &Classes, list: &[u8], t: &[u16], tag: &[u8], p: usize) -> bo
         return true;
     }
     match end_at(list, place) {
-        LineEnd::Ends {
-            name,
-            len,
-            value,
-            size,
-            marked: _,
-            next: _,
-        } => {
-            let name_end = name + len;
-            let value_end = value + size;
+        Some(end) => {
+            let name = end.name;
+            let name_end = name + end.len;
+            let value = end.value;
+            let value_end = value + end.size;
             has(classes, tag, &list[name..name_end], &list[value..value_end])
         }
-        LineEnd::Fault => false,
+        None => false,
     }
 }
 
@@ -76,7 +63,7 @@ fn passing_from(
     tag: &[u8],
     p: usize,
 ) -> u32
-    requires { (classes.now ≡ class_table) × Serves list.now t.now × (length t.now ≡ 18400) × (selecting < 2 ^ (32 - p)) }
+    requires { Serves list.now t.now × (length t.now ≡ 18400) × (selecting < 2 ^ (32 - p)) }
     ensures { result ≡ passing_of (drop p (list_paths list.now)) selecting (attributes_in 0 tag.now) }
 {
     if selecting == 0 {
@@ -95,7 +82,7 @@ fn passing_from(
 // Of the paths whose steps select an element, those whose test its tag passes or that have none: bit p is path p's. The tests of the paths
 // that select alone are tried; bits past the last path say nothing, and are 0 in the answer.
 pub fn passing(classes: &Classes, list: &[u8], t: &Compiled, selecting: u32, tag: &[u8]) -> u32
-    requires { (classes.now ≡ class_table) × Serves list.now t.now }
+    requires { Serves list.now t.now }
     ensures { result ≡ passing_of (list_paths list.now) selecting (attributes_in 0 tag.now) }
 {
     let s = &t[..];

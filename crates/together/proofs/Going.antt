@@ -6,6 +6,7 @@ use mathlib.Core.List.{List}
 use Prim.Native.Nat.{ℕ, ◌-◌, ◌≤◌, ◌<◌}
 use native.Mathlib.Omega.{arith}
 use lib.ListN.{length, replicate, length-replicate}
+use Rattle.std.specs.Prelude.{Ok, Err}
 use Rattle.document.specs.Levels.{Names}
 use Rattle.document.specs.Judge.{start_of}
 use Rattle.document.specs.declared.Open.{Open}
@@ -13,8 +14,7 @@ use Rattle.document.specs.declared.Placement.TheVariants as placed
 use Rattle.document.specs.declared.Why.{Why}
 use Rattle.document.proofs.Judging.{judge_start}
 use Rattle.passes.specs.Opens.{Opens}
-use Rattle.passes.specs.declared.Outcome.{Outcome}
-use Rattle.passes.specs.declared.Outcome.TheVariants.{Fine, Fault}
+use Rattle.passes.specs.declared.Measured.{Measured}
 use Rattle.passes.proofs.Telling.{opens_none}
 use Rattle.tape.specs.Taped.{Spot, spot_of, behind}
 use Rattle.reel.specs.Reeling.{Reeling, Stopped, placed_at}
@@ -142,8 +142,9 @@ module _ {live counts : Bool} {list d o₀ g₀ starts lens : List ℕ} {s : Sea
       long false z = (ap length (h.stays z).3, ap length (h.stays z).4)
 
   -- the document is over
-  pub go_over : placed_at d here ≡ placed.Over → {x : Outcome}
-      → x ≡ Fine s.run.len s.run.count s.tests s.run.noted → PassedFor live counts list d o₀ g₀ x o g
+  pub go_over : placed_at d here ≡ placed.Over → {m : Measured}
+      → m ≡ record { length = s.run.len; selected = s.run.count; tests = s.tests; noted = s.run.noted }
+      → PassedFor live counts list d o₀ g₀ (Ok m) o g
   go_over h e =
       record {
         passed = λ z. rw e (seated_over (v.seated z) refl refl (ap (placed_at d) (v.spot z) ∙ h));
@@ -152,7 +153,7 @@ module _ {live counts : Bool} {list d o₀ g₀ starts lens : List ℕ} {s : Sea
 
   -- the next item is at fault
   pub go_fault : (why : Why) → placed_at d here ≡ placed.Fault why → {at : ℕ} → at ≡ here.at
-      → PassedFor live counts list d o₀ g₀ (Fault why at) o g
+      → PassedFor live counts list d o₀ g₀ (Err (record { why = why; at = at })) o g
   go_fault why h {at} e =
       record {
         passed = λ z.
@@ -172,14 +173,15 @@ module _ {d : List ℕ} {here : Spot} {starts lens tape : List ℕ} {opened : Op
   pub next_going : Going live counts list d o₀ g₀ starts₂ lens₂ r o' g' (spot_of d starts lens opened at first)
   next_going = go_on v h (read_lies l) l.spot
 
-  pub next_over : {x : Stop} → Stopped d here items tags x → x ≡ stop.Over → {y : Outcome}
-      → y ≡ Fine r.run.len r.run.count r.tests r.run.noted → PassedFor live counts list d o₀ g₀ y o' g'
+  pub next_over : {x : Stop} → Stopped d here items tags x → x ≡ stop.Over → {m : Measured}
+      → m ≡ record { length = r.run.len; selected = r.run.count; tests = r.tests; noted = r.run.noted }
+      → PassedFor live counts list d o₀ g₀ (Ok m) o' g'
   next_over p q e =
       let w : Stopped d here items tags stop.Over = rw q at p in
       go_over next_going (ap (placed_at d) l.spot ∙ w.1) e
 
   pub next_fault : {x : Stop} → Stopped d here items tags x → (why : Why) → x ≡ stop.Fault why
-      → PassedFor live counts list d o₀ g₀ (Fault why at) o' g'
+      → PassedFor live counts list d o₀ g₀ (Err (record { why = why; at = at })) o' g'
   next_fault p why q =
       let w : Stopped d here items tags (stop.Fault why) = rw q at p in
       go_fault next_going why (ap (placed_at d) l.spot ∙ w.1) refl

@@ -5,20 +5,23 @@ use mathlib.Core.Path.{◌≡◌, sym, ◌∙◌}
 use mathlib.Core.Bool.{Bool, true, false}
 use mathlib.Core.List.{List}
 use Prim.Native.Nat.{ℕ}
+use Rattle.std.specs.Prelude.{Result, Ok}
 use Rattle.document.specs.Judge.{scanned}
-use Rattle.document.specs.declared.judge.Judged.TheVariants.{Sound}
+use Rattle.document.specs.declared.ItemError.{ItemError}
 use Rattle.notes.specs.Alike.{Alike}
-use Rattle.passes.specs.declared.Outcome.{Outcome}
+use Rattle.passes.specs.declared.Measured.{Measured}
 use Rattle.passes.proofs.OneAnswer.{unnoted, Same, outcome_one, sound_one}
 use Rattle.together.specs.Joined.{PassedFor}
 use Rattle.together.proofs.pass_of_four.Reads as pass_of_four
 
-pub record SameFor (live : Bool) (d : List ℕ) (r : Outcome) (o g : List ℕ) (r' : Outcome) (o' g' : List ℕ) : Type 0 where
+pub record SameFor (live : Bool) (d : List ℕ) (r : Result Measured ItemError) (o g : List ℕ) (r' : Result Measured ItemError)
+    (o' g' : List ℕ) : Type 0 where
   pub outcome : live ≡ true → unnoted r ≡ unnoted r'
-  pub sound : live ≡ true → scanned d ≡ Sound → Same d r o g r' o' g'
+  pub sound : live ≡ true → scanned d ≡ Ok tt → Same d r o g r' o' g'
   pub stays : live ≡ false → (o ≡ o') × (g ≡ g')
 
-client_one : (live counts : Bool) (list d o₀ g₀ : List ℕ) (r r' : Outcome) (o g o' g' : List ℕ) → PassedFor live counts list d o₀ g₀ r o g
+client_one : (live counts : Bool) (list d o₀ g₀ : List ℕ) (r r' : Result Measured ItemError) (o g o' g' : List ℕ)
+    → PassedFor live counts list d o₀ g₀ r o g
     → PassedFor live counts list d o₀ g₀ r' o' g' → SameFor live d r o g r' o' g'
 client_one live counts list d o₀ g₀ r r' o g o' g' p q =
     record {

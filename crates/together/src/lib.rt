@@ -11,15 +11,13 @@
 #![tactic(auto)]
 
 ghost use Rattle.std.specs.Prelude.{◌≡◌, ◌≤◌, length};
-ghost use Rattle.points.specs.Class.{class_table};
-ghost use Rattle.passes.specs.declared.Outcome.TheVariants.{Fine};
 ghost use Rattle.together.specs.Joined.{Joins, PassedFor};
 
 use compiled::Compiled;
-use document::Open;
 use document::judge::start_of;
-use passes::Outcome;
-use points::table::Classes;
+use document::{ItemError, Open};
+use passes::Measured;
+use points::class::Classes;
 use reel::{Stop, items};
 use seats::seat::{Seat, through};
 use tape::TAGS;
@@ -27,18 +25,28 @@ use tape::TAGS;
 // What the pass comes to for each client.
 #[derive(Drop)]
 pub struct Outcomes {
-    pub first: Outcome,
-    pub second: Outcome,
-    pub third: Outcome,
-    pub fourth: Outcome,
+    pub first: Result<Measured, ItemError>,
+    pub second: Result<Measured, ItemError>,
+    pub third: Result<Measured, ItemError>,
+    pub fourth: Result<Measured, ItemError>,
 }
 
 // The document is over: what a client has.
-fn ended(seat: Seat) -> Outcome
-    ensures { result ≡ Fine seat.run.len seat.run.count seat.tests seat.run.noted }
+fn ended(seat: Seat) -> Measured
+    ensures { result ≡ record {
+      length = seat.run.len;
+      selected = seat.run.count;
+      tests = seat.tests;
+      noted = seat.run.noted;
+    } }
 {
     let run = seat.run;
-    Outcome::Fine(run.len, run.count, seat.tests, run.noted)
+    Measured {
+        length: run.len,
+        selected: run.count,
+        tests: seat.tests,
+        noted: run.noted,
+    }
 }
 
 // By the tables of the lists of the clients that take part. Name tests are counted where that is asked for. The outcome of a client that
@@ -68,15 +76,15 @@ pub fn pass_of_four(
     g3: &mut [u64],
     g4: &mut [u64],
 ) -> Outcomes
-    requires { (table.now ≡ class_table) × (length doc.now ≤ 16777216) × Joins w1 l1.now t1.now g1.old
+    requires { (length doc.now ≤ 16777216) × Joins w1 l1.now t1.now g1.old
         × Joins w2 l2.now t2.now g2.old × Joins w3 l3.now t3.now g3.old × Joins w4 l4.now t4.now g4.old }
-    ensures passed_for { PassedFor w1 counts l1.now doc.now o1.old g1.old
+    ensures first_passed { PassedFor w1 counts l1.now doc.now o1.old g1.old
         result.first o1.new g1.new }
-    ensures passed_for_2 { PassedFor w2 counts l2.now doc.now o2.old g2.old
+    ensures second_passed { PassedFor w2 counts l2.now doc.now o2.old g2.old
         result.second o2.new g2.new }
-    ensures passed_for_3 { PassedFor w3 counts l3.now doc.now o3.old g3.old
+    ensures third_passed { PassedFor w3 counts l3.now doc.now o3.old g3.old
         result.third o3.new g3.new }
-    ensures passed_for_4 { PassedFor w4 counts l4.now doc.now o4.old g4.old
+    ensures fourth_passed { PassedFor w4 counts l4.now doc.now o4.old g4.old
         result.fourth o4.new g4.new }
 {
     let mut tape = [0usize; 5 * TAGS];
@@ -98,6 +106,7 @@ pub fn pass_of_four(
     let mut s2 = none;
     let mut s3 = none;
     let mut s4 = none;
+    // Each turn goes on where the reader stopped on the tape before, so the place is no count.
     loop {
         let read = items(
             table,
@@ -186,11 +195,12 @@ pub fn pass_of_four(
         let stop = read.stop;
         match stop {
             Stop::Fault(why) => {
+                let fault = ItemError { why, at };
                 return Outcomes {
-                    first: Outcome::Fault(why, at),
-                    second: Outcome::Fault(why, at),
-                    third: Outcome::Fault(why, at),
-                    fourth: Outcome::Fault(why, at),
+                    first: Err(fault),
+                    second: Err(fault),
+                    third: Err(fault),
+                    fourth: Err(fault),
                 };
             }
             Stop::Over => {
@@ -199,10 +209,10 @@ pub fn pass_of_four(
                 let e3 = ended(s3);
                 let e4 = ended(s4);
                 return Outcomes {
-                    first: e1,
-                    second: e2,
-                    third: e3,
-                    fourth: e4,
+                    first: Ok(e1),
+                    second: Ok(e2),
+                    third: Ok(e3),
+                    fourth: Ok(e4),
                 };
             }
             Stop::Full => {}

@@ -8,6 +8,7 @@ use Prim.Native.Nat.{ℕ, zero, suc, ◌+◌, ◌-◌, ◌≤◌, ◌<◌}
 use native.Mathlib.Omega.{arith}
 use lib.ListN.{length, drop, take-append-drop}
 use lib.Seq.{drop-drop}
+use Rattle.std.specs.Prelude.{Ok}
 use Rattle.xml.specs.Forest.{Forest, nil, other, elem, render}
 use Rattle.items.specs.Item.{item_at}
 use Rattle.items.specs.Inside.{Inside}
@@ -18,7 +19,6 @@ use Rattle.items.proofs.Insides.{item_inside}
 use Rattle.document.specs.Place.{Opened, placement, after_item, end_of}
 use Rattle.document.specs.Judge.{start_of, nothing, scanned}
 use Rattle.document.specs.declared.Placement.TheVariants.{Fine, Over}
-use Rattle.document.specs.declared.judge.Judged.TheVariants.{Sound}
 use Rattle.trees.specs.Grown.{Token, start, finish, aside, part, tag_of, started, item_tokens, tokens_from, tokens_of, forest_of, tokens}
 use Rattle.trees.proofs.Passes.{Passes, scan_passes, over_fine, over_nothing}
 use Rattle.trees.proofs.Nested.{sound_tokens}
@@ -87,7 +87,7 @@ passes_spelled (suc k) d at first s (inr (q, h)) =
     let i = item_at first d at in
     item_spelled d at i s _ (item_inside first d at) q (passes_spelled k d (end_of at i) false (after_item d at i s) h)
 
-pub forest_bytes : (d : List ℕ) → scanned d ≡ Sound → render (forest_of d) ≡ drop (start_of d) d
+pub forest_bytes : (d : List ℕ) → scanned d ≡ Ok tt → render (forest_of d) ≡ drop (start_of d) d
 unfolding scanned tokens_of
 forest_bytes d e =
     let n = suc (length d) in

@@ -5,6 +5,7 @@ use mathlib.Core.List.{List, [], ◌∷◌}
 use mathlib.Core.Logic.{inl, inr}
 use Prim.Native.Nat.{ℕ, zero, suc, ◌+◌}
 use lib.ListN.{length}
+use Rattle.std.specs.Prelude.{Ok}
 use Rattle.xml.specs.Forest.{Tag}
 use Rattle.tags.specs.Kept.{name_from}
 use Rattle.items.specs.Item.{item_at}
@@ -14,7 +15,6 @@ use Rattle.tags.specs.declared.Item.TheVariants.{Doctype, Malformed, TooLarge, N
 use Rattle.document.specs.Place.{Opened, opens, closes, closed, formed, placement, after_item, end_of}
 use Rattle.document.specs.Judge.{start_of, nothing, scanned}
 use Rattle.document.specs.declared.Placement.TheVariants.{Fine, Over}
-use Rattle.document.specs.declared.judge.Judged.TheVariants.{Sound}
 use Rattle.trees.specs.Grown.{Token, finish, part, tag_of, started, item_tokens, tokens_from, tokens_of, forest_of, tokens}
 use Rattle.trees.proofs.Grown.{nested, grown_tokens}
 use Rattle.trees.proofs.Passes.{Passes, scan_passes, over_fine, over_nothing, over_closed}
@@ -64,10 +64,10 @@ passes_nested (suc k) d at first s (inr (q, h)) =
     let i = item_at first d at in
     item_nested d at i s _ q (passes_nested k d (end_of at i) false (after_item d at i s) h)
 
-pub sound_nested : (d : List ℕ) → scanned d ≡ Sound → nested 0 (tokens_of d) ≡ true
+pub sound_nested : (d : List ℕ) → scanned d ≡ Ok tt → nested 0 (tokens_of d) ≡ true
 unfolding scanned tokens_of
 sound_nested d e = passes_nested (suc (length d)) d (start_of d) true nothing (scan_passes (suc (length d)) d (start_of d) true nothing e)
 
-pub sound_tokens : (d : List ℕ) → scanned d ≡ Sound → tokens (forest_of d) [] ≡ tokens_of d
+pub sound_tokens : (d : List ℕ) → scanned d ≡ Ok tt → tokens (forest_of d) [] ≡ tokens_of d
 unfolding forest_of
 sound_tokens d e = grown_tokens (tokens_of d) (sound_nested d e)

@@ -2,7 +2,7 @@
 use mathlib.Core.Path.{◌≡◌, refl, ap}
 use mathlib.Core.Bool.{Bool, true, false, cond}
 use mathlib.Core.List.{List, [], ◌∷◌}
-use mathlib.Core.Option.{Option, none, some}
+use mathlib.Core.Option.{Option as Maybe, none, some}
 use Prim.Native.Nat.{ℕ}
 use lib.Dec.{leb}
 use lib.ListN.{length, drop}
@@ -11,8 +11,7 @@ use Rattle.readers.specs.Plain.{text_of, comment_of, section_of}
 use Rattle.readers.specs.Value.{reference_of}
 use Rattle.readers.specs.Named.{Piece, Tag, instruction_of, declaration_of, tag_of, end_tag_of, small_tag}
 use Rattle.references.specs.Say.{saying_at}
-use Rattle.references.specs.declared.reference.Saying.{Saying}
-use Rattle.references.specs.declared.reference.Saying.TheVariants.{Says, Fault as NoReference}
+use Rattle.std.specs.Prelude.{Option, Some, None}
 use Rattle.items.specs.Item.{Kind, declaration, instruction, comment, section, doctype, finish, start, reference, text, nothing}
 use Rattle.tags.specs.Tag.{start_by, tag_at, finish_by, end_tag_at}
 use Rattle.items.specs.Item.{kind_of, item_by, reference_item, item_of, item_at}
@@ -60,23 +59,23 @@ is_item TooLarge = true
 is_item Nothing = false
 
 module _ (d : List ℕ) (at : ℕ) where
-  read_item : (f : ℕ → Item) (o : Option (List ℕ)) → ((e : ℕ) → is_item (f e) ≡ true) → is_item (item_by f d at o) ≡ true
+  read_item : (f : ℕ → Item) (o : Maybe (List ℕ)) → ((e : ℕ) → is_item (f e) ≡ true) → is_item (item_by f d at o) ≡ true
   read_item f none h = refl
   read_item f (some t) h = h _
 
-  said_item : (r : Saying) → is_item (reference_item r) ≡ true
-  said_item (Says c e) = refl
-  said_item NoReference = refl
+  said_item : (r : Option (ℕ × ℕ)) → is_item (reference_item r) ≡ true
+  said_item (Some (c, e)) = refl
+  said_item None = refl
 
   sized_item : (b : Bool) (i : Item) → is_item i ≡ true → is_item (cond b i TooLarge) ≡ true
   sized_item true i h = h
   sized_item false i h = refl
 
-  tag_item : (o : Option Tag) → is_item (start_by d at o) ≡ true
+  tag_item : (o : Maybe Tag) → is_item (start_by d at o) ≡ true
   tag_item none = refl
   tag_item (some v) = sized_item (small_tag v) _ refl
 
-  end_tag_item : (o : Option Piece) → is_item (finish_by d at o) ≡ true
+  end_tag_item : (o : Maybe Piece) → is_item (finish_by d at o) ≡ true
   end_tag_item none = refl
   end_tag_item (some v) = sized_item (leb (length v.name) 255) _ refl
 

@@ -7,6 +7,7 @@ use mathlib.Core.Logic.{◌⊎◌, inl, inr}
 use Prim.Native.Nat.{ℕ, zero, suc, ◌+◌}
 use lib.Dec.{leb}
 use lib.ListN.{length}
+use Rattle.std.specs.Prelude.{Result, Ok, Err, ⊤}
 use Rattle.tags.specs.Kept.{name_from}
 use Rattle.items.specs.Item.{item_at}
 use Rattle.tags.specs.declared.Item.{Item}
@@ -18,8 +19,8 @@ use Rattle.document.specs.declared.Placement.{Placement}
 use Rattle.document.specs.declared.Placement.TheVariants.{Fine, Fault, Over}
 use Rattle.document.specs.declared.Why.{Why}
 use Rattle.document.specs.declared.Why.TheVariants.{Malformed as NotFormed}
-use Rattle.document.specs.declared.judge.Judged.{Judged}
-use Rattle.document.specs.declared.judge.Judged.TheVariants.{Sound, AtFault}
+use Rattle.document.specs.declared.DocumentError.{DocumentError}
+use Rattle.document.specs.declared.DocumentError.TheVariants.{At}
 
 abbrev pub Passes : ℕ → List ℕ → ℕ → Bool → Opened → Type 0
 Passes zero d at first s = ⊥
@@ -27,17 +28,18 @@ Passes (suc k) d at first s =
     let i = item_at first d at in
     (placement d at i s ≡ Over) ⊎ ((placement d at i s ≡ Fine) × Passes k d (end_of at i) false (after_item d at i s))
 
-fault_sound : {A : Type 0} (why : Why) (at : ℕ) → AtFault why at ≡ Sound → A
+fault_sound : {A : Type 0} (why : Why) (at : ℕ) → ◌≡◌ {A = Result ⊤ DocumentError} (Err (At why at)) (Ok tt) → A
 fault_sound why at e = absurd (false≢true cc)
 
-pub scan_passes : (k : ℕ) (d : List ℕ) (at : ℕ) (first : Bool) (s : Opened) → scan_from k d at first s ≡ Sound → Passes k d at first s
+pub scan_passes : (k : ℕ) (d : List ℕ) (at : ℕ) (first : Bool) (s : Opened) → scan_from k d at first s ≡ Ok tt → Passes k d at first s
 unfolding scan_from
 scan_passes zero d at first s e = fault_sound _ at e
 scan_passes (suc k) d at first s e =
     let i = item_at first d at in
     go (placement d at i s) refl e (scan_passes k d (end_of at i) false (after_item d at i s))
   where
-    go : {next : Judged} {Rest : Type 0} (p : Placement) {q : Placement} → q ≡ p → onward p at next ≡ Sound → (next ≡ Sound → Rest)
+    go : {next : Result ⊤ DocumentError} {Rest : Type 0} (p : Placement) {q : Placement} → q ≡ p → onward p at next ≡ Ok tt
+        → (next ≡ Ok tt → Rest)
         → (q ≡ Over) ⊎ ((q ≡ Fine) × Rest)
     go Fine q e r = inr (q, r e)
     go (Fault why) q e r = fault_sound why at e

@@ -5,10 +5,10 @@ use mathlib.Core.Bool.{true, false}
 use mathlib.Core.List.{List, [], ◌∷◌}
 use Prim.Native.Nat.{ℕ, ◌+◌}
 use native.Mathlib.Omega.{arith}
+use Rattle.std.specs.Prelude.{Ok}
 use Rattle.xml.specs.Forest.{Name, Forest, nil, other, elem}
 use Rattle.paths.specs.Judge.{list_paths}
 use Rattle.document.specs.Judge.{scanned}
-use Rattle.document.specs.declared.judge.Judged.TheVariants.{Sound}
 use Rattle.matcher.specs.declared.Verdict.{Verdict}
 use Rattle.matcher.specs.declared.Verdict.TheVariants.{Unselected, Selected, Marked}
 use Rattle.trees.specs.Cut.{tally}
@@ -18,7 +18,7 @@ use Rattle.trees.specs.Engine.{Engine, engine, begun, run, open_of, on_start, on
 use Rattle.trees.proofs.Engine.{engine-cut}
 use Rattle.trees.proofs.Nested.{sound_tokens}
 
-pub run_cut : (list d : List ℕ) → scanned d ≡ Sound
+pub run_cut : (list d : List ℕ) → scanned d ≡ Ok tt
     → run (verdicts (list_paths list)) (tokens_of d) begun ≡ engine false [] [] (cut_of list d) (count_of list d)
 unfolding cut_of count_of
 run_cut list d e =
@@ -36,7 +36,7 @@ tallied_forest f (elem t kids close rest) up ts =
     let b = tallied_forest f rest up ts in
     omega arith
 
-pub run_tests : (list d : List ℕ) → scanned d ≡ Sound → tallied (name_tests (list_paths list)) (tokens_of d) [] ≡ tests_of list d
+pub run_tests : (list d : List ℕ) → scanned d ≡ Ok tt → tallied (name_tests (list_paths list)) (tokens_of d) [] ≡ tests_of list d
 unfolding tests_of
 run_tests list d e =
     let f = name_tests (list_paths list) in

@@ -7,8 +7,7 @@ use Rattle.xml.specs.Utf8.{utf8, is_scalar}
 use Rattle.xml.specs.Notation.{bytes}
 use Rattle.xml.specs.Character.{value_of, guess, character}
 use Rattle.utf8.specs.Sequence.{sequence_at}
-use Rattle.utf8.specs.declared.Sequence.{Sequence}
-use Rattle.utf8.specs.declared.Sequence.TheVariants.{Point, Bad}
+use Rattle.std.specs.Prelude.{Option, Some, None}
 
 -- a text, a place in it and the answer there
 pub record Row (A : Type 0) : Type 0 where
@@ -28,23 +27,23 @@ abbrev pub expected : {A : Type 0} → List (Row A) → List A
 expected = map (λ r. r.answer)
 
 -- one-byte characters, é, €, 😀 and the last of each size; then overlong forms, a surrogate, past U+10FFFF, cut off, a lone later byte
-pub sequences : List (Row Sequence)
+pub sequences : List (Row (Option (ℕ × ℕ)))
 sequences =
-    (bytes "ab" at 1 gives Point 0x62 2)
-    ∷ ((0xC3 ∷ 0xA9 ∷ []) at 0 gives Point 0xE9 2)
-    ∷ ((0xE2 ∷ 0x82 ∷ 0xAC ∷ []) at 0 gives Point 0x20AC 3)
-    ∷ ((0x61 ∷ 0xF0 ∷ 0x9F ∷ 0x98 ∷ 0x80 ∷ []) at 1 gives Point 0x1F600 5)
-    ∷ ((0xEF ∷ 0xBF ∷ 0xBF ∷ []) at 0 gives Point 0xFFFF 3)
-    ∷ ((0xF4 ∷ 0x8F ∷ 0xBF ∷ 0xBF ∷ []) at 0 gives Point 0x10FFFF 4)
-    ∷ ((0xC0 ∷ 0x80 ∷ []) at 0 gives Bad)
-    ∷ ((0xE0 ∷ 0x9F ∷ 0xBF ∷ []) at 0 gives Bad)
-    ∷ ((0xF0 ∷ 0x8F ∷ 0xBF ∷ 0xBF ∷ []) at 0 gives Bad)
-    ∷ ((0xED ∷ 0xA0 ∷ 0x80 ∷ []) at 0 gives Bad)
-    ∷ ((0xF4 ∷ 0x90 ∷ 0x80 ∷ 0x80 ∷ []) at 0 gives Bad)
-    ∷ ((0xE2 ∷ 0x82 ∷ []) at 0 gives Bad)
-    ∷ ((0xC3 ∷ 0xA9 ∷ []) at 1 gives Bad)
-    ∷ (bytes "ab" at 2 gives Bad)
-    ∷ (bytes "ab" at 9 gives Bad)
+    (bytes "ab" at 1 gives Some (0x62, 2))
+    ∷ ((0xC3 ∷ 0xA9 ∷ []) at 0 gives Some (0xE9, 2))
+    ∷ ((0xE2 ∷ 0x82 ∷ 0xAC ∷ []) at 0 gives Some (0x20AC, 3))
+    ∷ ((0x61 ∷ 0xF0 ∷ 0x9F ∷ 0x98 ∷ 0x80 ∷ []) at 1 gives Some (0x1F600, 5))
+    ∷ ((0xEF ∷ 0xBF ∷ 0xBF ∷ []) at 0 gives Some (0xFFFF, 3))
+    ∷ ((0xF4 ∷ 0x8F ∷ 0xBF ∷ 0xBF ∷ []) at 0 gives Some (0x10FFFF, 4))
+    ∷ ((0xC0 ∷ 0x80 ∷ []) at 0 gives None)
+    ∷ ((0xE0 ∷ 0x9F ∷ 0xBF ∷ []) at 0 gives None)
+    ∷ ((0xF0 ∷ 0x8F ∷ 0xBF ∷ 0xBF ∷ []) at 0 gives None)
+    ∷ ((0xED ∷ 0xA0 ∷ 0x80 ∷ []) at 0 gives None)
+    ∷ ((0xF4 ∷ 0x90 ∷ 0x80 ∷ 0x80 ∷ []) at 0 gives None)
+    ∷ ((0xE2 ∷ 0x82 ∷ []) at 0 gives None)
+    ∷ ((0xC3 ∷ 0xA9 ∷ []) at 1 gives None)
+    ∷ (bytes "ab" at 2 gives None)
+    ∷ (bytes "ab" at 9 gives None)
     ∷ []
 
 pub sequences_computed : answers sequence_at sequences ≡ expected sequences

@@ -16,7 +16,7 @@ use Rattle.xml.specs.Character.{guess, value_of}
 use Rattle.xml.proofs.Bools.{and_left, and_right, inside_bounds}
 use Rattle.xml.proofs.Utf8.{size_one, size_two, size_three, size_four}
 use Rattle.xml.proofs.Character.{formed_character, unformed_character, character_size, character_nil}
-use Rattle.utf8.specs.declared.Sequence.TheVariants.{Point, Bad}
+use Rattle.std.specs.Prelude.{Some, None}
 use Rattle.utf8.proofs.Place.{drop_step, drop_end}
 use Rattle.utf8.specs.Sequence.{seconds, cells_in, cells_of, formed_by, formed, sequence_at}
 
@@ -177,7 +177,7 @@ formed_taken a w = go (ltb a 0x80) (ltb a 0xE0) (ltb a 0xF0) refl refl refl
 
 -- ---- `sequence_at`
 
-pub point_end : (d : List ℕ) (at : ℕ) → length d ≤ at → Bad ≡ sequence_at d at
+pub point_end : (d : List ℕ) (at : ℕ) → length d ≤ at → None ≡ sequence_at d at
 unfolding sequence_at
 point_end d at h = sym (rw (drop_end d at h, character_nil))
 
@@ -203,11 +203,11 @@ module _ (d : List ℕ) (at : ℕ) (h : at < length d) {b c e : ℕ} (p : b ≡ 
   value_rest = cc (after_at 0, after_at 1, after_at 2)
 
   module _ {x : Bool} (f : x ≡ formed first b c e) where
-    pub point_bad : x ≡ false → Bad ≡ sequence_at d at
+    pub point_bad : x ≡ false → None ≡ sequence_at d at
     unfolding sequence_at
     point_bad n = sym (rw (drop_step d at h, unformed_character (first ∷ rest) (sym taken ∙ sym f ∙ n)))
 
-    pub point_good : x ≡ true → {v n : ℕ} → v ≡ value_of first b c e → n ≡ size_of first → Point v (at + n) ≡ sequence_at d at
+    pub point_good : x ≡ true → {v n : ℕ} → v ≡ value_of first b c e → n ≡ size_of first → Some (v, at + n) ≡ sequence_at d at
     unfolding sequence_at
     point_good y {v} {n} k l =
         let g = formed_character (first ∷ rest) (sym taken ∙ sym f ∙ y) in

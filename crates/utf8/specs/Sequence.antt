@@ -1,24 +1,22 @@
 -- One sequence at a place: its code point and the place after it. Then the nine rows as the code keeps them, four cells a row, and the test
 -- of four bytes by them; proofs/Sequence.antt shows that this test finds the character.
-use Rattle.std.specs.Prelude.{Bool, cond, not, ◌&&◌, ◌||◌, List, [], ◌∷◌, ℕ, ◌+◌, ltb, leb, length, drop, get_or}
-use Rattle.std.proofs.Math.Option.{Option, none, some}
+use Rattle.std.specs.Prelude.{Bool, cond, not, ◌&&◌, ◌||◌, List, [], ◌∷◌, ℕ, ◌+◌, ltb, leb, length, drop, get_or, Option, Some, None}
+use Rattle.std.proofs.Math.Option.{Option as Maybe, none, some}
 use Rattle.xml.specs.Range.{Range, ◌–◌, inside}
 use Rattle.xml.specs.Utf8.{utf8, Row, rows, size_of}
 use Rattle.xml.specs.Character.{character}
-use Rattle.utf8.specs.declared.Sequence.{Sequence}
-use Rattle.utf8.specs.declared.Sequence.TheVariants.{Point, Bad}
 
-abbrev pub point_at : ℕ → Option ℕ → Sequence
-point_at at none = Bad
-point_at at (some c) = Point c (at + length (utf8 c))
+abbrev pub point_at : ℕ → Maybe ℕ → Option (ℕ × ℕ)
+point_at at none = None
+point_at at (some c) = Some (c, at + length (utf8 c))
 
 -- the character that stands at the place at of d
-unfoldable pub sequence_at : List ℕ → ℕ → Sequence
+unfoldable pub sequence_at : List ℕ → ℕ → Option (ℕ × ℕ)
 sequence_at d at = point_at at (character (drop at d))
 
 -- ---- the rows as the code keeps them: first byte from, to; second byte from, to
 
-abbrev pub seconds : Option Range → List ℕ
+abbrev pub seconds : Maybe Range → List ℕ
 seconds none = 0 ∷ 0 ∷ []
 seconds (some r) = r.low ∷ r.high ∷ []
 

@@ -8,13 +8,6 @@ ghost use Rattle.xml.specs.Utf8.{size_of};
 ghost use Rattle.xml.specs.Character.{value_of};
 ghost use Rattle.utf8.specs.Sequence.{cells_of, formed, sequence_at};
 
-// A code point and the place after its sequence; or that no well-formed sequence stands there.
-#[derive(Drop)]
-pub enum Sequence {
-    Point(u32, usize),
-    Bad,
-}
-
 // Each row: first byte from, to; second byte from, to. The first row has no second byte.
 const ROWS: [[u8; 4]; 9] = [
     [0x00, 0x7F, 0, 0],
@@ -32,15 +25,10 @@ const ROWS: [[u8; 4]; 9] = [
 fn row_of(a: u8) -> [u8; 4]
     ensures { result ≡ cells_of a }
 {
-    let mut i = 0;
-    while i < 9 {
-        let row = ROWS[i];
-        if row[0] <= a {
-            if a <= row[1] {
-                return row;
-            }
+    for row in ROWS {
+        if row[0] <= a && a <= row[1] {
+            return row;
         }
-        i += 1;
     }
     [1, 0, 1, 0]
 }
@@ -129,19 +117,19 @@ fn byte_after(s: &[u8], at: usize, k: usize) -> u8
     0
 }
 
-// What stands at the place at. A place past the end has no sequence.
-pub fn sequence_at(s: &[u8], at: usize) -> Sequence
+// The code point at the place at and the place after its sequence, where a well-formed one stands there; past the end none does.
+pub fn sequence_at(s: &[u8], at: usize) -> Option<(u32, usize)>
     ensures { result ≡ sequence_at s.now at }
 {
     if s.len() <= at {
-        return Sequence::Bad;
+        return None;
     }
     let a = s[at];
     let b = byte_after(s, at, 1);
     let c = byte_after(s, at, 2);
     let d = byte_after(s, at, 3);
     if is_formed(a, b, c, d) {
-        return Sequence::Point(value_of(a, b, c, d), at + size_of(a));
+        return Some((value_of(a, b, c, d), at + size_of(a)));
     }
-    Sequence::Bad
+    None
 }

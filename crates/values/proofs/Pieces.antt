@@ -4,7 +4,7 @@
 use mathlib.Core.Path.{◌≡◌, refl, sym, ap, ◌∙◌}
 use mathlib.Core.Bool.{Bool, true, false, cond}
 use mathlib.Core.List.{List, [], ◌∷◌}
-use mathlib.Core.Option.{Option, none, some}
+use mathlib.Core.Option.{Option as Maybe, none, some}
 use Prim.Native.Nat.{ℕ, ◌+◌, ◌-◌, ◌≤◌, ◌<◌}
 use native.Mathlib.Omega.{arith}
 use lib.ListN.{length, get_or, drop, length-drop}
@@ -12,8 +12,7 @@ use Rattle.utf8.specs.Place.{ends_at}
 use Rattle.utf8.proofs.Place.{drop_step, drop_end}
 use Rattle.blocks.specs.Block.{until}
 use Rattle.chars.specs.Name.{reading_at}
-use Rattle.chars.specs.declared.name.Reading.{Reading}
-use Rattle.chars.specs.declared.name.Reading.TheVariants.{Ends, Fault}
+use Rattle.std.specs.Prelude.{Option, Some, None}
 use Rattle.readers.specs.Read.{or_else, expect, many}
 use Rattle.readers.specs.Plain.{is_mark}
 use Rattle.readers.specs.Value.{reference_of, rest_of, reference_end, piece_of, quoted_of}
@@ -23,8 +22,6 @@ use Rattle.readers.proofs.Many.{many_stop, many_step, shrinks_nil, shrinks_lengt
 use Rattle.readers.proofs.Reference.{reference_shrinks, reference_other}
 use Rattle.readers.proofs.Value.{piece_plain, piece_marked, piece_shrinks}
 use Rattle.references.specs.Say.{saying_at}
-use Rattle.references.specs.declared.reference.Saying.{Saying}
-use Rattle.references.specs.declared.reference.Saying.TheVariants.{Says, Fault as NoReference}
 use Rattle.references.proofs.Meaning.{end_of, reference_ends}
 use Rattle.scans.proofs.Ends.{byte_answers}
 use Rattle.scans.proofs.Marks.{until_rest, until_ahead, until_inside, until_there}
@@ -59,29 +56,29 @@ pieces_start {q} {d} {at} {i} h e =
 
 module _ {q : ℕ} {d : List ℕ} {at i : ℕ} (v : Between q d at i) where
   -- where no piece stands, the pieces end
-  stops : piece_of q (drop i d) ≡ none → Answers d at (Ends i) (some (many (piece_of q) 0 (drop at d)))
+  stops : piece_of q (drop i d) ≡ none → Answers d at (Some i) (some (many (piece_of q) 0 (drop at d)))
   stops e =
       ends {e = i} (record { rest = sym (many_stop (piece_of q) (drop i d) e) ∙ v.same; inside = v.inside }) v.ahead
 
-  pub pieces_end : length d ≤ i → Answers d at (Ends i) (some (many (piece_of q) 0 (drop at d)))
+  pub pieces_end : length d ≤ i → Answers d at (Some i) (some (many (piece_of q) 0 (drop at d)))
   pieces_end h = stops (rw (drop_end d i h) (shrinks_nil (piece_shrinks q)))
 
   module _ (l : i < length d) where
     at_mark : piece_of q (drop i d) ≡ reference_end (drop i d)
     at_mark = rw (drop_step d i l) (piece_marked q (get_or d i 0) (drop (i + 1) d) (v.mark l))
 
-    pub pieces_other : (get_or d i 0 ≡ 0x26 → ⊥) → Answers d at (Ends i) (some (many (piece_of q) 0 (drop at d)))
+    pub pieces_other : (get_or d i 0 ≡ 0x26 → ⊥) → Answers d at (Some i) (some (many (piece_of q) 0 (drop at d)))
     pieces_other n = stops (at_mark ∙ rw (drop_step d i l) (ap rest_of (reference_other (get_or d i 0) (drop (i + 1) d) n)))
 
-    module _ {r : Saying} (e : r ≡ saying_at d i (reference_of (drop i d))) where
+    module _ {r : Option (ℕ × ℕ)} (e : r ≡ saying_at d i (reference_of (drop i d))) where
       answered : Answers d i (end_of r) (reference_end (drop i d))
       answered = reading_answers reference_shrinks d i (reference_ends d i e)
 
-      pub pieces_fault : r ≡ NoReference → Answers d at (Ends i) (some (many (piece_of q) 0 (drop at d)))
+      pub pieces_fault : r ≡ None → Answers d at (Some i) (some (many (piece_of q) 0 (drop at d)))
       pieces_fault f = stops (at_mark ∙ fault_none answered (ap end_of f))
 
-      module _ {c j : ℕ} (h : r ≡ Says c j) where
-        f : end_of r ≡ Ends j
+      module _ {c j : ℕ} (h : r ≡ Some (c, j)) where
+        f : end_of r ≡ Some j
         f = ap end_of h
 
         longer : i < j
@@ -114,12 +111,12 @@ pub ruleset piecing = (pieces_start, pieces_end, pieces_other, pieces_fault, pie
 
 -- ---- in quotes
 
-module _ (q : ℕ) {d : List ℕ} (at : ℕ) {r : Reading} (a : Answers d at r (expect (q ∷ []) (drop at d))) where
-  pub quoted_fault : r ≡ Fault → Answers d at Fault (quoted_of q (drop at d))
+module _ (q : ℕ) {d : List ℕ} (at : ℕ) {r : Option ℕ} (a : Answers d at r (expect (q ∷ []) (drop at d))) where
+  pub quoted_fault : r ≡ None → Answers d at None (quoted_of q (drop at d))
   unfolding quoted_of
   quoted_fault f = then_fault a _ f
 
-  pub quoted_ends : {i k : ℕ} {r' : Reading} → r ≡ Ends i → Answers d i (Ends k) (some (many (piece_of q) 0 (drop i d)))
+  pub quoted_ends : {i k : ℕ} {r' : Option ℕ} → r ≡ Some i → Answers d i (Some k) (some (many (piece_of q) 0 (drop i d)))
       → Answers d k r' (expect (q ∷ []) (drop k d)) → Answers d at r' (quoted_of q (drop at d))
   unfolding quoted_of
   quoted_ends f b c = then_ends a _ f (then_ends b (expect (q ∷ [])) refl c)
@@ -128,11 +125,11 @@ pub ruleset quoting = (byte_answers, quoted_fault, quoted_ends, ends_inside)
 
 -- ---- in either quotes
 
-module _ {d : List ℕ} {at : ℕ} {r : Reading} {o : Option (List ℕ)} (a : Answers d at r o) where
-  pub first_reading : (o' : Option (List ℕ)) {i : ℕ} → r ≡ Ends i → Ends i ≡ reading_at d at (or_else o o')
+module _ {d : List ℕ} {at : ℕ} {r : Option ℕ} {o : Maybe (List ℕ)} (a : Answers d at r o) where
+  pub first_reading : (o' : Maybe (List ℕ)) {i : ℕ} → r ≡ Some i → Some i ≡ reading_at d at (or_else o o')
   first_reading o' q = answers_reading (or_ends a o' q)
 
-  pub second_reading : {o' : Option (List ℕ)} {r' : Reading} → r ≡ Fault → Answers d at r' o' → r' ≡ reading_at d at (or_else o o')
+  pub second_reading : {o' : Maybe (List ℕ)} {r' : Option ℕ} → r ≡ None → Answers d at r' o' → r' ≡ reading_at d at (or_else o o')
   second_reading q b = answers_reading (or_fault a q b)
 
 pub ruleset reading = (first_reading, second_reading)

@@ -2,10 +2,8 @@
 
 // Byte i is i modulo 251: no two places that are near have one value.
 pub fn prepare(out: &mut [u8]) {
-    let mut i: usize = 0;
-    while i < out.len() {
-        out[i] = (i % 251) as u8;
-        i += 1;
+    for (i, byte) in out.iter_mut().enumerate() {
+        *byte = (i % 251) as u8;
     }
 }
 
@@ -20,17 +18,10 @@ fn bit(sum: u32) -> u32 {
 
 // The sum, eight bits further.
 fn byte(sum: u32, b: u8) -> u32 {
-    let s = bit(bit(bit(bit(sum ^ (b as u32)))));
-    bit(bit(bit(bit(s))))
+    (0..8).fold(sum ^ u32::from(b), |sum, _| bit(sum))
 }
 
 // The CRC-32 of gzip and PNG.
 pub fn crc(s: &[u8]) -> u32 {
-    let mut sum = u32::MAX;
-    let mut i: usize = 0;
-    while i < s.len() {
-        sum = byte(sum, s[i]);
-        i += 1;
-    }
-    sum ^ u32::MAX
+    !s.iter().fold(u32::MAX, |sum, b| byte(sum, *b))
 }

@@ -3,8 +3,6 @@
 //     how much of the list before it keeps    how many bytes it adds to that    the same two of the document    the room
 //
 // So a case that begins as the one before costs little. A pack ends where the file does, or at a head that asks for more than there is.
-ghost use Rattle.std.specs.Prelude.{◌≤◌, length};
-
 use super::digest;
 use exported::FourNumbers;
 use intake::read_full;
@@ -22,21 +20,19 @@ const ROOM: usize = 65536;
 
 // A number of two bytes.
 fn number(low: u8, high: u8) -> usize {
-    low as usize + 256 * (high as usize)
+    usize::from(u16::from_le_bytes([low, high]))
 }
 
-// Puts so many bytes of the pack after the front that is kept, and gives the length of both. What does not fit is not read.
-fn extended<R: Read>(pack: &mut R, text: &mut [u8], keep: usize, more: usize) -> usize
-    ensures { result ≤ length text.new }
-{
+// Puts so many bytes of the pack after the front that is kept, and gives both. What does not fit is not read.
+fn extended<'a, R: Read>(pack: &mut R, text: &'a mut [u8], keep: usize, more: usize) -> &'a [u8] {
     if keep > text.len() {
-        return 0;
+        return &[];
     }
     if more > text.len() - keep {
-        return keep;
+        return &text[..keep];
     }
     let (added, _) = read_full(pack, &mut text[keep..keep + more]);
-    keep + added
+    &text[..keep + added]
 }
 
 // A line: four numbers in decimal, and the digest.
@@ -80,19 +76,19 @@ fn read<R: Read, W: Write>(
     doc: &mut [u8],
     buf: &mut [u8],
 ) -> io::Result<()> {
-    let l = extended(
+    let list = extended(
         pack,
         list,
         number(head[0], head[1]),
         number(head[2], head[3]),
     );
-    let d = extended(
+    let doc = extended(
         pack,
         doc,
         number(head[4], head[5]),
         number(head[6], head[7]),
     );
-    tell_in(out, &list[..l], &doc[..d], buf, number(head[8], head[9]))
+    tell_in(out, list, doc, buf, number(head[8], head[9]))
 }
 
 // Reads a case and tells of it, if there is one.

@@ -8,37 +8,36 @@ use paths::Kind;
 // number drawn below 16 is below `starts`, else one ends.
 #[derive(Clone, Copy)]
 pub struct Mode {
-    pub lines: usize,
-    pub more_lines: usize,
-    pub steps: usize,
-    pub more_steps: usize,
-    pub listed: usize,
-    pub met: usize,
-    pub descendants: usize,
-    pub selves: usize,
-    pub or_selves: usize,
-    pub any: usize,
-    pub starts: usize,
+    pub lines: u16,
+    pub more_lines: u16,
+    pub steps: u16,
+    pub more_steps: u16,
+    pub listed: u16,
+    pub met: u16,
+    pub descendants: u16,
+    pub selves: u16,
+    pub or_selves: u16,
+    pub any: u16,
+    pub starts: u16,
 }
 
 impl Mode {
     // The kind for a number drawn.
-    pub fn kind(self, drawn: usize) -> Kind {
+    pub fn kind(self, drawn: u16) -> Kind {
         if drawn < self.descendants {
-            return Kind::Descendant;
+            Kind::Descendant
+        } else if drawn < self.selves {
+            Kind::SelfStep
+        } else if drawn < self.or_selves {
+            Kind::DescendantOrSelf
+        } else {
+            Kind::Child
         }
-        if drawn < self.selves {
-            return Kind::SelfStep;
-        }
-        if drawn < self.or_selves {
-            return Kind::DescendantOrSelf;
-        }
-        Kind::Child
     }
 }
 
 // In the order of the fields, a row for each of the above.
-const MODES: [[usize; 11]; 8] = [
+const MODES: [[u16; 11]; 8] = [
     [1, 7, 1, 5, 2, 3, 4, 4, 4, 1, 10],
     [1, 32, 1, 3, 200, 220, 5, 5, 5, 1, 9],
     [1, 8, 12, 5, 1, 2, 3, 3, 3, 4, 12],
@@ -51,18 +50,30 @@ const MODES: [[usize; 11]; 8] = [
 
 // The mode of a round: four rounds of each, and one with an empty list.
 pub fn mode_of(r: usize) -> Mode {
-    let row = MODES[r % 29 / 4];
+    let [
+        lines,
+        more_lines,
+        steps,
+        more_steps,
+        listed,
+        met,
+        descendants,
+        selves,
+        or_selves,
+        any,
+        starts,
+    ] = MODES[r % 29 / 4];
     Mode {
-        lines: row[0],
-        more_lines: row[1],
-        steps: row[2],
-        more_steps: row[3],
-        listed: row[4],
-        met: row[5],
-        descendants: row[6],
-        selves: row[7],
-        or_selves: row[8],
-        any: row[9],
-        starts: row[10],
+        lines,
+        more_lines,
+        steps,
+        more_steps,
+        listed,
+        met,
+        descendants,
+        selves,
+        or_selves,
+        any,
+        starts,
     }
 }

@@ -1,46 +1,30 @@
 // Names by number: short ones, an accented letter in two spellings, the letter by itself; then pairs of letters, up to number 399.
 // Whichever are not in a round's list are names that no step has.
-ghost use Rattle.std.specs.Prelude.{◌≡◌, ◌≤◌, length};
+use std::fmt;
 
-// The first `len` of the bytes.
-#[derive(Drop)]
-pub struct Name {
-    pub bytes: [u8; 4],
-    pub len: usize,
+// Name k, as it stands in a list.
+#[derive(Clone, Copy)]
+pub struct Name(pub u16);
+
+// Letter k of a pair.
+fn letter(k: u16) -> char {
+    char::from(b'c' + (k % 20) as u8)
 }
 
-// Name k.
-pub fn name_of(k: usize) -> Name
-    ensures { (result.len ≤ 4) × (length result.bytes ≡ 4) }
-{
-    match k {
-        0 => Name {
-            bytes: [b'a', 0, 0, 0],
-            len: 1,
-        },
-        1 => Name {
-            bytes: [0xC3, 0xA9, 0, 0],
-            len: 2,
-        },
-        2 => Name {
-            bytes: [b'e', 0xCC, 0x81, 0],
-            len: 3,
-        },
-        3 => Name {
-            bytes: [b'a', b'b', 0, 0],
-            len: 2,
-        },
-        4 => Name {
-            bytes: [b'b', 0, 0, 0],
-            len: 1,
-        },
-        5 => Name {
-            bytes: [b'e', 0, 0, 0],
-            len: 1,
-        },
-        _ => Name {
-            bytes: [b'c' + (k / 20 % 20) as u8, b'c' + (k % 20) as u8, 0, 0],
-            len: 2,
-        },
+impl fmt::Display for Name {
+    fn fmt<W: fmt::Write>(&self, f: &mut fmt::Formatter<W>) -> fmt::Result {
+        match self.0 {
+            0 => f.write_str("a"),
+            1 => f.write_str("\u{E9}"),
+            2 => f.write_str("e\u{301}"),
+            3 => f.write_str("ab"),
+            4 => f.write_str("b"),
+            5 => f.write_str("e"),
+            k => {
+                let first = letter(k / 20);
+                let second = letter(k);
+                write!(f, "{first}{second}")
+            }
+        }
     }
 }

@@ -10,15 +10,7 @@ pub fn word_at(s: &[u8], i: usize) -> u64
     requires { i + 8 ≤ length s.now }
     ensures { result ≡ number_of (take 8 (drop i s.now)) }
 {
-    let bytes = &s[i..i + 8];
-    (bytes[0] as u64)
-        | ((bytes[1] as u64) << 8)
-        | ((bytes[2] as u64) << 16)
-        | ((bytes[3] as u64) << 24)
-        | ((bytes[4] as u64) << 32)
-        | ((bytes[5] as u64) << 40)
-        | ((bytes[6] as u64) << 48)
-        | ((bytes[7] as u64) << 56)
+    u64::from_le_bytes(s[i..i + 8].try_into().unwrap())
 }
 
 // How many bytes of a word stand before the first that is not 0; 8 where all are 0.

@@ -18,32 +18,16 @@ pub fn put(out: &mut [u8], at: usize, b: u8) -> usize
     at + 1
 }
 
-// The lesser of two numbers.
-fn least(a: usize, b: usize) -> usize
-    ensures { (result ≤ a) × (result ≤ b) × (result < a → result ≡ b) }
-{
-    if a < b {
-        return a;
-    }
-    b
-}
-
 // Lays the bytes of s at a place, and gives the place after them.
 pub fn copy(out: &mut [u8], at: usize, s: &[u8]) -> usize
     requires { at + length s.now ≤ 18446744073709551615 }
     ensures { Wrote out.old at s.now result out.new }
 {
-    let n = s.len();
-    if out.len() <= at {
-        return at + n;
+    let room = s.len().min(out.len().saturating_sub(at));
+    for (i, b) in s[..room].iter().enumerate() {
+        out[at + i] = *b;
     }
-    let m = least(n, out.len() - at);
-    let mut i: usize = 0;
-    while i < m {
-        out[at + i] = s[i];
-        i += 1;
-    }
-    at + n
+    at + s.len()
 }
 
 // Lays `<`, a name, `>`.

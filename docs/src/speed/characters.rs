@@ -1,6 +1,6 @@
 // The check of a document's characters, in megabytes a second, beside the standard library's UTF-8 alone, which asks for less, and beside
 // UTF-8 and a loop over the characters for [2] Char.
-use crate::ours::chars::whole::{check, Checked};
+use crate::ours::chars::whole::check;
 use crate::rounds::{medians, work, Work};
 use std::hint::black_box;
 
@@ -23,8 +23,8 @@ const OURS: [Check; 2] = [("as Rust", said), ("ours", crate::linked::check)];
 /// As the exported function says it.
 fn said(s: &[u8]) -> usize {
     match check(s) {
-        Checked::All => s.len(),
-        Checked::BadAt(o) => o,
+        Ok(()) => s.len(),
+        Err(e) => e.valid_up_to,
     }
 }
 

@@ -1,8 +1,8 @@
 // Reads the Rattle source of crates as Rust, so that it can be timed on any machine: one file of nested modules, on the standard output,
 // to be the module `ours`.
-// Names of crates are the arguments. Ghost lines, contracts, comments and what is said to Rattle alone go; structs and enums are Clone and
-// Copy; extern functions are plain ones. With --unchecked first, no index is checked, as in the compiled library, where a proof stands for
-// the check.
+// Names of crates are the arguments. Ghost lines, contracts, models, comments and what is said to Rattle alone go; structs and enums are
+// Clone and Copy; extern functions are plain ones. With --unchecked first, no index is checked, as in the compiled library, where a proof
+// stands for the check.
 // What is left has to be Rust: a form that is not known here stops it, or stops rustc.
 use std::path::Path;
 use std::{env, fs, process};
@@ -27,9 +27,10 @@ fn clause(start: &str) -> bool {
     matches!(words[..], ["requires" | "ensures", "{", ..] | ["requires" | "ensures", _, "{"])
 }
 
-/// Whether a line is an attribute that is for Rattle alone, or the traits of a type, which are written anew here.
+/// Whether a line is for Rattle alone: an attribute, or the import of `Model`; or the traits of a type, which are written anew here.
 fn attribute(start: &str) -> bool {
-    ["#![tactic(", "#[tactic(", "#[cycle(", "#[unsafe(no_mangle)]", "#[derive("].iter().any(|head| start.starts_with(head))
+    let heads = ["#![tactic(", "#[tactic(", "#[cycle(", "#[unsafe(no_mangle)]", "#[derive(", "use std::marker::Model;"];
+    heads.iter().any(|head| start.starts_with(head))
 }
 
 /// How many braces of a clause are open after a line, or nothing where something stands after the last.
@@ -80,12 +81,17 @@ fn module(file: &Path, folder: &Path, own: &str, crates: &[String], checked: boo
     let others = crates.iter().filter(|c| *c != own && !text.contains(&format!("mod {c};")));
     let mut out: String = others.map(|c| format!("use crate::ours::{c};\n")).collect();
     let mut open = 0; // braces of a clause
+    let mut model = false; // inside the model of a type, which ends at a brace of its own
     for (i, line) in text.lines().enumerate() {
         let line = code(line);
         let start = line.trim_start();
-        if open > 0 || clause(start) {
+        if model || line.starts_with("impl Model for ") {
+            model = line != "}";
+        } else if open > 0 || clause(start) {
             open = still_open(line, open).unwrap_or_else(|| stop(file, i + 1, "something after a clause"));
         } else if line.starts_with("ghost use ") && line.ends_with(';') || attribute(start) || line.is_empty() {
+        } else if start.starts_with("ghost ") && start != line && line.ends_with("};") {
+            // a ghost member of an impl, which stands on a line
         } else if !line.is_ascii() || ["ghost", "requires", "ensures"].iter().any(|w| start.starts_with(w)) {
             stop(file, i + 1, "no form of Rust that is known here");
         } else if let Some(name) = line.trim_start_matches("pub ").strip_prefix("mod ") {
@@ -97,13 +103,14 @@ fn module(file: &Path, folder: &Path, own: &str, crates: &[String], checked: boo
                 out += "#[derive(Clone, Copy)]\n";
             }
             let line = line.replace("crate::", &format!("crate::ours::{own}::")).replace("extern \"C\" ", "");
-            let line = if checked { Some(line) } else { unchecked(&line) };
+            // a copy between slices looks at their lengths once, and the slice that it writes is no value
+            let line = if checked || line.contains("].copy_from_slice(") { Some(line) } else { unchecked(&line) };
             out += &line.unwrap_or_else(|| stop(file, i + 1, "an index over two lines, or indexed again"));
             out += "\n";
         }
     }
-    if open > 0 {
-        stop(file, text.lines().count(), "a clause that does not end");
+    if open > 0 || model {
+        stop(file, text.lines().count(), "a clause or a model that does not end");
     }
     out
 }

@@ -7,12 +7,12 @@ use Rattle.batch.proofs.cut_all_by.Goals as goal
 pub written-requires : goal.written-requires
 written-requires c = (
   c.requires,
-  sym c.judge.ensures ∙ c.in-Sound.is,
+  sym c.judge.ensures ∙ c.in-Ok.is,
 )
 
-pub returns-in-AtFault : goal.returns-in-AtFault
-returns-in-AtFault c =
-    let all = fault_says _ _ _ c.judge.ensures c.in-AtFault.is in
+pub returns-in-Err : goal.returns-in-Err
+returns-in-Err c =
+    let all = fault_says _ _ _ c.judge.ensures c.in-Err.is in
     record {
       value = all.0;
       out_after = all.1;

@@ -30,16 +30,16 @@ written-requires c =
       c.requires,
       c.if-doc-gt-BYTES.false,
       judged_named _ s n c.if-names_other.false,
-      sym c.check.ensures ∙ c.in-All.is,
+      sym c.check.ensures ∙ c.in-Ok.is,
     )
 
-pub returns-in-BadAt : goal.returns-in-BadAt
-returns-in-BadAt c =
+pub returns-in-Err : goal.returns-in-Err
+returns-in-Err c =
     let s = c.start_of-start.ensures in
     let n = c.names_other.ensures in
     let l = c.if-doc-gt-BYTES.false in
     let u = judged_named _ s n c.if-names_other.false in
-    let all = plain_char _ _ _ l u c.check.ensures c.in-BadAt.is in
+    let all = plain_char _ _ _ l u c.check.ensures c.in-Err.is in
     record {
       value = all.0;
       out_after = all.1;

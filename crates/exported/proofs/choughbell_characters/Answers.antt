@@ -3,8 +3,8 @@
 use Rattle.exported.proofs.Numbering.{numbering}
 use Rattle.exported.proofs.choughbell_characters.Goals as goal
 
-pub returns-in-All : goal.returns-in-All
-returns-in-All c = search numbering
+pub returns-in-Ok : goal.returns-in-Ok
+returns-in-Ok c = search numbering
 
-pub returns-in-BadAt : goal.returns-in-BadAt
-returns-in-BadAt c = search numbering
+pub returns-in-Err : goal.returns-in-Err
+returns-in-Err c = search numbering

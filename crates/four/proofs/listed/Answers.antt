@@ -10,17 +10,17 @@ measured-requires c =
     let b = c.read-a2.ensures in
     let d = c.read-a3.ensures in
     let e = c.read-a4.ensures in (
-      head_readable _ c.head_of.ensures c.in-Items.is,
+      head_readable _ c.head_of.ensures c.in-Ok.is,
       record { said = a.value; tables = a.t_after; small = p.0 },
       record { said = b.value; tables = b.t_after; small = p.1 },
       record { said = d.value; tables = d.t_after; small = p.2 },
       record { said = e.value; tables = e.t_after; small = p.3 },
     )
 
-pub returns-in-Refused : goal.returns-in-Refused
-returns-in-Refused c =
+pub returns-in-Err : goal.returns-in-Err
+returns-in-Err c =
     let h = c.head_of.ensures in
-    let q = c.in-Refused.is in
+    let q = c.in-Err.is in
     let one = refused_both _ _ _ _ c.read-a1.ensures.value h q c.by_list-first.ensures in
     let two = refused_both _ _ _ _ c.read-a2.ensures.value h q c.by_list-second.ensures in
     let three = refused_both _ _ _ _ c.read-a3.ensures.value h q c.by_list-third.ensures in

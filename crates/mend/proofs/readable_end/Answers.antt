@@ -4,8 +4,8 @@ use borrow.Author.Rules.{rules}
 use Rattle.mend.proofs.Asking.{asking}
 use Rattle.mend.proofs.readable_end.Goals as goal
 
-pub returns-in-All : goal.returns-in-All
-returns-in-All c = search (asking, rules)
+pub returns-in-Ok : goal.returns-in-Ok
+returns-in-Ok c = search (asking, rules)
 
-pub returns-in-BadAt : goal.returns-in-BadAt
-returns-in-BadAt c = search asking
+pub returns-in-Err : goal.returns-in-Err
+returns-in-Err c = search asking

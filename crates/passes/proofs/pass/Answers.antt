@@ -24,9 +24,8 @@ loop-why-init c =
 pub next_item-seen-requires : goal.next_item-seen-requires
 next_item-seen-requires c =
     let v = c.loop-why.invariant in (
-      c.requires.0,
       v.judging.names,
-      c.requires.1,
+      c.requires.0,
       v.opens,
       v.judging.within,
     )
@@ -48,7 +47,7 @@ keep-requires c =
     let names = v.judging.names in (
       names.starts_long,
       names.lens_long,
-      pass_next v e q h c.requires.1,
+      pass_next v e q h c.requires.0,
     )
 
 pub offset_bounds-states-level : goal.offset_bounds-states-level
@@ -76,7 +75,7 @@ overflow_add-a c =
     let e = c.next_item-seen.ensures.item_value in
     let q = c.next_item-seen.ensures.placed_value in
     let h = c.in-Fine.is in
-    pass_fits v e q h c.requires.1
+    pass_fits v e q h c.requires.0
 
 pub overflow_add-a-in-Start : goal.overflow_add-a-in-Start
 overflow_add-a-in-Start c =
@@ -85,7 +84,7 @@ overflow_add-a-in-Start c =
     let q = c.next_item-seen.ensures.placed_value in
     let h = c.in-Fine.is in
     let s = c.in-Start.is in
-    tag_fits v e q h s c.requires.1
+    tag_fits v e q h s c.requires.0
 
 pub slice_bounds-row_of-end : goal.slice_bounds-row_of-end
 slice_bounds-row_of-end c =
@@ -99,7 +98,7 @@ slice_bounds-row_of-end c =
 
 pub row_of-row-requires : goal.row_of-row-requires
 row_of-row-requires c =
-    c.requires.2
+    c.requires.1
 
 pub offset_bounds-slots-level : goal.offset_bounds-slots-level
 offset_bounds-slots-level c =
@@ -135,7 +134,7 @@ bounds-memo-slot c =
 
 pub made-requires : goal.made-requires
 made-requires c =
-    row_few c.requires.2 _ c.row_of-row.ensures
+    row_few c.requires.1 _ c.row_of-row.ensures
 
 pub offset_bounds-memo-slot-then-not-is_of : goal.offset_bounds-memo-slot-then-not-is_of
 offset_bounds-memo-slot-then-not-is_of c =
@@ -159,7 +158,7 @@ bounds-memo-slot-in-Start c =
     let l = c.slot_of-slot.ensures.1 in
     let long = v.memo_long in
     let there = kept_there l long in
-    let few = row_few c.requires.2 _ c.row_of-row.ensures in
+    let few = row_few c.requires.1 _ c.row_of-row.ensures in
     let known : Remembered _ _ _ _ c.loop-why.memo _ c.if-not-is_of.memo =
     elim c.if-not-is_of.branch [
       | then-not-is_of w ↦ known_stored _ _ _ _ c.loop-why.memo _ there w.made.ensures w.memo-is
@@ -174,7 +173,7 @@ overflow_cast-tests c =
     let l = c.slot_of-slot.ensures.1 in
     let long = v.memo_long in
     let there = kept_there l long in
-    let few = row_few c.requires.2 _ c.row_of-row.ensures in
+    let few = row_few c.requires.1 _ c.row_of-row.ensures in
     let known : Remembered _ _ _ _ c.loop-why.memo _ c.if-not-is_of.memo =
     elim c.if-not-is_of.branch [
       | then-not-is_of w ↦ known_stored _ _ _ _ c.loop-why.memo _ there w.made.ensures w.memo-is
@@ -192,13 +191,13 @@ overflow_add-tests c =
     let l = c.slot_of-slot.ensures.1 in
     let long = v.memo_long in
     let there = kept_there l long in
-    let few = row_few c.requires.2 _ c.row_of-row.ensures in
+    let few = row_few c.requires.1 _ c.row_of-row.ensures in
     let known : Remembered _ _ _ _ c.loop-why.memo _ c.if-not-is_of.memo =
     elim c.if-not-is_of.branch [
       | then-not-is_of w ↦ known_stored _ _ _ _ c.loop-why.memo _ there w.made.ensures w.memo-is
       | else-not-is_of w ↦ known_there c.loop-why.memo v.recalls _ there few _ c.is_of.ensures w.if-not-is_of.false w.memo-is
     ] in
-    pass_many v c.requires.1 (pass_within v e q h) known.2
+    pass_many v c.requires.0 (pass_within v e q h) known.2
 
 pub judged-verdict-requires : goal.judged-verdict-requires
 judged-verdict-requires c =
@@ -210,14 +209,13 @@ judged-verdict-requires c =
     let l = c.slot_of-slot.ensures.1 in
     let long = v.memo_long in
     let there = kept_there l long in
-    let few = row_few c.requires.2 _ c.row_of-row.ensures in
+    let few = row_few c.requires.1 _ c.row_of-row.ensures in
     let known : Remembered _ _ _ _ c.loop-why.memo _ c.if-not-is_of.memo =
     elim c.if-not-is_of.branch [
       | then-not-is_of w ↦ known_stored _ _ _ _ c.loop-why.memo _ there w.made.ensures w.memo-is
       | else-not-is_of w ↦ known_there c.loop-why.memo v.recalls _ there few _ c.is_of.ensures w.if-not-is_of.false w.memo-is
     ] in (
-      c.requires.0,
-      c.requires.2,
+      c.requires.1,
       c.any-tested.ensures,
       tag_behind v e q h s,
       tag_head v e q h s,
@@ -249,7 +247,7 @@ tag_step-run-requires c =
     let h = c.in-Fine.is in
     let s = c.in-Start.is in
     let k = c.keep.ensures in (
-      pass_ready v c.requires.1 c.requires.3 (pass_within v e q h),
+      pass_ready v c.requires.0 c.requires.2 (pass_within v e q h),
       v.stands.behind,
       v.order,
       tag_from v e q h s,
@@ -260,7 +258,7 @@ tag_step-run-requires c =
 
 pub after-opened-requires : goal.after-opened-requires
 after-opened-requires c =
-    pass_deep c.loop-why.invariant c.requires.1
+    pass_deep c.loop-why.invariant c.requires.0
 
 pub loop-why-smaller-in-Start : goal.loop-why-smaller-in-Start
 loop-why-smaller-in-Start c =
@@ -279,12 +277,12 @@ loop-why-preserved-in-Start c =
     let h = c.in-Fine.is in
     let s = c.in-Start.is in
     let k = c.keep.ensures in
-    let serves = c.requires.2 in
+    let serves = c.requires.1 in
     let f = row_fit serves _ c.row_of-row.ensures in
     let l = c.slot_of-slot.ensures.1 in
     let long = v.memo_long in
     let there = kept_there l long in
-    let few = row_few c.requires.2 _ c.row_of-row.ensures in
+    let few = row_few c.requires.1 _ c.row_of-row.ensures in
     let known : Remembered _ _ _ _ c.loop-why.memo _ c.if-not-is_of.memo =
     elim c.if-not-is_of.branch [
       | then-not-is_of w ↦ known_stored _ _ _ _ c.loop-why.memo _ there w.made.ensures w.memo-is
@@ -306,7 +304,7 @@ other_step-run-requires c =
     let e = c.next_item-seen.ensures.item_value in
     let q = c.next_item-seen.ensures.placed_value in
     let h = c.in-Fine.is in (
-      pass_ready v c.requires.1 c.requires.3 (pass_within v e q h),
+      pass_ready v c.requires.0 c.requires.2 (pass_within v e q h),
       v.stands.behind,
       v.order,
       pass_inside v e q h,
@@ -316,7 +314,7 @@ other_step-run-requires c =
 
 pub after-opened-requires-in-Fine : goal.after-opened-requires-in-Fine
 after-opened-requires-in-Fine c =
-    pass_deep c.loop-why.invariant c.requires.1
+    pass_deep c.loop-why.invariant c.requires.0
 
 pub loop-why-smaller : goal.loop-why-smaller
 loop-why-smaller c =

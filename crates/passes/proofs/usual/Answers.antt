@@ -6,5 +6,5 @@ use Rattle.passes.proofs.usual.Goals as goal
 pub returns-then-doc-end-ne93 : goal.returns-then-doc-end-ne93
 returns-then-doc-end-ne93 c = search usuals
 
-pub returns-in-Ends : goal.returns-in-Ends
-returns-in-Ends c = search usuals
+pub returns-in-Some : goal.returns-in-Some
+returns-in-Some c = search usuals

@@ -9,7 +9,7 @@ returns-then-size-gt0 c = search usual_tags
 pub returns-then-not-twice : goal.returns-then-not-twice
 returns-then-not-twice c =
     let p = c.requires in
-    usual_start p.1 p.4 _ p.5 p.6 c.if-doc-at-eq1.false
+    usual_start p.0 p.3 _ p.4 p.5 c.if-doc-at-eq1.false
     c.if-level-eq-LEVELS.false
     c.if-doc-at-lt64.false c.next_tag-next.ensures
     c.in-Start.is c.if-not-twice.true-raw

@@ -12,8 +12,8 @@ loop-i-smaller c = search valuing
 pub loop-i-preserved : goal.loop-i-preserved
 loop-i-preserved c = search valuing
 
-pub returns-in-Bad : goal.returns-in-Bad
-returns-in-Bad c = search valuing
+pub returns-in-None : goal.returns-in-None
+returns-in-None c = search valuing
 
 pub returns : goal.returns
 returns c = search valuing

@@ -17,8 +17,7 @@ loop-tags-preserved c =
     let q = c.next_item-seen.ensures.placed_value in
     let h = c.in-Fine.is in (
       v.0,
-      v.1,
-      reel_on v.2 e q h c.loop-tags-test.true
+      reel_on v.1 e q h c.loop-tags-test.true
           (elim c.match-next.branch [
             | in-Start w ↦ inl (w.starts-is ∙ w.keep.ensures.starts_after, w.lens-is ∙ w.keep.ensures.lens_after)
             | in_default w ↦ inr (w.in_default.not-Start, w.starts-is, w.lens-is)

@@ -21,9 +21,8 @@ loop-why-init c =
 pub next_item-seen-requires : goal.next_item-seen-requires
 next_item-seen-requires c =
     let v = c.loop-why.invariant in (
-      c.requires.0,
       v.judging.names,
-      c.requires.1,
+      c.requires.0,
       v.opens,
       v.judging.within,
     )
@@ -46,7 +45,7 @@ keep-requires c =
     let names = v.judging.names in (
       names.starts_long,
       names.lens_long,
-      item_next v.judging e q h c.requires.1,
+      item_next v.judging e q h c.requires.0,
     )
 
 pub offset_bounds-states-level : goal.offset_bounds-states-level
@@ -74,7 +73,7 @@ overflow_add-a c =
     let e = c.next_item-seen.ensures.item_value in
     let q = c.next_item-seen.ensures.placed_value in
     let h = c.in-Fine.is in
-    item_fits v.judging e q h c.requires.1
+    item_fits v.judging e q h c.requires.0
 
 pub overflow_add-a-in-Start : goal.overflow_add-a-in-Start
 overflow_add-a-in-Start c =
@@ -83,7 +82,7 @@ overflow_add-a-in-Start c =
     let q = c.next_item-seen.ensures.placed_value in
     let h = c.in-Fine.is in
     let s = c.in-Start.is in
-    tag_fits v.judging e q h s c.requires.1
+    tag_fits v.judging e q h s c.requires.0
 
 pub slice_bounds-row_of-end : goal.slice_bounds-row_of-end
 slice_bounds-row_of-end c =
@@ -97,7 +96,7 @@ slice_bounds-row_of-end c =
 
 pub row_of-row-requires : goal.row_of-row-requires
 row_of-row-requires c =
-    c.requires.2
+    c.requires.1
 
 pub offset_bounds-slots-level : goal.offset_bounds-slots-level
 offset_bounds-slots-level c =
@@ -137,7 +136,7 @@ renewed-known-requires c =
     let l = c.slot_of-slot.ensures.1 in
     let long = v.memo_long in (
       v.recalls _ (omega (arith, l, long)),
-      row_few c.requires.2 _ c.row_of-row.ensures,
+      row_few c.requires.1 _ c.row_of-row.ensures,
     )
 
 pub offset_bounds-memo-slot-in-Start : goal.offset_bounds-memo-slot-in-Start
@@ -158,12 +157,11 @@ judged-verdict-requires c =
     let q = c.next_item-seen.ensures.placed_value in
     let h = c.in-Fine.is in
     let s = c.in-Start.is in (
-      c.requires.0,
-      c.requires.2,
+      c.requires.1,
       c.any-tested.ensures,
       tag_behind v.judging e q h s,
       tag_head v.judging e q h s,
-      row_few c.requires.2 _ c.row_of-row.ensures,
+      row_few c.requires.1 _ c.row_of-row.ensures,
       verdict_told_by _ _ _ _ c.renewed-known.ensures,
     )
 
@@ -192,11 +190,10 @@ start-run-requires c =
     let s = c.in-Start.is in
     let k = c.keep.ensures in (
       c.requires.0,
-      c.requires.1,
       tag_inside v.judging e q h s,
       tag_plain v.judging e q h s k.starts_after k.lens_after v.opens,
-      walk_near v e q h c.requires.1 (header_short c.lay_header-header.ensures),
-      walk_few v e q h c.requires.1,
+      walk_near v e q h c.requires.0 (header_short c.lay_header-header.ensures),
+      walk_few v e q h c.requires.0,
     )
 
 pub after-opened-requires : goal.after-opened-requires
@@ -220,7 +217,7 @@ loop-why-preserved-in-Start c =
     let h = c.in-Fine.is in
     let s = c.in-Start.is in
     let k = c.keep.ensures in
-    let serves = c.requires.2 in
+    let serves = c.requires.1 in
     let f = row_fit serves _ c.row_of-row.ensures in
     let known = c.renewed-known.ensures in
     walk_tag v e q h k.starts_after k.lens_after s serves.sound refl f

@@ -25,13 +25,13 @@ written-requires c = (
   c.requires,
   c.if-doc-gt-BYTES.false,
   judged_named _ c.start_of-start.ensures c.names_other.ensures c.if-names_other.false,
-  sym c.check.ensures ∙ c.in-All.is,
+  sym c.check.ensures ∙ c.in-Ok.is,
 )
 
-pub returns-in-BadAt : goal.returns-in-BadAt
-returns-in-BadAt c =
+pub returns-in-Err : goal.returns-in-Err
+returns-in-Err c =
     let n = judged_named _ c.start_of-start.ensures c.names_other.ensures c.if-names_other.false in
-    let all = both_by _ _ _ (by_char _ _ _ c.if-doc-gt-BYTES.false n c.check.ensures c.in-BadAt.is) in
+    let all = both_by _ _ _ (by_char _ _ _ c.if-doc-gt-BYTES.false n c.check.ensures c.in-Err.is) in
     record {
       value = all.0;
       out_after = all.1;

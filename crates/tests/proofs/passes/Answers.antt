@@ -22,11 +22,11 @@ overflow_add-value_end c = search by_path
 pub slice_bounds-has-end : goal.slice_bounds-has-end
 slice_bounds-has-end c = search by_path
 
-pub returns-in-Ends : goal.returns-in-Ends
-returns-in-Ends c = search by_path
+pub returns-in-Some : goal.returns-in-Some
+returns-in-Some c = search by_path
 
-pub returns-in-Fault : goal.returns-in-Fault
-returns-in-Fault c = search by_path
+pub returns-in-None : goal.returns-in-None
+returns-in-None c = search by_path
 
-pub slice_bounds-has-end-in-Ends : goal.slice_bounds-has-end-in-Ends
-slice_bounds-has-end-in-Ends c = search by_path
+pub slice_bounds-has-end-in-Some : goal.slice_bounds-has-end-in-Some
+slice_bounds-has-end-in-Some c = search by_path

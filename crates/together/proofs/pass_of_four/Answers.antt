@@ -21,35 +21,35 @@ pub items-read-requires : goal.items-read-requires
 items-read-requires c =
     let p = c.requires in
     let v = c.loop-why.invariant.0 in
-    (p.0, p.1, v.names, v.opens, v.within, v.long)
+    (p.0, v.names, v.opens, v.within, v.long)
 
 pub through-s1-requires : goal.through-s1-requires
 through-s1-requires c =
     let p = c.requires in
     let v = c.loop-why.invariant.1 in
     let i = c.items-read.ensures.reeling in
-    (p.0, p.1, go_small v p.2, i.few, go_sits v p.2 (read_lies i))
+    (p.0, go_small v p.1, i.few, go_sits v p.1 (read_lies i))
 
 pub through-s2-requires : goal.through-s2-requires
 through-s2-requires c =
     let p = c.requires in
     let v = c.loop-why.invariant.2 in
     let i = c.items-read.ensures.reeling in
-    (p.0, p.1, go_small v p.3, i.few, go_sits v p.3 (read_lies i))
+    (p.0, go_small v p.2, i.few, go_sits v p.2 (read_lies i))
 
 pub through-s3-requires : goal.through-s3-requires
 through-s3-requires c =
     let p = c.requires in
     let v = c.loop-why.invariant.3 in
     let i = c.items-read.ensures.reeling in
-    (p.0, p.1, go_small v p.4, i.few, go_sits v p.4 (read_lies i))
+    (p.0, go_small v p.3, i.few, go_sits v p.3 (read_lies i))
 
 pub through-s4-requires : goal.through-s4-requires
 through-s4-requires c =
     let p = c.requires in
     let v = c.loop-why.invariant.4 in
     let i = c.items-read.ensures.reeling in
-    (p.0, p.1, go_small v p.5, i.few, go_sits v p.5 (read_lies i))
+    (p.0, go_small v p.4, i.few, go_sits v p.4 (read_lies i))
 
 pub shape_of-o1-in-Fault : goal.shape_of-o1-in-Fault
 shape_of-o1-in-Fault c =
@@ -89,10 +89,10 @@ returns-in-Fault c =
     let v = c.loop-why.invariant in
     let q = c.in-Fault.is in
     record {
-      passed_for = next_fault i.reeling v.1 c.through-s1.ensures i.stopped _ q;
-      passed_for_2 = next_fault i.reeling v.2 c.through-s2.ensures i.stopped _ q;
-      passed_for_3 = next_fault i.reeling v.3 c.through-s3.ensures i.stopped _ q;
-      passed_for_4 = next_fault i.reeling v.4 c.through-s4.ensures i.stopped _ q;
+      first_passed = next_fault i.reeling v.1 c.through-s1.ensures i.stopped _ q;
+      second_passed = next_fault i.reeling v.2 c.through-s2.ensures i.stopped _ q;
+      third_passed = next_fault i.reeling v.3 c.through-s3.ensures i.stopped _ q;
+      fourth_passed = next_fault i.reeling v.4 c.through-s4.ensures i.stopped _ q;
     }
 
 pub shape_of-o1-in-Over : goal.shape_of-o1-in-Over
@@ -135,10 +135,10 @@ returns-in-Over c =
     let v = c.loop-why.invariant in
     let q = c.in-Over.is in
     record {
-      passed_for = next_over i.reeling v.1 c.through-s1.ensures i.stopped q c.ended-e1.ensures;
-      passed_for_2 = next_over i.reeling v.2 c.through-s2.ensures i.stopped q c.ended-e2.ensures;
-      passed_for_3 = next_over i.reeling v.3 c.through-s3.ensures i.stopped q c.ended-e3.ensures;
-      passed_for_4 = next_over i.reeling v.4 c.through-s4.ensures i.stopped q c.ended-e4.ensures;
+      first_passed = next_over i.reeling v.1 c.through-s1.ensures i.stopped q c.ended-e1.ensures;
+      second_passed = next_over i.reeling v.2 c.through-s2.ensures i.stopped q c.ended-e2.ensures;
+      third_passed = next_over i.reeling v.3 c.through-s3.ensures i.stopped q c.ended-e3.ensures;
+      fourth_passed = next_over i.reeling v.4 c.through-s4.ensures i.stopped q c.ended-e4.ensures;
     }
 
 pub loop-why-smaller : goal.loop-why-smaller

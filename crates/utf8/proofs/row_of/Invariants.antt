@@ -1,11 +1,7 @@
--- `row_of` meets its contract. The loop's invariant: the first row from i on that has the byte a is the first of all that has it.
--- The measure is what is left of the nine. antt sees by computing that the constant has the rows of the definition.
-use Prim.Native.Nat.{◌-◌}
+-- `row_of` meets its contract. The loop's invariant: the first row from the index on that has the byte a is the first of all that has it.
+-- antt sees by computing that the constant has the rows of the definition.
 use Rattle.utf8.proofs.Rows.{Rowing}
 use Rattle.utf8.proofs.row_of.Given as goal
 
-abbrev pub invariant-loop-i : goal.invariant-loop-i
-invariant-loop-i l = Rowing l.a l.i
-
-abbrev pub decreases-loop-i : goal.decreases-loop-i
-decreases-loop-i l = 9 - l.i
+abbrev pub invariant-loop-row : goal.invariant-loop-row
+invariant-loop-row l = Rowing l.a l.row-index

@@ -4,7 +4,6 @@ use mathlib.Core.Path.{refl}
 use Rattle.batch.proofs.Walking.{fill_same}
 use Rattle.batch.proofs.Walking.{fill_some, fill_start, fill_whole, fill_four, fill_inside, fill_room, fill_fits, fill_few}
 use Rattle.batch.proofs.Walking.{fill_next, fill_end}
-use Prim.Native.Nat.{◌-◌}
 use native.Mathlib.Omega.{arith}
 use Rattle.batch.proofs.walk.fill.Goals as goal
 

@@ -1,7 +1,6 @@
 -- `measure` meets its contract. The loop's invariant: what is needed so far, and what the documents from the place on add, is the length
 -- of the result. The measure is what is left of the batch.
 use mathlib.Core.Path.{refl}
-use Prim.Native.Nat.{◌-◌}
 use native.Mathlib.Omega.{arith}
 use Rattle.batch.proofs.Walking.{measure_start, measure_whole, measure_four, measure_fits, measure_next, measure_end}
 use Rattle.batch.proofs.walk.measure.Goals as goal

@@ -19,5 +19,5 @@ returns-then-goes_on-2 c = search stepping
 pub returns-else-goes_on-2 : goal.returns-else-goes_on-2
 returns-else-goes_on-2 c = search stepping
 
-pub returns-in-Bad : goal.returns-in-Bad
-returns-in-Bad c = search stepping
+pub returns-in-None : goal.returns-in-None
+returns-in-None c = search stepping

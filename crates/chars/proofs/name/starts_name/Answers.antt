@@ -13,8 +13,8 @@ overflow_cast-b c = omega (arith, c.shared_slice_known-2-1.given c.args.at)
 pub returns-then-b-lt128 : goal.returns-then-b-lt128
 returns-then-b-lt128 c = search answering
 
-pub returns-in-Point : goal.returns-in-Point
-returns-in-Point c = search answering
+pub returns-in-Some : goal.returns-in-Some
+returns-in-Some c = search answering
 
-pub returns-in-Bad : goal.returns-in-Bad
-returns-in-Bad c = search answering
+pub returns-in-None : goal.returns-in-None
+returns-in-None c = search answering

@@ -1,5 +1,5 @@
--- `after_space` meets its contract. The loop's invariant: from at up to i there is white space.
--- The measure is what is left of the slice.
+-- `after_space` meets its contract.
+-- The loop's invariant: from at up to i there is white space.
 use Rattle.chars.proofs.Spaces.{spacing}
 use Rattle.chars.proofs.space.after_space.Goals as goal
 

@@ -16,14 +16,14 @@ returns-then-not-is_char c = record {
   s_value = search reading;
 }
 
-pub loop-i-smaller-in-Point : goal.loop-i-smaller-in-Point
-loop-i-smaller-in-Point c = search reading
+pub loop-i-smaller-in-Some : goal.loop-i-smaller-in-Some
+loop-i-smaller-in-Some c = search reading
 
-pub loop-i-preserved-in-Point : goal.loop-i-preserved-in-Point
-loop-i-preserved-in-Point c = search reading
+pub loop-i-preserved-in-Some : goal.loop-i-preserved-in-Some
+loop-i-preserved-in-Some c = search reading
 
-pub returns-in-Bad : goal.returns-in-Bad
-returns-in-Bad c = record {
+pub returns-in-None : goal.returns-in-None
+returns-in-None c = record {
   passes = search reading;
   s_value = search reading;
 }

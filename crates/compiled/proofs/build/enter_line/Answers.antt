@@ -2,8 +2,7 @@
 -- next step's bit, and the sums have the bits of those that may stay, go, go far. The measure is what is left of the list.
 -- proofs/InLine.antt has the laws.
 use native.Mathlib.Omega.{arith}
-use mathlib.Core.Path.{sym, ◌∙◌}
-use Rattle.compiled.proofs.InLine.{line_start, line_rows, line_bit, line_stays, line_goes, line_far, lining}
+use Rattle.compiled.proofs.InLine.{line_bit, line_stays, line_goes, line_far, lining}
 use Rattle.compiled.proofs.build.enter_line.Goals as goal
 
 pub steps-init : goal.steps-init
@@ -50,10 +49,6 @@ overflow_cast-result-3 c = search lining
 
 pub overflow_cast-result-4 : goal.overflow_cast-result-4
 overflow_cast-result-4 c = search lining
-
-pub shape_of-rows : goal.shape_of-rows
-shape_of-rows c =
-    line_rows c.steps.invariant ∙ sym (line_rows (line_start c.requires))
 
 pub returns : goal.returns
 returns c = search lining

@@ -1,10 +1,8 @@
 -- `compile` meets its contract. The invariant: the tables are those of the paths whose lines are read, and the rows stand in their place
 -- in `t`. The measure is what is left of the list. proofs/OverLines.antt has the laws, and proofs/Laid.antt those of the tables laid one
 -- behind the other.
-use Prim.Native.Nat.{ℕ}
 use native.Mathlib.Omega.{arith}
-use mathlib.Core.Path.{sym, ap, ◌∙◌}
-use lib.ListN.{length, length-replicate}
+use mathlib.Core.Path.{◌∙◌}
 use Rattle.compiled.proofs.InLine.{path_few}
 use Rattle.compiled.proofs.OverLines.{over_lines, lines_long, lines_end}
 use Rattle.compiled.proofs.OverLines.{at_size, len_size, head_size, next_size}
@@ -86,15 +84,6 @@ lay_columns-requires c =
       tests_size v,
       c.lay_names.auto.t ∙ lines_long v l c.spread.ensures,
     )
-
-pub shape_of-t : goal.shape_of-t
-shape_of-t c =
-    let v = c.loop-place.invariant in
-    let l = c.loop-place-test.false in
-    c.lay_columns.auto.t
-    ∙ c.lay_names.auto.t
-    ∙ lines_long v l c.spread.ensures
-    ∙ sym (ap length c.requires.1 ∙ length-replicate {A = ℕ} 18400 0)
 
 pub returns : goal.returns
 returns c =

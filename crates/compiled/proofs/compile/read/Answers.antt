@@ -5,12 +5,7 @@ use Rattle.compiled.proofs.Reading.{read_refused}
 use Rattle.compiled.proofs.compile.read.Goals as goal
 
 pub compile-requires : goal.compile-requires
-compile-requires c =
-    (sym c.answer-said.ensures ∙ c.in-Sound.is, refl)
+compile-requires c = (sym c.answer.ensures ∙ c.in_ok-answer.was, refl)
 
-pub returns : goal.returns
-returns c = record {
-  value = c.answer-said.ensures;
-  t_after = read_refused c.args.list.now c.answer-said.ensures
-      c.in_default.not-Sound;
-}
+pub returns-in_err-answer-clause-t_after : goal.returns-in_err-answer-clause-t_after
+returns-in_err-answer-clause-t_after c = read_refused c.args.list.now c.answer.ensures c.in_err-answer.was

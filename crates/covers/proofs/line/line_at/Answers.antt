@@ -3,11 +3,11 @@
 use Rattle.covers.proofs.Lines.{ending}
 use Rattle.covers.proofs.line.line_at.Goals as goal
 
-pub test_end-end-requires : goal.test_end-end-requires
-test_end-end-requires c = search ending
+pub test_end-requires : goal.test_end-requires
+test_end-requires c = search ending
 
-pub returns-in-Ends : goal.returns-in-Ends
-returns-in-Ends c = search ending
+pub returns-in-Some : goal.returns-in-Some
+returns-in-Some c = search ending
 
-pub returns-in-Fault : goal.returns-in-Fault
-returns-in-Fault c = search ending
+pub returns-in-None : goal.returns-in-None
+returns-in-None c = search ending

@@ -3,11 +3,11 @@
 use Rattle.covers.proofs.Lines.{walking}
 use Rattle.covers.proofs.line.steps_at.Goals as goal
 
-pub loop-kind-smaller : goal.loop-kind-smaller
-loop-kind-smaller c = search walking
+pub loop-step-smaller : goal.loop-step-smaller
+loop-step-smaller c = search walking
 
-pub loop-kind-preserved : goal.loop-kind-preserved
-loop-kind-preserved c = search walking
+pub loop-step-preserved : goal.loop-step-preserved
+loop-step-preserved c = search walking
 
-pub returns-in-Fault : goal.returns-in-Fault
-returns-in-Fault c = search walking
+pub returns-in-None : goal.returns-in-None
+returns-in-None c = search walking

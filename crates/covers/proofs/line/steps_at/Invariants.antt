@@ -5,8 +5,8 @@ use lib.ListN.{length}
 use Rattle.covers.proofs.Lines.{Walking}
 use Rattle.covers.proofs.line.steps_at.Given as goal
 
-abbrev pub invariant-loop-kind : goal.invariant-loop-kind
-invariant-loop-kind l = Walking l.list l.at l.i l.plain
+abbrev pub invariant-loop-step : goal.invariant-loop-step
+invariant-loop-step l = Walking l.list l.at l.i l.plain
 
-abbrev pub decreases-loop-kind : goal.decreases-loop-kind
-decreases-loop-kind l = length l.list - l.i
+abbrev pub decreases-loop-step : goal.decreases-loop-step
+decreases-loop-step l = length l.list - l.i

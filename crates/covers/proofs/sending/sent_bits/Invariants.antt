@@ -5,8 +5,8 @@ use lib.ListN.{length}
 use Rattle.covers.proofs.Sent.{Sending}
 use Rattle.covers.proofs.sending.sent_bits.Given as goal
 
-abbrev pub invariant-loop-kind : goal.invariant-loop-kind
-invariant-loop-kind l = Sending l.wide l.narrow l.at l.i l.state l.bits
+abbrev pub invariant-loop-step : goal.invariant-loop-step
+invariant-loop-step l = Sending l.wide l.narrow l.at l.i l.state l.bits
 
-abbrev pub decreases-loop-kind : goal.decreases-loop-kind
-decreases-loop-kind l = length l.narrow - l.i
+abbrev pub decreases-loop-step : goal.decreases-loop-step
+decreases-loop-step l = length l.narrow - l.i

@@ -1,11 +1,7 @@
--- `some_stands` meets its contract. The invariant: none of the first p lines stands for the narrow one. The measure is what is left of
--- them. proofs/Stood.antt has the laws.
-use Prim.Native.Nat.{◌-◌}
+-- `some_stands` meets its contract. The invariant: none of the lines gone through stands for the narrow one.
+-- proofs/Stood.antt has the laws.
 use Rattle.covers.proofs.Stood.{Seeking}
 use Rattle.covers.proofs.standing.some_stands.Given as goal
 
-abbrev pub invariant-loop-p : goal.invariant-loop-p
-invariant-loop-p l = Seeking l.narrow l.a l.wide l.all l.count l.sent l.left l.p
-
-abbrev pub decreases-loop-p : goal.decreases-loop-p
-decreases-loop-p l = l.count - l.p
+abbrev pub invariant-loop-b : goal.invariant-loop-b
+invariant-loop-b l = Seeking l.narrow l.a l.wide l.lines l.sent l.left l.b-index

@@ -3,5 +3,5 @@
 use Rattle.descent.proofs.Inking.{asides}
 use Rattle.descent.proofs.ink.aside.Goals as goal
 
-pub returns-then-kept-clause-by_index : goal.returns-then-kept-clause-by_index
-returns-then-kept-clause-by_index c = search asides
+pub returns-then-kept-clause-moves : goal.returns-then-kept-clause-moves
+returns-then-kept-clause-moves c = search asides

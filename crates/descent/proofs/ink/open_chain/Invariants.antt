@@ -1,13 +1,8 @@
--- `open_chain` meets its contract. The invariant: the start tags of the levels after lo up to k are laid. The measure is the levels left.
+-- `open_chain` meets its contract. The invariant: the start tags of the levels after lo up to k are laid.
 -- proofs/Inking.antt has the laws.
-use Prim.Native.Nat.{◌-◌}
 use Rattle.descent.proofs.Inking.{Chained}
 use Rattle.descent.proofs.ink.open_chain.Given as goal
 
 abbrev pub invariant-loop-k : goal.invariant-loop-k
 invariant-loop-k l =
     Chained l.doc l.starts l.lens l.initial.out l.len-2 l.lo l.hi l.k l.len l.out
-
-abbrev pub decreases-loop-k : goal.decreases-loop-k
-decreases-loop-k l =
-    l.hi - l.k

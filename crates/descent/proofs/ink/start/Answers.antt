@@ -15,5 +15,5 @@ returns-in-Marked-clause-moves c = search starting
 pub returns-in-Selected : goal.returns-in-Selected
 returns-in-Selected c = record {
   moves = search starting;
-  reached = search starting;
+  level_after = search starting;
 }

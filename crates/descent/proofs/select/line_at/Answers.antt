@@ -3,17 +3,17 @@
 use Rattle.descent.proofs.Lines.{walking}
 use Rattle.descent.proofs.select.line_at.Goals as goal
 
-pub loop-kind-init : goal.loop-kind-init
-loop-kind-init c = search walking
+pub loop-found-init : goal.loop-found-init
+loop-found-init c = search walking
 
 pub step-requires : goal.step-requires
 step-requires c = search walking
 
-pub loop-kind-smaller : goal.loop-kind-smaller
-loop-kind-smaller c = search walking
+pub loop-found-smaller : goal.loop-found-smaller
+loop-found-smaller c = search walking
 
-pub loop-kind-preserved : goal.loop-kind-preserved
-loop-kind-preserved c = search walking
+pub loop-found-preserved : goal.loop-found-preserved
+loop-found-preserved c = search walking
 
-pub returns-in-Fault : goal.returns-in-Fault
-returns-in-Fault c = search walking
+pub returns-in-None : goal.returns-in-None
+returns-in-None c = search walking

@@ -5,8 +5,8 @@ use lib.ListN.{length}
 use Rattle.descent.proofs.Lines.{Walking}
 use Rattle.descent.proofs.select.line_at.Given as goal
 
-abbrev pub invariant-loop-kind : goal.invariant-loop-kind
-invariant-loop-kind l = Walking l.list l.doc l.starts l.lens l.level l.at l.i l.can
+abbrev pub invariant-loop-found : goal.invariant-loop-found
+invariant-loop-found l = Walking l.list l.doc l.starts l.lens l.level l.at l.i l.can
 
-abbrev pub decreases-loop-kind : goal.decreases-loop-kind
-decreases-loop-kind l = length l.list - l.i
+abbrev pub decreases-loop-found : goal.decreases-loop-found
+decreases-loop-found l = length l.list - l.i

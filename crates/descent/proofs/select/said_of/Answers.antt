@@ -6,8 +6,8 @@ use Rattle.descent.proofs.select.said_of.Goals as goal
 pub loop-at-init : goal.loop-at-init
 loop-at-init c = search saying
 
-pub passes_test-requires : goal.passes_test-requires
-passes_test-requires c = search saying
+pub passes_test-tested-requires : goal.passes_test-tested-requires
+passes_test-tested-requires c = search saying
 
 pub loop-at-smaller : goal.loop-at-smaller
 loop-at-smaller c = search saying
@@ -15,8 +15,8 @@ loop-at-smaller c = search saying
 pub loop-at-preserved : goal.loop-at-preserved
 loop-at-preserved c = search saying
 
-pub returns-in-Fault : goal.returns-in-Fault
-returns-in-Fault c = search saying
+pub returns-in-None : goal.returns-in-None
+returns-in-None c = search saying
 
 pub returns : goal.returns
 returns c = search saying

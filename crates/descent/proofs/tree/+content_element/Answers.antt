@@ -1,8 +1,9 @@
 -- `element` and `content` meet their contracts. proofs/Reading.antt has the laws of content, proofs/Ending.antt those of an element.
 use Rattle.std.proofs.Common.{[], arith}
 use borrow.Author.Rules.{rules}
+use Rattle.std.proofs.lemmas.Result.{err_from_is_err_and}
 use Rattle.descent.proofs.Reading.{reading, read_finish, read_aside, read_ready, read_from, read_to, read_level}
-use Rattle.descent.proofs.Reading.{read_behind, read_head, read_tag}
+use Rattle.descent.proofs.Reading.{read_behind, read_head, read_tag, read_inner_fault}
 use Rattle.descent.proofs.Ending.{begin_ready, element_empty, element_fault, element_ends, finish_from, finish_to}
 use Rattle.descent.proofs.tree.+content_element.Goals as goal
 
@@ -28,7 +29,6 @@ content-element-requires t c =
       omega (arith, deep),
       (
         pre.0,
-        pre.1,
         deep,
         inv.safe,
         read_behind inv item place fine is,
@@ -37,8 +37,12 @@ content-element-requires t c =
       ),
     )
 
-pub content-returns-in-Fault-element : goal.content-returns-in-Fault-element
-content-returns-in-Fault-element t c = search reading
+pub content-returns-in_err-inner-in-Fine : goal.content-returns-in_err-inner-in-Fine
+content-returns-in_err-inner-in-Fine t c =
+    let x = err_from_is_err_and c.from_residual.result c.from_residual.ensures.1 in
+    rw (x.1, x.2)
+    (read_inner_fault c.loop-why.invariant c.item-next.ensures c.place.ensures c.in-Fine.is c.in-Start.is _ _ c.element.ensures
+    c.in_err-inner-in-Fine.was)
 
 pub content-aside-run-requires : goal.content-aside-run-requires
 content-aside-run-requires t c = (
@@ -58,47 +62,48 @@ content-loop-why-preserved t c =
     let unfinished = c.in_default.not-Finish in
     let unstarted = c.in_default-next.not-Start in
     let aside = c.aside-run.ensures in
-    read_aside inv item c.place.ensures fine unfinished unstarted c.end_of-end.ensures aside.by_index aside.reached_value
+    read_aside inv item c.place.ensures fine unfinished unstarted c.end_of-end.ensures aside.moves aside.level_stays
 
 pub element-returns-then-empty : goal.element-returns-then-empty
 element-returns-then-empty t c =
     let h = c.requires in
     let a = c.args in
     rw c.if-empty.true
-    (element_empty _ _ _ _ _ _ _ a.tag _ h.2 h.3 h.4 h.5 h.6 _ c.said_of-said.ensures _ _
-    c.start-begun.ensures.moves c.start-begun.ensures.reached _ _
-    (rw c.is_entry.ensures at c.finish-run.ensures.moves) (rw c.is_entry.ensures at c.finish-run.ensures.reached_value))
+    (element_empty _ _ _ _ _ _ _ a.tag _ h.1 h.2 h.3 h.4 h.5 _ c.said_of-said.ensures _ _
+    c.start-begun.ensures.moves c.start-begun.ensures.level_after _ _
+    (rw c.is_entry.ensures at c.finish-run.ensures.moves) (rw c.is_entry.ensures at c.finish-run.ensures.level_stays))
 
-pub element-finish-run-requires-in-Ends : goal.element-finish-run-requires-in-Ends
-element-finish-run-requires-in-Ends t c =
+pub element-finish-run-requires-2 : goal.element-finish-run-requires-2
+element-finish-run-requires-2 t c =
     let h = c.requires in
     let a = c.args in
-    let w = rw (c.in-Ends.is, c.is_entry.ensures) at c.content.ensures in
+    let w = rw (c.in_ok-inner.was, c.is_entry.ensures) at c.content-read.ensures in
     rw c.is_entry.ensures (
       begin_ready w.safe,
       w.safe.order,
       w.safe.entry,
-      finish_from _ _ _ _ _ _ _ a.tag _ h.2 h.3 h.4 h.5 h.6 _ c.said_of-said.ensures _ _
-          c.start-begun.ensures.moves c.start-begun.ensures.reached _ _ _ _ w,
-      finish_to _ _ _ _ _ _ _ a.tag _ h.2 h.3 h.4 h.5 h.6 _ c.said_of-said.ensures _ _
-          c.start-begun.ensures.moves c.start-begun.ensures.reached _ _ _ _ w,
+      finish_from _ _ _ _ _ _ _ a.tag _ h.1 h.2 h.3 h.4 h.5 _ c.said_of-said.ensures _ _
+          c.start-begun.ensures.moves c.start-begun.ensures.level_after _ _ _ _ w,
+      finish_to _ _ _ _ _ _ _ a.tag _ h.1 h.2 h.3 h.4 h.5 _ c.said_of-said.ensures _ _
+          c.start-begun.ensures.moves c.start-begun.ensures.level_after _ _ _ _ w,
       w.safe.placed,
     )
 
-pub element-returns-in-Fault : goal.element-returns-in-Fault
-element-returns-in-Fault t c =
+pub element-returns-in_err-inner : goal.element-returns-in_err-inner
+element-returns-in_err-inner t c =
     let h = c.requires in
     let a = c.args in
-    let w = rw (c.in-Fault.is, c.is_entry.ensures) at c.content.ensures in
-    rw c.if-empty.false (element_fault _ _ _ _ _ _ _ a.tag _ h.2 h.3 h.4 h.5 h.6 _ c.said_of-said.ensures _ _
-    c.start-begun.ensures.moves c.start-begun.ensures.reached [] w)
+    let x = err_from_is_err_and c.from_residual.result c.from_residual.ensures.1 in
+    let w = rw (c.in_err-inner.was, c.is_entry.ensures) at c.content-read.ensures in
+    rw (x.1, x.2, c.if-empty.false) (element_fault _ _ _ _ _ _ _ a.tag _ h.1 h.2 h.3 h.4 h.5 _ c.said_of-said.ensures _ _
+    c.start-begun.ensures.moves c.start-begun.ensures.level_after [] w)
 
-pub element-returns-in-Ends : goal.element-returns-in-Ends
-element-returns-in-Ends t c =
+pub element-returns : goal.element-returns
+element-returns t c =
     let h = c.requires in
     let a = c.args in
-    let w = rw (c.in-Ends.is, c.is_entry.ensures) at c.content.ensures in
+    let w = rw (c.in_ok-inner.was, c.is_entry.ensures) at c.content-read.ensures in
     rw c.if-empty.false
-    (element_ends _ _ _ _ _ _ _ a.tag _ h.2 h.3 h.4 h.5 h.6 _ c.said_of-said.ensures _ _
-    c.start-begun.ensures.moves c.start-begun.ensures.reached _ _ _ _ w _ _
-    (rw c.is_entry.ensures at c.finish-run-in-Ends.ensures.moves) (rw c.is_entry.ensures at c.finish-run-in-Ends.ensures.reached_value))
+    (element_ends _ _ _ _ _ _ _ a.tag _ h.1 h.2 h.3 h.4 h.5 _ c.said_of-said.ensures _ _
+    c.start-begun.ensures.moves c.start-begun.ensures.level_after _ _ _ _ w _ _
+    (rw c.is_entry.ensures at c.finish-run-2.ensures.moves) (rw c.is_entry.ensures at c.finish-run-2.ensures.level_stays))

@@ -9,8 +9,8 @@ returns-then-doc-gt-BYTES c = search judging
 pub returns-then-names_other : goal.returns-then-names_other
 returns-then-names_other c = search judging
 
-pub returns-in-All : goal.returns-in-All
-returns-in-All c = search judging
+pub returns-in-Ok : goal.returns-in-Ok
+returns-in-Ok c = search judging
 
-pub returns-in-BadAt : goal.returns-in-BadAt
-returns-in-BadAt c = search judging
+pub returns-in-Err : goal.returns-in-Err
+returns-in-Err c = search judging

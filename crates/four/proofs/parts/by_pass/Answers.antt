@@ -9,8 +9,8 @@ returns-then-out-length c = search passing
 pub returns-then-noted-log : goal.returns-then-noted-log
 returns-then-noted-log c = search passing
 
-pub returns-in-Fault : goal.returns-in-Fault
-returns-in-Fault c = search passing
+pub returns-in-Err : goal.returns-in-Err
+returns-in-Err c = search passing
 
 pub returns-else-noted-log : goal.returns-else-noted-log
 returns-else-noted-log c = search passing

@@ -9,5 +9,5 @@ returns-then-doc-gt-BYTES c = search heads
 pub returns-then-names_other : goal.returns-then-names_other
 returns-then-names_other c = search heads
 
-pub returns-in-BadAt : goal.returns-in-BadAt
-returns-in-BadAt c = search heads
+pub returns-in-Err : goal.returns-in-Err
+returns-in-Err c = search heads

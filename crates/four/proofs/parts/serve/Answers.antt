@@ -3,8 +3,8 @@
 use Rattle.four.proofs.Serving.{services}
 use Rattle.four.proofs.parts.serve.Goals as goal
 
-pub returns-then-sound : goal.returns-then-sound
-returns-then-sound c = search services
+pub returns-in-Ok : goal.returns-in-Ok
+returns-in-Ok c = search services
 
-pub returns : goal.returns
-returns c = search services
+pub returns-in-Err : goal.returns-in-Err
+returns-in-Err c = search services

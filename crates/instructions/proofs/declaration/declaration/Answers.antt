@@ -3,8 +3,8 @@
 use Rattle.instructions.proofs.Declarations.{declaring}
 use Rattle.instructions.proofs.declaration.declaration.Goals as goal
 
-pub returns-in_default : goal.returns-in_default
-returns-in_default c = search declaring
+pub returns-in_err-v : goal.returns-in_err-v
+returns-in_err-v c = rw c.from_residual.ensures (search (declaring, c.in_err-v.was))
 
 pub returns : goal.returns
-returns c = search declaring
+returns c = search (declaring, c.in_ok-v.was)

@@ -9,8 +9,8 @@ returns-in_default c = search telling
 pub returns-in_default-setting : goal.returns-in_default-setting
 returns-in_default-setting c = search telling
 
-pub returns-in-Ends-closing : goal.returns-in-Ends-closing
-returns-in-Ends-closing c = search telling
+pub returns-in-Some-closing : goal.returns-in-Some-closing
+returns-in-Some-closing c = search telling
 
-pub returns-in-Fault : goal.returns-in-Fault
-returns-in-Fault c = search telling
+pub returns-in-None : goal.returns-in-None
+returns-in-None c = search telling

@@ -3,11 +3,14 @@
 use Rattle.instructions.proofs.Declarations.{othering}
 use Rattle.instructions.proofs.declaration.other.Goals as goal
 
+pub is_utf8-requires : goal.is_utf8-requires
+is_utf8-requires c = search (othering, c.in_ok-e.was)
+
+pub returns-in_err-e : goal.returns-in_err-e
+returns-in_err-e c = rw c.from_residual.ensures (search (othering, c.in_err-e.was))
+
 pub returns-then-is_utf8 : goal.returns-then-is_utf8
-returns-then-is_utf8 c = search othering
+returns-then-is_utf8 c = search (othering, c.in_ok-e.was)
 
-pub returns-else-is_utf8 : goal.returns-else-is_utf8
-returns-else-is_utf8 c = search othering
-
-pub returns-in-Fault : goal.returns-in-Fault
-returns-in-Fault c = search othering
+pub returns : goal.returns
+returns c = search (othering, c.in_ok-e.was)

@@ -9,8 +9,8 @@ returns-then-at-doc c = search quoting
 pub returns-then-q : goal.returns-then-q
 returns-then-q c = search quoting
 
-pub returns-in-Ends : goal.returns-in-Ends
-returns-in-Ends c = search quoting
+pub returns-in_err-e : goal.returns-in_err-e
+returns-in_err-e c = rw c.from_residual.ensures (search (quoting, c.in_err-e.was))
 
-pub returns-in-Fault : goal.returns-in-Fault
-returns-in-Fault c = search quoting
+pub returns : goal.returns
+returns c = search (quoting, c.in_ok-e.was)

@@ -3,11 +3,11 @@
 use Rattle.instructions.proofs.Declarations.{parting}
 use Rattle.instructions.proofs.declaration.setting.Goals as goal
 
-pub returns-in_default-word : goal.returns-in_default-word
-returns-in_default-word c = search parting
+pub returns-in_err-b : goal.returns-in_err-b
+returns-in_err-b c = rw c.from_residual-in_err-b.ensures (search (parting, c.in_ok-a.was, c.in_err-b.was))
 
-pub returns-in_default-eq : goal.returns-in_default-eq
-returns-in_default-eq c = search parting
+pub returns-in_err-c : goal.returns-in_err-c
+returns-in_err-c c = rw c.from_residual-in_err-c.ensures (search (parting, c.in_ok-a.was, c.in_ok-b.was, c.in_err-c.was))
 
 pub returns : goal.returns
-returns c = search parting
+returns c = search (parting, c.in_ok-a.was, c.in_ok-b.was, c.in_ok-c.was)

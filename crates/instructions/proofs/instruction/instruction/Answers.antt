@@ -12,22 +12,22 @@ overflow_add-at c =
     let s = c.args in
     omega (arith, opened_inside s.doc.now s.at c.stands.ensures c.if-not-stands.false-raw)
 
-pub overflow_add-at-in-Ends : goal.overflow_add-at-in-Ends
-overflow_add-at-in-Ends c =
+pub overflow_add-at-2 : goal.overflow_add-at-2
+overflow_add-at-2 c =
     let s = c.args in
     omega (arith, opened_inside s.doc.now s.at c.stands.ensures c.if-not-stands.false-raw)
 
+pub returns-in_err-e : goal.returns-in_err-e
+returns-in_err-e c = rw c.from_residual.ensures (search (instructing, c.in_err-e.was))
+
 pub is_xml-requires : goal.is_xml-requires
-is_xml-requires c = search instructing
+is_xml-requires c = search (instructing, c.in_ok-e.was)
 
 pub returns-then-is_xml : goal.returns-then-is_xml
-returns-then-is_xml c = search instructing
+returns-then-is_xml c = search (instructing, c.in_ok-e.was)
 
 pub instruction_end-requires : goal.instruction_end-requires
-instruction_end-requires c = search instructing
+instruction_end-requires c = search (instructing, c.in_ok-e.was)
 
-pub returns-else-is_xml : goal.returns-else-is_xml
-returns-else-is_xml c = search instructing
-
-pub returns-in-Fault : goal.returns-in-Fault
-returns-in-Fault c = search instructing
+pub returns : goal.returns
+returns c = search (instructing, c.in_ok-e.was)

@@ -4,8 +4,8 @@ use borrow.Author.Rules.{rules}
 use Rattle.instructions.proofs.Over.{equals}
 use Rattle.instructions.proofs.steps.eq.Goals as goal
 
-pub returns-in-Ends : goal.returns-in-Ends
-returns-in-Ends c = search (equals, rules)
+pub returns-in_err-i : goal.returns-in_err-i
+returns-in_err-i c = rw c.from_residual.ensures (search (equals, rules, c.in_err-i.was))
 
-pub returns-in-Fault : goal.returns-in-Fault
-returns-in-Fault c = search (equals, rules)
+pub returns : goal.returns
+returns c = search (equals, rules, c.in_ok-i.was)

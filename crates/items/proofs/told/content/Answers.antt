@@ -3,14 +3,14 @@
 use Rattle.items.proofs.Telling.{contents}
 use Rattle.items.proofs.told.content.Goals as goal
 
-pub returns-in-Says : goal.returns-in-Says
-returns-in-Says c = search contents
+pub returns-in-Some : goal.returns-in-Some
+returns-in-Some c = search contents
 
-pub returns-in-Fault : goal.returns-in-Fault
-returns-in-Fault c = search contents
+pub returns-in-None : goal.returns-in-None
+returns-in-None c = search contents
 
-pub returns-in-Ends : goal.returns-in-Ends
-returns-in-Ends c = search contents
+pub returns-in-Some-text : goal.returns-in-Some-text
+returns-in-Some-text c = search contents
 
-pub returns-in-Fault-text : goal.returns-in-Fault-text
-returns-in-Fault-text c = search contents
+pub returns-in-None-text : goal.returns-in-None-text
+returns-in-None-text c = search contents

@@ -3,17 +3,17 @@
 use Rattle.items.proofs.Telling.{marking}
 use Rattle.items.proofs.told.marked.Goals as goal
 
-pub returns-in-Ends : goal.returns-in-Ends
-returns-in-Ends c = search marking
+pub returns-in-Some : goal.returns-in-Some
+returns-in-Some c = search marking
 
-pub returns-in-Fault : goal.returns-in-Fault
-returns-in-Fault c = search marking
+pub returns-in-None : goal.returns-in-None
+returns-in-None c = search marking
 
-pub returns-in-Ends-section : goal.returns-in-Ends-section
-returns-in-Ends-section c = search marking
+pub returns-in-Some-section : goal.returns-in-Some-section
+returns-in-Some-section c = search marking
 
-pub returns-in-Fault-section : goal.returns-in-Fault-section
-returns-in-Fault-section c = search marking
+pub returns-in-None-section : goal.returns-in-None-section
+returns-in-None-section c = search marking
 
 pub returns-then-stands-3 : goal.returns-then-stands-3
 returns-then-stands-3 c = search marking

@@ -3,14 +3,14 @@
 use Rattle.items.proofs.Telling.{querying}
 use Rattle.items.proofs.told.queried.Goals as goal
 
-pub returns-in-Ends : goal.returns-in-Ends
-returns-in-Ends c = search querying
+pub returns-in-Some : goal.returns-in-Some
+returns-in-Some c = search querying
 
-pub returns-in-Fault : goal.returns-in-Fault
-returns-in-Fault c = search querying
+pub returns-in-None : goal.returns-in-None
+returns-in-None c = search querying
 
-pub returns-in-Ends-instruction : goal.returns-in-Ends-instruction
-returns-in-Ends-instruction c = search querying
+pub returns-in-Some-instruction : goal.returns-in-Some-instruction
+returns-in-Some-instruction c = search querying
 
-pub returns-in-Fault-instruction : goal.returns-in-Fault-instruction
-returns-in-Fault-instruction c = search querying
+pub returns-in-None-instruction : goal.returns-in-None-instruction
+returns-in-None-instruction c = search querying

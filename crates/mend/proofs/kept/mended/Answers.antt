@@ -13,8 +13,8 @@ place-placement-requires c = search keeping
 pub returns-then-not-stays : goal.returns-then-not-stays
 returns-then-not-stays c =
     let v = c.loop-table.invariant in
-    let all = kept_answer v.3 c.item-next.ensures c.place-placement.ensures c.halved-half.ensures c.stays.ensures
-    c.if-not-stays.true c.laid.result v.2 (c.laid.ensures.value, c.laid.ensures.out_after) in
+    let all = kept_answer v.2 c.item-next.ensures c.place-placement.ensures c.halved-half.ensures c.stays.ensures
+    c.if-not-stays.true c.laid.result v.1 (c.laid.ensures.value, c.laid.ensures.out_after) in
     record {
       value = all.0;
       out_after = all.1;

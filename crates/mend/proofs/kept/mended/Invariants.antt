@@ -3,13 +3,12 @@
 use mathlib.Core.Path.{◌≡◌}
 use Prim.Native.Nat.{◌-◌, ◌≤◌}
 use lib.ListN.{length}
-use Rattle.points.specs.Class.{class_table}
 use Rattle.mend.proofs.Keeping.{Keeping}
 use Rattle.mend.proofs.kept.mended.Given as goal
 
 abbrev pub invariant-loop-table : goal.invariant-loop-table
 invariant-loop-table l =
-    (length l.doc ≤ 16777216) × (l.table ≡ class_table) × (l.out ≡ l.initial.out) × Keeping l.doc l.starts l.lens l.opened l.at l.first
+    (length l.doc ≤ 16777216) × (l.out ≡ l.initial.out) × Keeping l.doc l.starts l.lens l.opened l.at l.first
 
 abbrev pub decreases-loop-table : goal.decreases-loop-table
 decreases-loop-table l = length l.doc - l.at

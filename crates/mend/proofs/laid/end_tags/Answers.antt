@@ -1,5 +1,4 @@
--- `end_tags` meets its contract. The invariant is `Closing`: the end tags of the levels above `level` are laid.
--- The measure is the level.
+-- `end_tags` meets its contract. The invariant is `Closing`: the end tags of the levels from `level` on are laid.
 use Rattle.mend.proofs.Closing.{closing}
 use Rattle.mend.proofs.laid.end_tags.Goals as goal
 

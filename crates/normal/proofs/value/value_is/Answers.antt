@@ -18,14 +18,14 @@ loop-c-preserved-then-joins c = search comparing
 pub put-requires : goal.put-requires
 put-requires c = search comparing
 
-pub loop-c-smaller-in-Ends : goal.loop-c-smaller-in-Ends
-loop-c-smaller-in-Ends c = search comparing
+pub loop-c-smaller-in-Some : goal.loop-c-smaller-in-Some
+loop-c-smaller-in-Some c = search comparing
 
-pub loop-c-preserved-in-Ends : goal.loop-c-preserved-in-Ends
-loop-c-preserved-in-Ends c = search comparing
+pub loop-c-preserved-in-Some : goal.loop-c-preserved-in-Some
+loop-c-preserved-in-Some c = search comparing
 
-pub returns-in-Fault : goal.returns-in-Fault
-returns-in-Fault c = search comparing
+pub returns-in-None : goal.returns-in-None
+returns-in-None c = search comparing
 
 pub put-requires-in-Referred : goal.put-requires-in-Referred
 put-requires-in-Referred c = search comparing
@@ -36,8 +36,8 @@ loop-c-smaller c = search comparing
 pub loop-c-preserved : goal.loop-c-preserved
 loop-c-preserved c = search comparing
 
-pub returns-in-Fault-put : goal.returns-in-Fault-put
-returns-in-Fault-put c = search comparing
+pub returns-in-None-put : goal.returns-in-None-put
+returns-in-None-put c = search comparing
 
 pub returns-in-Nothing : goal.returns-in-Nothing
 returns-in-Nothing c = search comparing

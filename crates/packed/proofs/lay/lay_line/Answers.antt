@@ -12,7 +12,7 @@ lay_steps-measured-requires c =
 
 pub test_length-requires : goal.test_length-requires
 test_length-requires c =
-    let p = line_parts c.requires.0 c.lay_steps-measured.ensures c.end_at.ensures c.in-Ends.is in
+    let p = line_parts c.requires.0 c.lay_steps-measured.ensures c.end_at.ensures c.in-Some.is in
     (p.name_small, p.value_small)
 
 pub lay_head-a-requires : goal.lay_head-a-requires
@@ -33,20 +33,20 @@ lay_steps-laid-requires c =
 pub lay_test-e-requires : goal.lay_test-e-requires
 lay_test-e-requires c =
     let q = c.requires in
-    let p = line_parts q.0 c.lay_steps-measured.ensures c.end_at.ensures c.in-Ends.is in
+    let p = line_parts q.0 c.lay_steps-measured.ensures c.end_at.ensures c.in-Some.is in
     let v = c.lay_steps-laid.ensures in
     let n = v.near in
     let i = v.inside in
     let h = c.lay_head-a.ensures.long in
     (p.name_small, p.value_small, p.name_inside, p.value_inside, omega arith)
 
-pub returns-in-Ends : goal.returns-in-Ends
-returns-in-Ends c =
+pub returns-in-Some : goal.returns-in-Some
+returns-in-Some c =
     let q = c.requires in
-    let p = line_parts q.0 c.lay_steps-measured.ensures c.end_at.ensures c.in-Ends.is in
+    let p = line_parts q.0 c.lay_steps-measured.ensures c.end_at.ensures c.in-Some.is in
     line_laid p c.lay_steps-measured.ensures c.test_length.ensures c.lay_head-a.ensures
     c.lay_steps-laid.ensures c.lay_test-e.ensures
 
-pub returns-in-Fault : goal.returns-in-Fault
-returns-in-Fault c =
+pub returns-in-None : goal.returns-in-None
+returns-in-None c =
     line_no_fault c.requires.0 c.lay_steps-measured.ensures c.end_at.ensures (search rules)

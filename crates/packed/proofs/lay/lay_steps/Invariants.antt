@@ -5,8 +5,8 @@ use lib.ListN.{length}
 use Rattle.packed.proofs.Laying.{Stepped}
 use Rattle.packed.proofs.lay.lay_steps.Given as goal
 
-abbrev pub invariant-loop-kind : goal.invariant-loop-kind
-invariant-loop-kind l = Stepped l.list l.at l.initial.out l.to l.count l.end l.place l.out
+abbrev pub invariant-loop-step : goal.invariant-loop-step
+invariant-loop-step l = Stepped l.list l.at l.initial.out l.to l.count l.end l.place l.out
 
-abbrev pub decreases-loop-kind : goal.decreases-loop-kind
-decreases-loop-kind l = length l.list - l.end
+abbrev pub decreases-loop-step : goal.decreases-loop-step
+decreases-loop-step l = length l.list - l.end

@@ -1,10 +1,6 @@
--- `spell_steps` meets its contract. The invariant is `Stepping`: of so many steps, all but `left` are laid.
--- The measure is `left`.
+-- `spell_steps` meets its contract. The invariant is `Stepping`: as many steps are laid as there were turns.
 use Rattle.packed.proofs.Spelling.{Stepping}
 use Rattle.packed.proofs.spell.spell_steps.Given as goal
 
-abbrev pub invariant-loop-left : goal.invariant-loop-left
-invariant-loop-left l = Stepping l.packed l.at l.count l.initial.out l.to l.left l.end l.place l.out
-
-abbrev pub decreases-loop-left : goal.decreases-loop-left
-decreases-loop-left l = l.left
+abbrev pub invariant-loop : goal.invariant-loop
+invariant-loop l = Stepping l.packed l.at l.count l.initial.out l.to l.counter l.end l.place l.out

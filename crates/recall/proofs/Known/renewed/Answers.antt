@@ -4,9 +4,3 @@ use Rattle.recall.proofs.Known.renewed.Goals as goal
 
 pub returns-then-is_of : goal.returns-then-is_of
 returns-then-is_of c = recalled c.requires.0 c.requires.1 _ c.is_of.ensures c.if-is_of.true
-
-pub made-requires : goal.made-requires
-made-requires c = c.requires.1
-
-pub returns : goal.returns
-returns c = c.made.ensures

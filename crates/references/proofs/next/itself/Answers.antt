@@ -11,5 +11,5 @@ returns-then-plain c = search standing
 pub returns-else-plain : goal.returns-else-plain
 returns-else-plain c = search standing
 
-pub returns-in-Bad : goal.returns-in-Bad
-returns-in-Bad c = search standing
+pub returns-in-None : goal.returns-in-None
+returns-in-None c = search standing

@@ -2,11 +2,11 @@
 use Rattle.references.proofs.Signs.{coming}
 use Rattle.references.proofs.next.next.Goals as goal
 
-pub returns-in-Says : goal.returns-in-Says
-returns-in-Says c = search coming
+pub returns-in-Some : goal.returns-in-Some
+returns-in-Some c = search coming
 
-pub returns-in-Fault : goal.returns-in-Fault
-returns-in-Fault c = search coming
+pub returns-in-None : goal.returns-in-None
+returns-in-None c = search coming
 
 pub returns : goal.returns
 returns c = search coming

@@ -7,13 +7,13 @@ use Rattle.references.proofs.reference.char_ref.Goals as goal
 pub numbered-requires : goal.numbered-requires
 numbered-requires c = search reading
 
-pub numbered-requires-in-Fault : goal.numbered-requires-in-Fault
-numbered-requires-in-Fault c = search reading
+pub numbered-requires-in-None : goal.numbered-requires-in-None
+numbered-requires-in-None c = search reading
 
-pub returns-in-Says : goal.returns-in-Says
+pub returns-in-Some : goal.returns-in-Some
 unfolding char_ref_of
-returns-in-Says c = search reading
+returns-in-Some c = search reading
 
-pub returns-in-Fault : goal.returns-in-Fault
+pub returns-in-None : goal.returns-in-None
 unfolding char_ref_of
-returns-in-Fault c = search reading
+returns-in-None c = search reading

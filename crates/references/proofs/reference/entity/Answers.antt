@@ -3,8 +3,8 @@
 use Rattle.references.proofs.Readings.{reading}
 use Rattle.references.proofs.reference.entity.Goals as goal
 
-pub returns-in-Ends : goal.returns-in-Ends
-returns-in-Ends c = search reading
+pub returns-in_err-e : goal.returns-in_err-e
+returns-in_err-e c = rw c.from_residual.ensures (search (reading, c.in_err-e.was))
 
-pub returns-in-Fault : goal.returns-in-Fault
-returns-in-Fault c = search reading
+pub returns : goal.returns
+returns c = search (reading, c.in_ok-e.was)

@@ -4,21 +4,21 @@ use Rattle.readers.specs.Value.{entity_ref_of}
 use Rattle.references.proofs.Readings.{reading}
 use Rattle.references.proofs.reference.entity_ref.Goals as goal
 
-pub returns-in-Says : goal.returns-in-Says
+pub returns-in-Some : goal.returns-in-Some
 unfolding entity_ref_of
-returns-in-Says c = search reading
+returns-in-Some c = search reading
 
-pub returns-in-Says-entity : goal.returns-in-Says-entity
+pub returns-in-Some-entity : goal.returns-in-Some-entity
 unfolding entity_ref_of
-returns-in-Says-entity c = search reading
+returns-in-Some-entity c = search reading
 
-pub returns-in-Says-entity-2 : goal.returns-in-Says-entity-2
+pub returns-in-Some-entity-2 : goal.returns-in-Some-entity-2
 unfolding entity_ref_of
-returns-in-Says-entity-2 c = search reading
+returns-in-Some-entity-2 c = search reading
 
-pub returns-in-Says-entity-3 : goal.returns-in-Says-entity-3
+pub returns-in-Some-entity-3 : goal.returns-in-Some-entity-3
 unfolding entity_ref_of
-returns-in-Says-entity-3 c = search reading
+returns-in-Some-entity-3 c = search reading
 
 pub returns : goal.returns
 unfolding entity_ref_of

@@ -4,10 +4,10 @@ use Rattle.readers.specs.Value.{reference_of}
 use Rattle.references.proofs.Readings.{reading}
 use Rattle.references.proofs.reference.reference.Goals as goal
 
-pub returns-in-Says : goal.returns-in-Says
+pub returns-in-Some : goal.returns-in-Some
 unfolding reference_of
-returns-in-Says c = search reading
+returns-in-Some c = search reading
 
-pub returns-in-Fault : goal.returns-in-Fault
+pub returns-in-None : goal.returns-in-None
 unfolding reference_of
-returns-in-Fault c = search reading
+returns-in-None c = search reading

@@ -10,12 +10,11 @@ lay_text-laid-requires c =
     let p = c.requires in (
       p.0,
       p.1,
-      p.2,
       omega (
         arith,
         quoted_near c.lay_text-found.result.special
             c.quote-a.ensures,
-        p.3,
+        p.2,
       ),
     )
 
@@ -26,7 +25,7 @@ quote-requires c =
       c.lay_text-laid.ensures.to_bound,
       quoted_near c.lay_text-found.result.special
           c.quote-a.ensures,
-      c.requires.3,
+      c.requires.2,
     )
 
 pub returns : goal.returns

@@ -5,7 +5,6 @@ use native.Mathlib.Omega.{arith}
 use Rattle.rows.proofs.Gathering.{aside_stops, closes_stops, opens_stops, whole_stops, nearer, ahead_by, said_ready}
 use Rattle.rows.proofs.Gathering.{gathered_stop, gathered_close, gathered_down, gathered_whole, gathered_up, gathered_over}
 use Rattle.rows.proofs.Gathering.{gathered_said}
-use Prim.Native.Nat.{◌-◌}
 use Rattle.rows.proofs.gather.lay_text.Goals as goal
 
 pub loop-depth-init : goal.loop-depth-init
@@ -15,7 +14,7 @@ pub returns-in-Stops : goal.returns-in-Stops
 returns-in-Stops c =
     let all = gathered_stop c.loop-depth.invariant c.item-next.ensures
     c.end_of-end.ensures c.part_of.ensures
-    c.requires.1 c.in-Stops.is in
+    c.requires.0 c.in-Stops.is in
     record {
       lays = all.0;
       to_bound = all.1;
@@ -25,7 +24,7 @@ pub returns-then-depth-eq0 : goal.returns-then-depth-eq0
 returns-then-depth-eq0 c =
     let all = gathered_close c.loop-depth.invariant c.item-next.ensures
     c.end_of-end.ensures c.part_of.ensures
-    c.requires.1 c.in-Closes.is c.if-depth-eq0.true in
+    c.requires.0 c.in-Closes.is c.if-depth-eq0.true in
     record {
       lays = all.0;
       to_bound = all.1;
@@ -91,7 +90,7 @@ lay_said-laid-requires c =
     said_ready c.loop-depth.invariant
     c.item-next.ensures
     c.end_of-end.ensures c.part_of.ensures
-    c.in-Aside.is c.requires.1 c.requires.3
+    c.in-Aside.is c.requires.0 c.requires.2
 
 pub loop-depth-smaller-then-depth-eq0-2 : goal.loop-depth-smaller-then-depth-eq0-2
 loop-depth-smaller-then-depth-eq0-2 c =

@@ -7,7 +7,7 @@ pub returns-then-empty : goal.returns-then-empty
 returns-then-empty c =
     let put = c.put-b in
     let path = c.lay_path-a in
-    let all = record_bare c.requires.3 (path.ensures.wrote, path.ensures.upper_bound) put.ensures c.args.end c.if-empty.true
+    let all = record_bare c.requires.2 (path.ensures.wrote, path.ensures.upper_bound) put.ensures c.args.end c.if-empty.true
     c.lay_end.ensures in
     record {
       wrote = all.0;
@@ -19,7 +19,7 @@ returns c =
     let field = c.lay_field-c in
     let put = c.put-b in
     let path = c.lay_path-a in
-    let all = record_full c.requires.3 (path.ensures.wrote, path.ensures.upper_bound) put.ensures c.args.end
+    let all = record_full c.requires.2 (path.ensures.wrote, path.ensures.upper_bound) put.ensures c.args.end
     c.if-empty.false (field.ensures.wrote, field.ensures.upper_bound)
     c.lay_end-2.ensures in
     record {

@@ -1,19 +1,13 @@
--- `lay_lines` meets its contract. The invariant is `Lined`: the bytes before the place i are laid.
--- The measure is what is left of the text.
+-- `lay_lines` meets its contract. The invariant is `Lined`: the bytes so far are laid.
+-- proofs/Laying.antt has the laws.
 use Rattle.rows.proofs.Laying.{lined_over, lining}
-use Prim.Native.Nat.{◌-◌}
 use Rattle.rows.proofs.said.lay_lines.Goals as goal
 
-pub loop-i-init : goal.loop-i-init
-loop-i-init c = search lining
+pub loop-b-init : goal.loop-b-init
+loop-b-init c = search lining
 
-pub loop-i-preserved : goal.loop-i-preserved
-loop-i-preserved c = search lining
+pub loop-b-preserved : goal.loop-b-preserved
+loop-b-preserved c = search lining
 
-pub returns : goal.returns
-returns c =
-    let all = lined_over c.loop-i.invariant c.loop-i-test.false in
-    record {
-      lays = all.0;
-      to_bound = all.1;
-    }
+pub returns-clause-lays : goal.returns-clause-lays
+returns-clause-lays c = (lined_over c.loop-b.invariant c.loop-b-test.false).0

@@ -1,5 +1,5 @@
--- `mark_tail` meets its contract. The loop's invariant: no mark stands from `from` up to i.
--- The measure is what is left of the slice.
+-- `mark_tail` meets its contract.
+-- The loop's invariant: no mark stands from `from` up to i.
 use Rattle.scans.proofs.Marks.{marking}
 use Rattle.scans.proofs.mark.mark_tail.Goals as goal
 

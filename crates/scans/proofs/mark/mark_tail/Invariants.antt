@@ -1,13 +1,8 @@
--- `mark_tail` meets its contract. The loop's invariant: no mark stands from `from` up to i.
--- The measure is what is left of the slice.
-use Prim.Native.Nat.{◌-◌}
-use lib.ListN.{length}
+-- `mark_tail` meets its contract.
+-- The loop's invariant: no mark stands from `from` up to i.
 use Rattle.blocks.specs.Block.{Skips}
 use Rattle.readers.specs.Plain.{is_mark}
 use Rattle.scans.proofs.mark.mark_tail.Given as goal
 
 abbrev pub invariant-loop-i : goal.invariant-loop-i
 invariant-loop-i l = Skips (is_mark l.q) l.s l.from l.i
-
-abbrev pub decreases-loop-i : goal.decreases-loop-i
-decreases-loop-i l = length l.s - l.i

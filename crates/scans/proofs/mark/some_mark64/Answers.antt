@@ -1,29 +1,26 @@
--- `some_mark64` meets its contract. The loop's invariant: `found` tells whether one of the first j bytes of the block is a mark.
--- The measure is what is left of the 64.
+-- `some_mark64` meets its contract.
+-- The loop's invariant: `found` tells whether one of the bytes of the block before the index is a mark.
 use mathlib.Core.Bool.{Bool}
-use mathlib.Core.Path.{◌≡◌, refl, ap, ◌∙◌}
-use Prim.Native.Nat.{ℕ, ◌+◌}
+use mathlib.Core.Path.{◌≡◌, refl, ◌∙◌}
+use Prim.Native.Nat.{ℕ, ◌+◌, ◌-◌}
 use native.Mathlib.Omega.{arith}
-use lib.ListN.{get_or}
+use lib.ListN.{get_or, take, drop}
+use lib.Seq.{get_or-take, get_or-drop}
 use Rattle.blocks.specs.Block.{some_of}
 use Rattle.readers.specs.Plain.{is_mark}
 use Rattle.blocks.proofs.Until.{some_turn}
 use Rattle.scans.proofs.mark.some_mark64.Goals as goal
 
-pub loop-j-init : goal.loop-j-init
+pub loop-b-init : goal.loop-b-init
 unfolding some_of
-loop-j-init c =
-    (omega arith, refl)
+loop-b-init c = refl
 
-pub loop-j-preserved : goal.loop-j-preserved
-loop-j-preserved c =
+pub loop-b-preserved : goal.loop-b-preserved
+loop-b-preserved c =
     let start = c.args in
+    let k = c.loop-b.b-index in
+    let n = (start.i + 64) - start.i in
     let p : ℕ → Bool = λ k. is_mark start.q (get_or start.s.now (start.i + k) 0) in
-    (omega arith, rw (c.loop-j.invariant.1, c.is_mark-found.ensures) (some_turn p c.loop-j.j))
-
-pub returns : goal.returns
-returns c =
-    let start = c.args in
-    let p : ℕ → Bool = λ k. is_mark start.q (get_or start.s.now (start.i + k) 0) in
-    let e : c.loop-j.j ≡ 64 = omega arith in
-    c.loop-j.invariant.1 ∙ ap (some_of p) e
+    let e : get_or (take n (drop start.i start.s.now)) k 0 ≡ get_or start.s.now (start.i + k) 0
+    = get_or-take n (drop start.i start.s.now) k 0 (omega arith) ∙ get_or-drop start.i start.s.now k 0 in
+    rw (c.loop-b.invariant, c.is_mark-found.ensures, e) (some_turn p k)

@@ -1,5 +1,5 @@
--- `seek` meets its contract. The loop's invariant: what is sought from i on is what was sought from the start on.
--- The measure is what is left of the slice.
+-- `seek` meets its contract.
+-- The loop's invariant: what is sought from i on is what was sought from the start on.
 use Rattle.scans.proofs.Seeks.{sought}
 use Rattle.scans.proofs.seek.seek.Goals as goal
 

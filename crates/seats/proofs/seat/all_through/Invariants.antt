@@ -2,7 +2,7 @@
 -- it stands behind k tags. Each need is handed its law of proofs/Going.antt.
 -- where the client began, and whether at the document's first item, is asked for no more
 use mathlib.Core.Bool.{Bool}
-use Prim.Native.Nat.{ℕ, ◌-◌}
+use Prim.Native.Nat.{ℕ}
 use Rattle.seats.specs.Seated.{Begun, seat_spot}
 use Rattle.seats.specs.Went.{Lies}
 use Rattle.seats.proofs.Going.{Gone}
@@ -25,7 +25,3 @@ invariant-loop-k l =
     (record { run = l.initial.run; opened = l.initial.opened; at = a; first = b; tests = l.initial.tests }) l.initial.out l.initial.log
     l.states l.memo l.slots l.starts l.lens l.opened l.run l.tests
     l.k l.out l.log
-
-abbrev pub decreases-loop-k : goal.decreases-loop-k
-decreases-loop-k l =
-    l.tags - l.k

@@ -10,10 +10,9 @@ all_through-requires c =
       c.requires.0,
       c.requires.1,
       c.requires.2,
-      c.requires.3,
-      c.requires.4.serves live,
-      c.requires.4.begun live,
-      c.requires.4.lies live,
+      c.requires.3.serves live,
+      c.requires.3.begun live,
+      c.requires.3.lies live,
     )
 
 pub returns-then-live : goal.returns-then-live

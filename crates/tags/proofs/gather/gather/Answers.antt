@@ -9,5 +9,5 @@ loop-name-smaller c = search gathering
 pub loop-name-preserved : goal.loop-name-preserved
 loop-name-preserved c = search gathering
 
-pub returns-in-Fault : goal.returns-in-Fault
-returns-in-Fault c = search gathering
+pub returns-in-None : goal.returns-in-None
+returns-in-None c = search gathering

@@ -1,5 +1,5 @@
 -- `seen` meets its contract. The loop's invariant: the name is one of those kept if it is one of those from k on.
--- The measure is what is left of the count.
+-- proofs/Kept.antt has the laws.
 use Rattle.tags.proofs.Kept.{seeing}
 use Rattle.tags.proofs.gather.seen.Goals as goal
 

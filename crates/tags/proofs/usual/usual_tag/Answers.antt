@@ -14,12 +14,12 @@ returns-then-stands c = search usually
 
 pub returns-then-stands-2 : goal.returns-then-stands-2
 returns-then-stands-2 c =
-    walk_empty c.loop-starts.invariant.1 c.stands-in-loop-starts.ensures c.if-stands.false
+    walk_empty c.loop-starts.invariant c.stands-in-loop-starts.ensures c.if-stands.false
     c.stands-in-loop-starts-2.ensures c.if-stands-2.true
 
 pub note-requires : goal.note-requires
 note-requires c =
-    (search usually, walk_within c.loop-starts.invariant.1 c.usual_attribute.ensures c.in-Named.is)
+    (search usually, walk_within c.loop-starts.invariant c.usual_attribute.ensures c.in-Some.is)
 
 pub loop-starts-preserved : goal.loop-starts-preserved
 loop-starts-preserved c = search usually

@@ -16,10 +16,10 @@ loop-i-smaller c = search piecing
 pub loop-i-preserved : goal.loop-i-preserved
 loop-i-preserved c = search piecing
 
-pub returns-in-Fault : goal.returns-in-Fault
-returns-in-Fault c =
+pub returns-in-None : goal.returns-in-None
+returns-in-None c =
     pieces_fault c.loop-i.invariant (omega arith) c.reference.ensures
-    c.in-Fault.is
+    c.in-None.is
 
 pub returns : goal.returns
 returns c = search piecing

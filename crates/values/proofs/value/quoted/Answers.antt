@@ -3,11 +3,11 @@
 use Rattle.values.proofs.Pieces.{quoting}
 use Rattle.values.proofs.value.quoted.Goals as goal
 
+pub returns-in_err-i : goal.returns-in_err-i
+returns-in_err-i c = rw c.from_residual.ensures (search (quoting, c.in_err-i.was))
+
 pub pieces-k-requires : goal.pieces-k-requires
-pieces-k-requires c = search quoting
+pieces-k-requires c = search (quoting, c.in_ok-i.was)
 
-pub returns-in-Ends : goal.returns-in-Ends
-returns-in-Ends c = search quoting
-
-pub returns-in-Fault : goal.returns-in-Fault
-returns-in-Fault c = search quoting
+pub returns : goal.returns
+returns c = search (quoting, c.in_ok-i.was)

@@ -4,10 +4,10 @@ use Rattle.readers.specs.Value.{value_of}
 use Rattle.values.proofs.Pieces.{reading}
 use Rattle.values.proofs.value.value.Goals as goal
 
-pub returns-in-Ends : goal.returns-in-Ends
+pub returns-in-Some : goal.returns-in-Some
 unfolding value_of
-returns-in-Ends c = search reading
+returns-in-Some c = search reading
 
-pub returns-in-Fault : goal.returns-in-Fault
+pub returns-in-None : goal.returns-in-None
 unfolding value_of
-returns-in-Fault c = search reading
+returns-in-None c = search reading

@@ -1,5 +1,5 @@
 -- `deeper` meets its contract. The loop's invariant:
--- the bits of the first p paths are carried. The measure is what is left of 32.
+-- the bits of the first p paths are carried.
 use Rattle.matcher.proofs.Carrying.{carrying}
 use Rattle.matcher.proofs.state.MatchState.deeper.Goals as goal
 

@@ -1,10 +1,7 @@
 -- `selecting` meets its contract. The loop's invariant:
--- the bits so far are those of the paths from p on. The measure is p.
+-- the bits so far are those of the paths from p on.
 use Rattle.matcher.proofs.Selecting.{Selecting}
 use Rattle.matcher.proofs.state.MatchState.selecting.Given as goal
 
 abbrev pub invariant-loop-p : goal.invariant-loop-p
-invariant-loop-p l = Selecting l.state l.passes l.stays l.goes l.lasts l.p l.bits
-
-abbrev pub decreases-loop-p : goal.decreases-loop-p
-decreases-loop-p l = l.p
+invariant-loop-p l = Selecting l.self.bits l.fit.passes l.fit.stays l.fit.goes l.fit.lasts l.p l.bits

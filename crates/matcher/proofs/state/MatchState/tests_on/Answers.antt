@@ -1,5 +1,5 @@
 -- `tests_on` meets its contract. The loop's invariant:
--- the tests of the first p paths are summed. The measure is what is left of 32.
+-- the tests of the first p paths are summed.
 use native.Mathlib.Omega.{arith}
 use lib.Count.{ones-le}
 use Rattle.matcher.proofs.Carrying.{summing}
@@ -15,4 +15,4 @@ pub loop-p-preserved : goal.loop-p-preserved
 loop-p-preserved c = search summing
 
 pub returns : goal.returns
-returns c = search summing
+returns c = rw c.from.ensures (search summing)

@@ -1,0 +1,2 @@
+-- One answer.
+pub mod OneAnswer

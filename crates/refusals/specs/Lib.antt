@@ -1,0 +1,2 @@
+-- What an item at fault comes to.
+pub mod Fault
