@@ -37,6 +37,6 @@ pub fn listed(list: &[u8]) -> usize {
 }
 
 // 31 times the sum and x, modulo 2^32.
-pub fn fold(sum: u32, x: usize) -> u32 {
-    sum.wrapping_mul(31).wrapping_add((x % 0x100000000) as u32)
+pub fn fold(sum: usize, x: usize) -> usize {
+    (sum % 0x100000000 * 31 + x % 0x100000000) % 0x100000000
 }

@@ -14,11 +14,10 @@ mod sizes; // path lists at the sizes and past them
 use std::io;
 
 fn main(rt: HostRuntime) -> io::Result<()> {
-    let alloc = rt.alloc();
     let mut out = io::writer(&rt);
-    borders::print(alloc, &mut out)?;
+    borders::print(&mut out)?;
     rows::print(&mut out)?;
     offsets::print(&mut out)?;
-    texts::print(alloc, &mut out)?;
-    sizes::print(alloc, &mut out)
+    texts::print(&mut out)?;
+    sizes::print(&mut out)
 }

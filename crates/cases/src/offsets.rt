@@ -50,8 +50,8 @@ fn plant(text: &mut [u8], kind: &[u8]) {
 // The two numbers of a kind: the text as it is, and with a control byte at its end.
 #[derive(Drop)]
 struct Folded {
-    alone: u32,
-    ended: u32,
+    alone: usize,
+    ended: usize,
 }
 
 // The answers with the kind at each place of a text of each length.

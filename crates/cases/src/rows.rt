@@ -11,7 +11,7 @@ const SECONDS: [u8; 8] = [0x00, 0x80, 0x8F, 0x90, 0x9F, 0xA0, 0xBF, 0xFF];
 const TAILS: [u8; 2] = [0x80, 0xBF];
 
 // All bytes at each place after a first byte, where else a second byte and a tail stand.
-fn folded(first: u8) -> u32 {
+fn folded(first: u8) -> usize {
     let mut sum = 0;
     for place in 1..4 {
         for tail in TAILS {

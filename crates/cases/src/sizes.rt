@@ -1,9 +1,12 @@
 // Path lists at the sizes and past them: each a piece, another one n times and a last one, for five n from some number on. A line has the
 // row of the list, n, and what is answered.
 use crate::answers;
-use std::alloc::{AllocError, Global};
+use arrayvec::{ArrayVec, CapacityError};
 use std::io;
 use std::io::Write;
+
+// More bytes than any of the lists has.
+const ROOM: usize = 8200;
 
 // Each row: the piece, the other one, from which n on, and the last.
 const ROWS: [(&[u8], &[u8], u16, &[u8]); 20] = [
@@ -36,23 +39,23 @@ const ROWS: [(&[u8], &[u8], u16, &[u8]); 20] = [
     (b"", b"/a", 14, b"[@k=\"x\"]\n"),
 ];
 
-// A piece, another one n times and a last one.
-fn list(
-    alloc: Global,
+// Adds a piece, another one n times and a last one; an error where one of them has no room. The list is lent: one that is handed back is
+// copied.
+fn extend(
+    list: &mut ArrayVec<u8, ROOM>,
     first: &[u8],
     piece: &[u8],
     n: usize,
     last: &[u8],
-) -> Result<Vec<u8>, AllocError> {
-    let mut list = Vec::from_slice(alloc, first)?;
+) -> Result<(), CapacityError> {
+    list.try_extend_from_slice(first)?;
     for _ in 0..n {
-        list.extend_from_slice(piece)?;
+        list.try_extend_from_slice(piece)?;
     }
-    list.extend_from_slice(last)?;
-    Ok(list)
+    list.try_extend_from_slice(last)
 }
 
-pub fn print<W: Write>(alloc: Global, out: &mut W) -> io::Result<()> {
+pub fn print<W: Write>(out: &mut W) -> io::Result<()> {
     writeln!(
         out,
         "list, how often its piece stands there, and what is answered"
@@ -60,8 +63,11 @@ pub fn print<W: Write>(alloc: Global, out: &mut W) -> io::Result<()> {
     for (row, (first, piece, from, last)) in ROWS.iter().enumerate() {
         let from = usize::from(*from);
         for n in from..from + 5 {
-            let code = answers::listed(&list(alloc, first, piece, n, last)?);
-            writeln!(out, " {row} {n} {} {}", code / 64, code % 64)?;
+            let mut list = ArrayVec::new();
+            if extend(&mut list, first, piece, n, last).is_ok() {
+                let code = answers::listed(list.as_slice());
+                writeln!(out, " {row} {n} {} {}", code / 64, code % 64)?;
+            }
         }
     }
     Ok(())

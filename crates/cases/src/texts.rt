@@ -2,10 +2,13 @@
 // a place past the end; the answer on the text as a list. Then two numbers into which all answers are folded: with each byte replaced in
 // turn, and cut off after each byte.
 use crate::{answers, out};
+use arrayvec::ArrayVec;
 use chars::space::after_space;
-use std::alloc::{AllocError, Global};
 use std::io;
 use std::io::Write;
+
+// The most bytes of a text whose bytes are replaced; each of those below has fewer.
+const LONGEST: usize = 256;
 
 // Bytes that stand for each byte in turn.
 const OTHERS: [u8; 27] = [
@@ -99,7 +102,7 @@ const TEXTS: [&[u8]; 74] = [
 ];
 
 // All answers on a text, folded into a sum.
-fn fold_all(sum: u32, s: &[u8]) -> u32 {
+fn fold_all(sum: usize, s: &[u8]) -> usize {
     [
         answers::checked(s),
         answers::named(s, 0),
@@ -112,21 +115,22 @@ fn fold_all(sum: u32, s: &[u8]) -> u32 {
 }
 
 // A text with each byte replaced in turn.
-fn replaced(alloc: Global, s: &[u8]) -> Result<u32, AllocError> {
-    let mut text = Vec::from_slice(alloc, s)?;
+fn replaced(mut text: ArrayVec<u8, LONGEST>) -> usize {
+    let text = text.as_mut_slice();
     let mut sum = 0;
-    for (i, byte) in s.iter().enumerate() {
+    for i in 0..text.len() {
+        let byte = text[i];
         for other in OTHERS {
             text[i] = other;
-            sum = fold_all(sum, &text);
+            sum = fold_all(sum, text);
         }
-        text[i] = *byte;
+        text[i] = byte;
     }
-    Ok(sum)
+    sum
 }
 
 // A text cut off after each byte.
-fn cut_off(s: &[u8]) -> u32 {
+fn cut_off(s: &[u8]) -> usize {
     (0..s.len()).fold(0, |sum, n| fold_all(sum, &s[..n]))
 }
 
@@ -135,22 +139,24 @@ fn ends<W: Write>(out: &mut W, s: &[u8]) -> io::Result<()> {
     write!(out, " {} {}", after_space(s, 0), after_space(s, 100))
 }
 
-fn show<W: Write>(alloc: Global, out: &mut W, s: &[u8]) -> io::Result<()> {
+fn show<W: Write>(out: &mut W, s: &[u8]) -> io::Result<()> {
     out::bytes(out, s)?;
     ends(out, s)?;
     let code = answers::listed(s);
-    let replaced = replaced(alloc, s)?;
-    let cut_off = cut_off(s);
-    writeln!(out, " {} {} {replaced} {cut_off}", code / 64, code % 64)
+    write!(out, " {} {}", code / 64, code % 64)?;
+    if let Ok(text) = ArrayVec::try_from(s) {
+        write!(out, " {}", replaced(text))?;
+    }
+    writeln!(out, " {}", cut_off(s))
 }
 
-pub fn print<W: Write>(alloc: Global, out: &mut W) -> io::Result<()> {
+pub fn print<W: Write>(out: &mut W) -> io::Result<()> {
     writeln!(
         out,
         "bytes; name ends from 0, 1; space ends from 0, 100; as a list; replaced, cut off"
     )?;
     for text in TEXTS {
-        show(alloc, out, text)?;
+        show(out, text)?;
     }
     Ok(())
 }

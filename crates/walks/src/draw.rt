@@ -4,28 +4,27 @@
 // What draws numbers: each state of the seed comes from the one before.
 #[derive(Drop)]
 pub struct Draws {
-    seed: u32,
+    seed: usize,
 }
 
 impl Draws {
-    pub fn new(seed: u32) -> Self {
+    pub fn new(seed: usize) -> Self {
         Draws { seed }
     }
 
     // A number below n, and 0 where n is 0; the seed moves on.
-    pub fn below(&mut self, n: u16) -> u16 {
-        self.seed = self.seed.wrapping_mul(1664525).wrapping_add(1013904223);
-        let drawn = (self.seed / 65536) as u16;
-        if n == 0 { 0 } else { drawn % n }
+    pub fn below(&mut self, n: usize) -> usize {
+        self.seed = (self.seed % 0x100000000 * 1664525 + 1013904223) % 0x100000000;
+        if n == 0 { 0 } else { self.seed / 65536 % n }
     }
 
     // A number and one more, drawn below n.
-    pub fn at_least(&mut self, least: u16, n: u16) -> usize {
-        usize::from(least) + usize::from(self.below(n))
+    pub fn at_least(&mut self, least: usize, n: usize) -> usize {
+        least.wrapping_add(self.below(n))
     }
 }
 
 // 31 times the sum and x, modulo 2^32.
-pub fn fold(sum: u32, x: u16) -> u32 {
-    sum.wrapping_mul(31).wrapping_add(u32::from(x))
+pub fn fold(sum: usize, x: usize) -> usize {
+    (sum % 0x100000000 * 31 + x % 65536) % 0x100000000
 }

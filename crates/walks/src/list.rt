@@ -1,9 +1,14 @@
-// A random list: lines of steps, each step and each mark drawn.
+// A random list, added to a text: lines of steps, each step and each mark drawn. The text has room for every list that this program draws.
 use crate::draw::Draws;
 use crate::mode::Mode;
 use crate::names::Name;
+use arrayvec::ArrayString;
 use paths::Kind;
-use std::alloc::{AllocError, Global};
+use std::fmt;
+use std::fmt::Write;
+
+// More bytes than any of the lists has.
+const ROOM: usize = 4096;
 
 // What a step of a kind begins with.
 fn prefix(kind: Kind) -> &'static str {
@@ -16,32 +21,31 @@ fn prefix(kind: Kind) -> &'static str {
 }
 
 // Adds a step: its kind, then `*` or a name.
-fn push_step(list: &mut String, draws: &mut Draws, m: Mode) -> Result<(), AllocError> {
+fn push_step(list: &mut ArrayString<ROOM>, draws: &mut Draws, m: Mode) -> fmt::Result {
     let kind = m.kind(draws.below(8));
-    list.push_str(prefix(kind))?;
+    list.write_str(prefix(kind))?;
     if draws.below(8) < m.any {
-        return list.push_str("*");
+        return list.write_str("*");
     }
     let name = Name(draws.below(m.listed));
     write!(list, "{name}")
 }
 
 // Adds a line: steps, a mark once in four times, and LF.
-fn push_line(list: &mut String, draws: &mut Draws, m: Mode) -> Result<(), AllocError> {
+fn push_line(list: &mut ArrayString<ROOM>, draws: &mut Draws, m: Mode) -> fmt::Result {
     for _ in 0..draws.at_least(m.steps, m.more_steps) {
         push_step(list, draws, m)?;
     }
     if draws.below(4) == 0 {
-        list.push_str(" #")?;
+        list.write_str(" #")?;
     }
-    list.push_str("\n")
+    list.write_str("\n")
 }
 
-// A list drawn.
-pub fn list_of(alloc: Global, draws: &mut Draws, m: Mode) -> Result<String, AllocError> {
-    let mut list = String::new(alloc);
+// Adds a list. The text is lent: one that is handed back is copied.
+pub fn push_list(list: &mut ArrayString<ROOM>, draws: &mut Draws, m: Mode) -> fmt::Result {
     for _ in 0..draws.at_least(m.lines, m.more_lines) {
-        push_line(&mut list, draws, m)?;
+        push_line(list, draws, m)?;
     }
-    Ok(list)
+    Ok(())
 }

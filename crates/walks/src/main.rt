@@ -1,8 +1,8 @@
 // Tries the matcher on random lists and on random walks through trees of names, round by round. Prints of each round its number; the list's
 // bytes and their sum; how deep the walk went and the sum of the names' numbers; how many elements are not selected, selected and marked,
 // and the sum of the verdicts. The file `stdout` has what is right: ordinary Rust in docs/src/expected makes it, with the same draws, by
-// trying places for the steps of each path as documents 01 and 02 word it. A write that fails, or memory that runs out, ends the program
-// with its error, and nothing else does; what was written before it stays.
+// trying places for the steps of each path as documents 01 and 02 word it. A write that fails ends the program with its error, and nothing
+// else does; what was written before it stays.
 #![tactic(auto)]
 
 mod draw; // numbers drawn, and sums
@@ -11,49 +11,45 @@ mod names; // names by number
 mod list; // a list drawn
 mod walk; // a walk drawn, and what the matcher says on the way
 
+use arrayvec::ArrayString;
 use compiled::compile::read;
 use compiled::layout;
 use draw::{Draws, fold};
-use list::list_of;
+use list::push_list;
 use mode::{Mode, mode_of};
-use std::alloc::Global;
 use std::io;
 use std::io::Write;
-use walk::{Tally, walk};
+use walk::walk;
 
 const ROUNDS: usize = 400;
 
 // The list is read, and what it says on a walk is printed.
-fn tell<W: Write>(
-    out: &mut W,
-    alloc: Global,
-    list: &[u8],
-    draws: Draws,
-    m: Mode,
-) -> io::Result<()> {
+fn tell<W: Write>(out: &mut W, list: &[u8], draws: Draws, m: Mode) -> io::Result<()> {
     let mut tables = [0u16; layout::LENGTH];
     let Ok(()) = read(list, &mut tables) else {
         return writeln!(out, " refused");
     };
-    let walked = walk(alloc, list, &tables, draws, m)?;
-    writeln!(out, " {}", Tally::of(&walked))
+    writeln!(out, " {}", walk(list, &tables, draws, m))
 }
 
-// A round: its list is drawn, and then its walk. Every list that is drawn is sound.
-fn round<W: Write>(out: &mut W, alloc: Global, r: usize) -> io::Result<()> {
+// A round: its list is drawn, and then its walk. Every list that is drawn has room and is sound.
+fn round<W: Write>(out: &mut W, r: usize) -> io::Result<()> {
     let m = mode_of(r);
-    let mut draws = Draws::new((r % 65536) as u32 * 7919);
-    let text = list_of(alloc, &mut draws, m)?;
+    let mut draws = Draws::new(r % 65536 * 7919);
+    let mut text = ArrayString::new();
+    let Ok(()) = push_list(&mut text, &mut draws, m) else {
+        return Ok(());
+    };
     let list = text.as_bytes();
-    let sum = list.iter().fold(0, |sum, b| fold(sum, u16::from(*b)));
+    let sum = list.iter().fold(0, |sum, b| fold(sum, usize::from(*b)));
     write!(out, "round {r} {} {sum}", list.len())?;
-    tell(out, alloc, list, draws, m)
+    tell(out, list, draws, m)
 }
 
 fn main(rt: HostRuntime) -> io::Result<()> {
     let mut out = io::writer(&rt);
     for r in 0..ROUNDS {
-        round(&mut out, rt.alloc(), r)?;
+        round(&mut out, r)?;
     }
     Ok(())
 }

@@ -8,22 +8,22 @@ use paths::Kind;
 // number drawn below 16 is below `starts`, else one ends.
 #[derive(Clone, Copy)]
 pub struct Mode {
-    pub lines: u16,
-    pub more_lines: u16,
-    pub steps: u16,
-    pub more_steps: u16,
-    pub listed: u16,
-    pub met: u16,
-    pub descendants: u16,
-    pub selves: u16,
-    pub or_selves: u16,
-    pub any: u16,
-    pub starts: u16,
+    pub lines: usize,
+    pub more_lines: usize,
+    pub steps: usize,
+    pub more_steps: usize,
+    pub listed: usize,
+    pub met: usize,
+    pub descendants: usize,
+    pub selves: usize,
+    pub or_selves: usize,
+    pub any: usize,
+    pub starts: usize,
 }
 
 impl Mode {
     // The kind for a number drawn.
-    pub fn kind(self, drawn: u16) -> Kind {
+    pub fn kind(self, drawn: usize) -> Kind {
         if drawn < self.descendants {
             Kind::Descendant
         } else if drawn < self.selves {
@@ -37,7 +37,7 @@ impl Mode {
 }
 
 // In the order of the fields, a row for each of the above.
-const MODES: [[u16; 11]; 8] = [
+const MODES: [[usize; 11]; 8] = [
     [1, 7, 1, 5, 2, 3, 4, 4, 4, 1, 10],
     [1, 32, 1, 3, 200, 220, 5, 5, 5, 1, 9],
     [1, 8, 12, 5, 1, 2, 3, 3, 3, 4, 12],

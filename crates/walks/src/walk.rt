@@ -1,5 +1,5 @@
 // A random walk: elements start and end, at most 64 deep, and the matcher says what the list says of each. A state is kept for each open
-// element; an end tag goes back to that of the parent.
+// level; an end tag goes back to that of the parent.
 ghost use Rattle.matcher.specs.Fit.{Serves};
 
 use crate::draw::{Draws, fold};
@@ -9,7 +9,6 @@ use compiled::Compiled;
 use matcher::Verdict;
 use matcher::fit::fit_of;
 use matcher::state::MatchState;
-use std::alloc::{AllocError, Global};
 use std::fmt;
 
 const EVENTS: usize = 300;
@@ -20,15 +19,15 @@ const LEVELS: usize = 64;
 
 // An element met: its level, its name, what is said of it.
 #[derive(Clone, Copy)]
-pub struct Met {
-    level: u16,
+struct Met {
+    level: usize,
     name: Name,
     verdict: Verdict,
 }
 
 impl Met {
     // The level and the verdict as one number.
-    fn number(self) -> u16 {
+    fn number(self) -> usize {
         let verdict = match self.verdict {
             Verdict::Unselected => 0,
             Verdict::Selected => 1,
@@ -40,68 +39,57 @@ impl Met {
 
 // A walk by numbers drawn: so many events, of which those that can't be, a start tag at level 65 or an end tag with nothing open, are none.
 // An element that starts with nothing open is a root: it begins from a fresh state.
-pub fn walk(
-    alloc: Global,
-    list: &[u8],
-    tables: &Compiled,
-    mut draws: Draws,
-    m: Mode,
-) -> Result<Vec<Met>, AllocError>
+pub fn walk(list: &[u8], tables: &Compiled, mut draws: Draws, m: Mode) -> Tally
     requires { Serves list.now tables.now }
 {
-    let mut open = Vec::new(alloc);
-    let mut walked = Vec::new(alloc);
+    // For each level the state that its elements begin from.
+    let mut states = [MatchState::fresh(); LEVELS];
+    let mut open: usize = 0;
+    let mut tally = Tally::default();
     for _ in 0..EVENTS {
         if draws.below(16) >= m.starts {
-            open.pop();
-        } else if open.len() < LEVELS {
+            open = open.saturating_sub(1);
+        } else if open < LEVELS {
+            let state = states[open];
             let name = Name(draws.below(m.met));
-            let text = format!(in alloc; "{name}")?;
+            let text = name.text();
             let fit = fit_of(list, tables, text.as_bytes());
-            let state = open.last().copied().unwrap_or(MatchState::fresh());
-            let verdict = state.verdict_on(fit);
-            open.push(state.deeper(fit))?;
-            let level = open.len() as u16;
-            walked.push(Met {
-                level,
+            open += 1;
+            tally.add(Met {
+                level: open,
                 name,
-                verdict,
-            })?;
+                verdict: state.verdict_on(fit),
+            });
+            if open < LEVELS {
+                states[open] = state.deeper(fit);
+            }
         }
     }
-    Ok(walked)
+    tally
 }
 
 // What is printed of a walk: the deepest level, a sum of the names met, how often each verdict came, a sum of levels and verdicts.
-#[derive(Drop)]
+#[derive(Default, Drop)]
 pub struct Tally {
-    deepest: u16,
-    names: u32,
+    deepest: usize,
+    names: usize,
     unselected: usize,
     selected: usize,
     marked: usize,
-    verdicts: u32,
+    verdicts: usize,
 }
 
 impl Tally {
-    pub fn of(walked: &[Met]) -> Tally {
-        Tally {
-            deepest: walked.iter().map(|met| met.level).max().unwrap_or(0),
-            names: walked.iter().fold(0, |sum, met| fold(sum, met.name.0)),
-            unselected: walked
-                .iter()
-                .filter(|met| matches!(met.verdict, Verdict::Unselected))
-                .count(),
-            selected: walked
-                .iter()
-                .filter(|met| matches!(met.verdict, Verdict::Selected))
-                .count(),
-            marked: walked
-                .iter()
-                .filter(|met| matches!(met.verdict, Verdict::Marked))
-                .count(),
-            verdicts: walked.iter().fold(0, |sum, met| fold(sum, met.number())),
+    // Counts an element more.
+    fn add(&mut self, met: Met) {
+        self.deepest = self.deepest.max(met.level);
+        self.names = fold(self.names, met.name.0);
+        match met.verdict {
+            Verdict::Unselected => self.unselected = self.unselected.wrapping_add(1),
+            Verdict::Selected => self.selected = self.selected.wrapping_add(1),
+            Verdict::Marked => self.marked = self.marked.wrapping_add(1),
         }
+        self.verdicts = fold(self.verdicts, met.number());
     }
 }
 
