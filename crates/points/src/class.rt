@@ -53,7 +53,7 @@ fn bit_at(bits: &[u8; 2 * CLASS_BYTES], from: usize, c: usize) -> u8
 
 // The table of name classes, lent to whatever reads names. A clause sees its 192 bytes; that they are `class_table` holds of each value of
 // the type, so that no function asks it of what it is lent.
-#[derive(Drop)]
+#[derive(Clone, Copy, Debug, PartialEq, Eq, PartialOrd, Ord, Hash)]
 pub struct Classes {
     bits: [u8; 2 * CLASS_BYTES],
 }
@@ -62,6 +62,8 @@ impl Model for Classes {
     ghost Value = { List ℕ };
 
     ghost view = { λ t. t.bits };
+
+    ghost inverse = { λ b. record { bits = b } };
 
     ghost invariant = { λ t. t.bits ≡ class_table };
 }

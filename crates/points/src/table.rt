@@ -9,7 +9,7 @@
 ghost use Rattle.std.specs.Prelude.{◌≡◌};
 ghost use Rattle.points.specs.Class.{class_table};
 
-use crate::class::Classes;
+pub use crate::class::Classes;
 
 // The code points below U+0300, and the bytes of a class that have a bit for each of them.
 pub const CLASSED: usize = 0x300;
