@@ -99,18 +99,18 @@ pub fn cut_by_with(
     ensures out_after { out.new ≡ bytes_by list.now doc.now out.old }
 {
     if doc.len() > Open::BYTES {
-        return Err(CutError::Document(DocumentError::TooLong));
+        return Err(CutError::from(DocumentError::TooLong));
     }
     let start = start_of(doc);
     if names_other(doc, start) {
-        return Err(CutError::Document(DocumentError::OtherEncoding(start)));
+        return Err(CutError::from(DocumentError::OtherEncoding(start)));
     }
     match check(doc) {
         Ok(()) => {
             let n = used(log.len());
             written(list, t, doc, out, &mut log[0..n])
         }
-        Err(e) => Err(CutError::Document(DocumentError::NotChar(e.valid_up_to))),
+        Err(e) => Err(CutError::from(DocumentError::NotChar(e.valid_up_to))),
     }
 }
 

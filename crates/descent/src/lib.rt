@@ -68,17 +68,17 @@ fn cut_by(list: &[u8], doc: &[u8], out: &mut [u8]) -> Result<Cut, CutError>
 {
     // 4: "document too long"
     if doc.len() > Open::BYTES {
-        return Err(CutError::Document(DocumentError::TooLong));
+        return Err(CutError::from(DocumentError::TooLong));
     }
     // 10: the declaration, behind the three front bytes where they stand, names another encoding
     let start = start_of(doc);
     if names_other(doc, start) {
-        return Err(CutError::Document(DocumentError::OtherEncoding(start)));
+        return Err(CutError::from(DocumentError::OtherEncoding(start)));
     }
     // 5: "not UTF-8, or not a Char, anywhere"
     match check(doc) {
         Ok(()) => written(list, doc, out),
-        Err(e) => Err(CutError::Document(DocumentError::NotChar(e.valid_up_to))),
+        Err(e) => Err(CutError::from(DocumentError::NotChar(e.valid_up_to))),
     }
 }
 

@@ -5,7 +5,7 @@ ghost use Rattle.std.specs.Prelude.{◌≡◌};
 ghost use Rattle.document.specs.Judge.{start_of, scanned, judge_of};
 
 use crate::place::{end_of, keep, place};
-use crate::{DocumentError, Open, Placement};
+use crate::{DocumentError, ItemError, Open, Placement};
 use chars::text::stands;
 use chars::whole::check;
 use instructions::declaration::names_other;
@@ -42,7 +42,7 @@ fn scan(table: &Classes, doc: &[u8]) -> Result<(), DocumentError>
                 first = false;
             }
             Placement::Fault(why) => {
-                return Err(DocumentError::At(why, at));
+                return Err(DocumentError::from(ItemError { why, at }));
             }
             Placement::Over => {
                 return Ok(());

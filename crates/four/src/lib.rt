@@ -177,7 +177,7 @@ fn listed(
             l1, l2, l3, l4, &t1, &t2, &t3, &t4, a1, a2, a3, a4, doc, o1, o2, o3, o4, g1, g2, g3, g4,
         ),
         Err(e) => {
-            let answer = Err(CutError::Document(e));
+            let answer = Err(CutError::from(e));
             let first = by_list(a1, answer);
             let second = by_list(a2, answer);
             let third = by_list(a3, answer);

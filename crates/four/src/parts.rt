@@ -11,7 +11,7 @@ use instructions::declaration::names_other;
 use notes::replay::replay;
 use passes::Measured;
 use paths::ListError;
-use refusals::CutError;
+use refusals::{CutError, fault_of};
 
 // What is answered to a client, and whether its cut is still to be laid.
 #[derive(Drop)]
@@ -64,7 +64,7 @@ fn by_pass(m: Result<Measured, ItemError>, doc: &[u8], out: &mut [u8], log: &[u6
 {
     match m {
         Err(fault) => Served {
-            answer: Err(CutError::Document(DocumentError::At(fault.why, fault.at))),
+            answer: Err(fault_of(fault.why, fault.at)),
             left: false,
         },
         Ok(measured) => {

@@ -207,15 +207,15 @@ fn rows_by(list: &[u8], t: &Compiled, doc: &[u8], out: &mut [u8]) -> Result<Tabl
     ensures out_after { out.new ≡ bytes_by list.now doc.now out.old }
 {
     if doc.len() > Open::BYTES {
-        return Err(CutError::Document(DocumentError::TooLong));
+        return Err(CutError::from(DocumentError::TooLong));
     }
     let start = start_of(doc);
     if names_other(doc, start) {
-        return Err(CutError::Document(DocumentError::OtherEncoding(start)));
+        return Err(CutError::from(DocumentError::OtherEncoding(start)));
     }
     match check(doc) {
         Ok(()) => written(list, t, doc, out),
-        Err(e) => Err(CutError::Document(DocumentError::NotChar(e.valid_up_to))),
+        Err(e) => Err(CutError::from(DocumentError::NotChar(e.valid_up_to))),
     }
 }
 

@@ -8,7 +8,7 @@ use Rattle.descent.proofs.cut_by.Goals as goal
 pub returns-then-doc-gt-BYTES : goal.returns-then-doc-gt-BYTES
 returns-then-doc-gt-BYTES c =
     let all = plain_long _ _ _ c.if-doc-gt-BYTES.true in
-    record {
+    rw c.from.ensures record {
       value = all.0;
       out_after = all.1;
     }
@@ -18,7 +18,7 @@ returns-then-names_other c =
     let s = c.start_of-start.ensures in
     let n = c.names_other.ensures in
     let all = plain_other _ _ _ c.if-doc-gt-BYTES.false s n c.if-names_other.true in
-    record {
+    rw c.from-then-names_other.ensures record {
       value = all.0;
       out_after = all.1;
     }
@@ -40,7 +40,7 @@ returns-in-Err c =
     let l = c.if-doc-gt-BYTES.false in
     let u = judged_named _ s n c.if-names_other.false in
     let all = plain_char _ _ _ l u c.check.ensures c.in-Err.is in
-    record {
+    rw c.from-in-Err.ensures record {
       value = all.0;
       out_after = all.1;
     }

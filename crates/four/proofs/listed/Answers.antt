@@ -21,10 +21,11 @@ pub returns-in-Err : goal.returns-in-Err
 returns-in-Err c =
     let h = c.head_of.ensures in
     let q = c.in-Err.is in
-    let one = refused_both _ _ _ _ c.read-a1.ensures.value h q c.by_list-first.ensures in
-    let two = refused_both _ _ _ _ c.read-a2.ensures.value h q c.by_list-second.ensures in
-    let three = refused_both _ _ _ _ c.read-a3.ensures.value h q c.by_list-third.ensures in
-    let four = refused_both _ _ _ _ c.read-a4.ensures.value h q c.by_list-fourth.ensures in
+    let w = c.from.ensures in
+    let one = refused_both _ _ _ _ c.read-a1.ensures.value h q (rw (← w) c.by_list-first.ensures) in
+    let two = refused_both _ _ _ _ c.read-a2.ensures.value h q (rw (← w) c.by_list-second.ensures) in
+    let three = refused_both _ _ _ _ c.read-a3.ensures.value h q (rw (← w) c.by_list-third.ensures) in
+    let four = refused_both _ _ _ _ c.read-a4.ensures.value h q (rw (← w) c.by_list-fourth.ensures) in
     record {
       first_value = one.0;
       second_value = two.0;

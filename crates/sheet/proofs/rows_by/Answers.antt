@@ -7,7 +7,7 @@ use Rattle.sheet.proofs.rows_by.Goals as goal
 pub returns-then-doc-gt-BYTES : goal.returns-then-doc-gt-BYTES
 returns-then-doc-gt-BYTES c =
     let all = both_by _ _ _ (by_long _ _ _ c.if-doc-gt-BYTES.true) in
-    record {
+    rw c.from.ensures record {
       value = all.0;
       out_after = all.1;
     }
@@ -15,7 +15,7 @@ returns-then-doc-gt-BYTES c =
 pub returns-then-names_other : goal.returns-then-names_other
 returns-then-names_other c =
     let all = both_by _ _ _ (by_other _ _ _ c.if-doc-gt-BYTES.false c.start_of-start.ensures c.names_other.ensures c.if-names_other.true) in
-    record {
+    rw c.from-then-names_other.ensures record {
       value = all.0;
       out_after = all.1;
     }
@@ -32,7 +32,7 @@ pub returns-in-Err : goal.returns-in-Err
 returns-in-Err c =
     let n = judged_named _ c.start_of-start.ensures c.names_other.ensures c.if-names_other.false in
     let all = both_by _ _ _ (by_char _ _ _ c.if-doc-gt-BYTES.false n c.check.ensures c.in-Err.is) in
-    record {
+    rw c.from-in-Err.ensures record {
       value = all.0;
       out_after = all.1;
     }

@@ -16,7 +16,7 @@ pub loop-starts-preserved : goal.loop-starts-preserved
 loop-starts-preserved c = search scanning
 
 pub returns-in-Fault : goal.returns-in-Fault
-returns-in-Fault c = search scanning
+returns-in-Fault c = rw c.from.ensures (search scanning)
 
 pub returns-in-Over : goal.returns-in-Over
 returns-in-Over c = search scanning

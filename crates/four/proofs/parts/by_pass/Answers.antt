@@ -10,7 +10,7 @@ pub returns-then-noted-log : goal.returns-then-noted-log
 returns-then-noted-log c = search passing
 
 pub returns-in-Err : goal.returns-in-Err
-returns-in-Err c = search passing
+returns-in-Err c = rw c.fault_of.ensures (search passing)
 
 pub returns-else-noted-log : goal.returns-else-noted-log
 returns-else-noted-log c = search passing
