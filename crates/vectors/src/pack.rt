@@ -3,6 +3,8 @@
 //     how much of the list before it keeps    how many bytes it adds to that    the same two of the document    the room
 //
 // So a case that begins as the one before costs little. A pack ends where the file does, or at a head that asks for more than there is.
+ghost use Rattle.std.specs.Prelude.{◌≤◌, length};
+
 use super::digest;
 use exported::FourNumbers;
 use intake::read_full;
@@ -24,7 +26,9 @@ fn number(low: u8, high: u8) -> usize {
 }
 
 // Puts so many bytes of the pack after the front that is kept, and gives both. What does not fit is not read.
-fn extended<'a, R: Read>(pack: &mut R, text: &'a mut [u8], keep: usize, more: usize) -> &'a [u8] {
+fn extended<'a, R: Read>(pack: &mut R, text: &'a mut [u8], keep: usize, more: usize) -> &'a [u8]
+    ensures { length result.now ≤ length text.old }
+{
     if keep > text.len() {
         return &[];
     }
